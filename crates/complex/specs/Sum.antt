@@ -1,0 +1,18 @@
+-- Document 01, "Arithmetic under everything": "a sum starts at +0+0i and adds in index order". Every sum of the document is this one.
+use Prim.Native.Nat.{ℕ, _+_}
+use lib.Ieee.{Float}
+use Rattle.lists.specs.Indexed.{fold}
+use Rattle.complex.specs.declared.Complex.{Complex}
+use Rattle.complex.specs.Arithmetic.{cadd, czero, larger, plusZero}
+
+-- start + f from + f (from + 1) + .., count terms, added in that order
+unfoldable pub sumFrom : Complex → (ℕ → Complex) → ℕ → ℕ → Complex
+sumFrom start f from count = fold count (λ k s. cadd s (f (from + k))) start
+
+-- f 0 + f 1 + .. + f (n - 1), from +0+0i
+abbrev pub sum : ℕ → (ℕ → Complex) → Complex
+sum n f = sumFrom czero f 0 n
+
+-- the largest of f 0, f 1, .., f (n - 1), from +0 by `f64::max`
+unfoldable pub largest : ℕ → (ℕ → Float) → Float
+largest n f = fold n (λ k m. larger m (f k)) plusZero

@@ -1,0 +1,20 @@
+-- Values, lists and tests that are built by an index which goes up from 0. Each adds its last step last, as a loop does.
+use Prim.Native.Nat.{ℕ, zero, suc}
+use mathlib.Core.Bool.{Bool, true, _&&_}
+use mathlib.Core.List.{List, [], _++_}
+
+module _ {A : Type 0} where
+  -- the value after the steps f 0, f 1, .., f (n - 1) from x
+  unfoldable pub fold : ℕ → (ℕ → A → A) → A → A
+  fold zero f x = x
+  fold (suc n) f x = f n (fold n f x)
+
+  -- f 0 ++ f 1 ++ .. ++ f (n - 1)
+  unfoldable pub join : ℕ → (ℕ → List A) → List A
+  join zero f = []
+  join (suc n) f = join n f ++ f n
+
+-- p holds of each number below n
+unfoldable pub allBelow : ℕ → (ℕ → Bool) → Bool
+allBelow zero p = true
+allBelow (suc n) p = allBelow n p && p n

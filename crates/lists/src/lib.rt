@@ -1,0 +1,1 @@
+// Lists and values that are built by an index: the meaning is in specs/.
