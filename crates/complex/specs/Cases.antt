@@ -8,7 +8,7 @@ use lib.Ieee.{Float, nan, inf, binary64, toBits}
 use Rattle.lists.specs.Indexed.{fold}
 use Rattle.complex.specs.declared.Complex.{Complex}
 use Rattle.complex.specs.Arithmetic.{plusZero, one, finite, size, larger, czero, cone, minusI, cadd, csub, cmul, conj, cfinite}
-use Rattle.complex.specs.Sum.{sumFrom, sum, largest}
+use Rattle.complex.specs.Sum.{sumFrom, sum, largestFrom, largestIn}
 
 -- a number by its bits, a complex number by those of its parts, and back
 abbrev f : ℕ → Float
@@ -96,6 +96,6 @@ unfolding larger Ieee.ne Ieee.eq Ieee.lt Ieee.ofBits
 larger-ones = refl
 
 -- a maximum begins at +0
-largest-of-none : largest 0 (λ k. one) ∷ largest 1 (λ k. nan) ∷ [] ≡ plusZero ∷ plusZero ∷ []
-unfolding largest fold larger Ieee.ne Ieee.eq Ieee.lt Ieee.ofBits
+largest-of-none : largestIn 0 2 (λ a b. one) ∷ largestIn 1 1 (λ a b. nan) ∷ largestIn 2 2 (λ a b. one) ∷ [] ≡ plusZero ∷ plusZero ∷ one ∷ []
+unfolding largestIn largestFrom fold larger Ieee.ne Ieee.eq Ieee.lt Ieee.ofBits
 largest-of-none = refl

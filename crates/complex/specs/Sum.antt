@@ -13,6 +13,10 @@ sumFrom start f from count = fold count (λ k s. cadd s (f (from + k))) start
 abbrev pub sum : ℕ → (ℕ → Complex) → Complex
 sum n f = sumFrom czero f 0 n
 
--- the largest of f 0, f 1, .., f (n - 1), from +0 by `f64::max`
-unfoldable pub largest : ℕ → (ℕ → Float) → Float
-largest n f = fold n (λ k m. larger m (f k)) plusZero
+-- the largest of m, f 0, f 1, .., f (n - 1), by `f64::max` in that order
+unfoldable pub largestFrom : Float → ℕ → (ℕ → Float) → Float
+largestFrom m n f = fold n (λ k l. larger l (f k)) m
+
+-- the largest of all f a b, rows first. Every maximum of the document begins at +0.
+unfoldable pub largestIn : ℕ → ℕ → (ℕ → ℕ → Float) → Float
+largestIn rows columns f = fold rows (λ a m. largestFrom m columns (f a)) plusZero

@@ -18,3 +18,7 @@ module _ {A : Type 0} where
 unfoldable pub allBelow : ℕ → (ℕ → Bool) → Bool
 allBelow zero p = true
 allBelow (suc n) p = allBelow n p && p n
+
+-- p holds of each pair of an a below rows and a b below columns
+abbrev pub allIn : ℕ → ℕ → (ℕ → ℕ → Bool) → Bool
+allIn rows columns p = allBelow rows (λ a. allBelow columns (p a))

@@ -1,0 +1,4 @@
+-- Document 01, grid: the trapezoid weights, and each call's outcome, with closed cases.
+pub mod Weights
+pub mod Calls
+pub mod Cases

@@ -1,0 +1,93 @@
+-- Document 01, matrix: the outcome of each call. Lines 1, 2, 3 and 7 of what it is given come first, then what the module names.
+use Prim.Native.Nat.{ℕ, _+_, _*_}
+use mathlib.Core.Bool.{Bool, true, _&&_}
+use mathlib.Core.List.{List}
+use lib.Dec.{eqb}
+use lib.ListN.{length}
+use lib.Ieee.{Float}
+use Rattle.complex.specs.declared.Complex.{Complex}
+use Rattle.complex.specs.Numbers.{entryAt}
+use Rattle.refusal.specs.declared.Verdict.{Verdict}
+use Rattle.refusal.specs.declared.Verdict.the-variants.{Pass, Refused}
+use Rattle.refusal.specs.declared.Measured.{Measured}
+use Rattle.refusal.specs.declared.Decision.{Decision}
+use Rattle.refusal.specs.Verdict.{_then_, measured, decide}
+use Rattle.refusal.specs.Lines.{notEmpty, withinBlock, fitting, finiteEntries, validTolerance, finiteWork, orbitalBelow}
+use Rattle.matrix.specs.declared.DenseMatrix.{DenseMatrix}
+use Rattle.matrix.specs.declared.Checked.{Checked}
+use Rattle.matrix.specs.declared.Value.{Value}
+use Rattle.matrix.specs.declared.Value.the-variants.{Of, Refused as NoValue}
+use Rattle.matrix.specs.Block.{Entries, entriesOf, countOf, blockOf, checked}
+use Rattle.matrix.specs.Operations.{product, scaled, added, subtracted, adjoint, identity, trace, largestNorm, allFinite, hermitian}
+
+-- one complex number, once its questions are asked, and the refusal's number of such an answer: 0 where nothing is refused
+unfoldable pub valued : Verdict → Complex → Value
+valued Pass z = Of z
+valued (Refused r) z = NoValue r
+
+unfoldable pub valueNumber : Value → ℕ
+valueNumber (Of z) = 0
+valueNumber (NoValue r) = r .number
+
+-- the lines of one block, with its own question of shape, and of two: line by line, not block by block
+unfoldable pub blockLines : Bool → DenseMatrix → Verdict
+blockLines fits x = notEmpty (x .rows) (x .columns) then withinBlock (x .rows) (x .columns) then fitting fits then finiteEntries 0 (x .values) (countOf x)
+
+unfoldable pub pairLines : Bool → DenseMatrix → DenseMatrix → Verdict
+pairLines fits x y =
+    (notEmpty (x .rows) (x .columns) then notEmpty (y .rows) (y .columns))
+    then (withinBlock (x .rows) (x .columns) then withinBlock (y .rows) (y .columns))
+    then fitting fits
+    then (finiteEntries 0 (x .values) (countOf x) then finiteEntries 1 (y .values) (countOf y))
+
+abbrev pub sameShape : DenseMatrix → DenseMatrix → Bool
+sameShape x y = eqb (x .rows) (y .rows) && eqb (x .columns) (y .columns)
+
+abbrev pub square : DenseMatrix → Bool
+square x = eqb (x .rows) (x .columns)
+
+-- a block that is made: finite, or 10
+unfoldable pub finiteBlock : Verdict → ℕ → ℕ → Entries → Checked
+finiteBlock verdict rows columns f = checked (verdict then finiteWork (allFinite rows columns f)) (blockOf rows columns f)
+
+-- `from_numbers`: lines 1, 2, 3 and 7
+unfoldable pub fromNumbers : ℕ → ℕ → List Float → Checked
+fromNumbers rows columns numbers =
+    checked
+    (notEmpty rows columns then withinBlock rows columns then fitting (eqb (length numbers) (2 * (rows * columns))) then finiteEntries 0 numbers (length numbers))
+    (blockOf rows columns (λ a b. entryAt numbers (2 * (a * columns + b))))
+
+-- `identity`: lines 1 and 2 of its size
+unfoldable pub identityOf : ℕ → Checked
+identityOf size = checked (notEmpty size size then withinBlock size size) (blockOf size size identity)
+
+unfoldable pub adjointOf : DenseMatrix → Checked
+adjointOf x = checked (blockLines true x) (blockOf (x .columns) (x .rows) (adjoint (entriesOf x)))
+
+-- "Product, scale, add and subtract check finiteness; the first block that overflows ends the work with 10."
+unfoldable pub productOf : DenseMatrix → DenseMatrix → Checked
+productOf x y = finiteBlock (pairLines (eqb (x .columns) (y .rows)) x y) (x .rows) (y .columns) (product (x .columns) (entriesOf x) (entriesOf y))
+
+unfoldable pub scaleOf : DenseMatrix → Complex → Checked
+scaleOf x factor = finiteBlock (blockLines true x) (x .rows) (x .columns) (scaled factor (entriesOf x))
+
+unfoldable pub addOf : DenseMatrix → DenseMatrix → Checked
+addOf x y = finiteBlock (pairLines (sameShape x y) x y) (x .rows) (x .columns) (added (entriesOf x) (entriesOf y))
+
+unfoldable pub subtractOf : DenseMatrix → DenseMatrix → Checked
+subtractOf x y = finiteBlock (pairLines (sameShape x y) x y) (x .rows) (x .columns) (subtracted (entriesOf x) (entriesOf y))
+
+-- "`trace` and `max_difference` check nothing and may be infinite."
+unfoldable pub traceOf : DenseMatrix → Value
+traceOf x = valued (blockLines (square x) x) (trace (x .rows) (entriesOf x))
+
+unfoldable pub maxDifferenceOf : DenseMatrix → DenseMatrix → Measured
+maxDifferenceOf x y = measured (pairLines (sameShape x y) x y) (largestNorm (x .rows) (x .columns) (subtracted (entriesOf x) (entriesOf y)))
+
+-- "`is_hermitian`: 8, then no for a non-square matrix"
+unfoldable pub isHermitian : DenseMatrix → Float → Decision
+isHermitian x tolerance = decide (blockLines true x then validTolerance tolerance) (square x && hermitian (x .rows) tolerance (entriesOf x))
+
+-- reading an entry: its row below the rows, then its column below the columns, or 12
+unfoldable pub entryOf : DenseMatrix → ℕ → ℕ → Value
+entryOf x row column = valued (blockLines true x then orbitalBelow row (x .rows) then orbitalBelow column (x .columns)) (entriesOf x row column)

@@ -1,0 +1,72 @@
+// Refusals by the numbers of document 01, "Questions in order", and the answers that carry them.
+ghost use mathlib.Core.Path.{_≡_};
+ghost use Rattle.refusal.specs.Verdict.{by, _then_, numberOf};
+
+// The number of the line whose answer is no, with its places. A place that the line does not have is 0, a part +0.
+pub struct Refusal {
+    pub number: u8,
+    // Lines 7 and 9: the operand, from 0 in call order, times not counted.
+    pub operand: usize,
+    // Line 5: the index. Line 7: the number position. Line 9: the first time index.
+    pub first: usize,
+    // Line 9: the second time index.
+    pub second: usize,
+    // Line 9: the residual. Line 14: the imaginary part.
+    pub part: f64,
+}
+
+// The answer to one question, or to several asked in order.
+pub enum Verdict {
+    Pass,
+    Refused(Refusal),
+}
+
+// The answer of a call that measures one number.
+pub enum Measured {
+    Of(f64),
+    Refused(Refusal),
+}
+
+// The answer of a call that says yes or no.
+pub enum Decision {
+    Yes,
+    No,
+    Refused(Refusal),
+}
+
+impl Refusal {
+    // A refusal by a line that has no places.
+    pub fn by(number: u8) -> Refusal
+        ensures { λ r. ⌜ r ≡ by number ⌝ }
+    {
+        Refusal {
+            number,
+            operand: 0,
+            first: 0,
+            second: 0,
+            part: 0.0,
+        }
+    }
+}
+
+impl Verdict {
+    // The first refusal of the two, in the order asked.
+    pub fn then(self, later: Verdict) -> Verdict
+        ensures { λ r. ⌜ r ≡ self then later ⌝ }
+    {
+        match self {
+            Verdict::Pass => later,
+            Verdict::Refused(r) => Verdict::Refused(r),
+        }
+    }
+
+    // The refusal's number, and 0 where there is none.
+    pub fn number(self) -> u8
+        ensures { λ r. ⌜ r ≡ numberOf self ⌝ }
+    {
+        match self {
+            Verdict::Pass => 0,
+            Verdict::Refused(r) => r.number,
+        }
+    }
+}

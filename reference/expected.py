@@ -1,0 +1,174 @@
+"""Writes expected.txt: exact bits of small cases, to hold definitions to.
+
+Every number is given by a formula in t, u (time arguments), a, b (orbitals),
+worked out in binary64 from left to right. Part 1 reads t and u as indices of
+times, part 2 as the times themselves.
+"""
+
+import os
+
+from bits import hex_of
+from document01 import (
+    Refusal, Report, bond_flow_into, block_of, causal_volterra_convolution, consistency_report,
+    langreth_product, one_body_expectation, particle_number, place, retarded_dyson_with_tolerance,
+    time_convolution, transient_run,
+)
+
+
+def function(clock, n, formula):
+    """The numbers of a function whose parts are formula(t, u, a, b)."""
+    orbitals = [float(a) for a in range(n)]
+    return [
+        float(part)
+        for t in clock
+        for u in clock
+        for a in orbitals
+        for b in orbitals
+        for part in formula(t, u, a, b)
+    ]
+
+
+def lower(formula):
+    """The formula where u <= t, +0 elsewhere."""
+    return lambda t, u, a, b: formula(t, u, a, b) if u <= t else (0.0, 0.0)
+
+
+def entry_lines(name, points, n, numbers):
+    lines = ["%s: t u a b, bits of re, bits of im" % name]
+    for t in range(points):
+        for u in range(points):
+            for a in range(n):
+                for b in range(n):
+                    at = place(points, n, t, u, a, b)
+                    parts = hex_of(numbers[at]), hex_of(numbers[at + 1])
+                    lines.append("  %d %d %d %d  %s %s" % (t, u, a, b, *parts))
+    return lines
+
+
+def answer_text(answer):
+    if isinstance(answer, Refusal):
+        return "refused %d operand %d first %d second %d part %s" % (*answer[:4], hex_of(answer.part))
+    return "number %s" % hex_of(answer)
+
+
+def lent(points, n, count):
+    return [[7.0] * (2 * points * points * n * n)] * count
+
+
+def cases_ab(times, clock):
+    left = function(clock, 1, lambda t, u, a, b: (1 + t + 0.25 * u, 0.5 * t - u))
+    right = function(clock, 1, lambda t, u, a, b: (2 - t + u, t * u + 1))
+    lines = entry_lines("inputs of a and b, left", 3, 1, left) + entry_lines("right", 3, 1, right)
+    calls = {"a) causal_volterra_convolution": causal_volterra_convolution, "b) time_convolution": time_convolution}
+    for name, call in calls.items():
+        outcome = call(3, 1, times, left, right, *lent(3, 1, 1))
+        lines += [""] + entry_lines(name, 3, 1, outcome.lent["output"])
+    return lines
+
+
+def dyson_inputs(clock):
+    free = lower(lambda t, u, a, b: (1 + a - b + 0.5 * (t - u), 0.25 * a * b - 0.125 * t))
+    self_energy = lower(lambda t, u, a, b: (0.5 * a + b - t, 1 + u))
+    return function(clock, 2, free), function(clock, 2, self_energy)
+
+
+def case_c(times, clock):
+    free, self_energy = dyson_inputs(clock)
+    outcome = retarded_dyson_with_tolerance(3, 2, times, free, self_energy, 0.5, *lent(3, 2, 2))
+    return (
+        entry_lines("inputs of c and d, free", 3, 2, free)
+        + entry_lines("self_energy", 3, 2, self_energy)
+        + ["", "c) Dyson, tolerance 0.5"]
+        + entry_lines("kernel", 3, 2, outcome.lent["kernel"])
+        + entry_lines("retarded", 3, 2, outcome.lent["retarded"])
+    )
+
+
+def observed_lines(lesser):
+    """Observables of case d's lesser function."""
+    block = block_of(2, 2, [(1.0, 0.0), (0.5, -1.0), (0.5, 1.0), (-2.0, 0.0)])
+    lines = [
+        "particle_number at time index %d, tolerance 1000: %s"
+        % (t, answer_text(particle_number(3, 2, lesser, t, 1000.0)))
+        for t in range(3)
+    ]
+    one_body = one_body_expectation(3, 2, lesser, 2, block, 1000.0)
+    flow = bond_flow_into(3, 2, lesser, 1, 0, 1, (0.5, 0.25), 1.5)
+    lines.append("one_body_expectation at time index 2, tolerance 1000: " + answer_text(one_body))
+    lines.append("bond_flow_into at time index 1, a 0, b 1, hopping 0.5+0.25i, charge 1.5: " + answer_text(flow))
+    return lines
+
+
+def case_d(times, clock):
+    free, self_energy = dyson_inputs(clock)
+    source = function(clock, 2, lambda t, u, a, b: (0.25 * (t + u) + a * b, 1 + a - 0.5 * u))
+    outcome = transient_run(3, 2, times, free, self_energy, source, 0.5, *lent(3, 2, 4))
+    return (
+        entry_lines("input of d, lesser_self_energy", 3, 2, source)
+        + ["", "d) transient run, tolerance 0.5"]
+        + entry_lines("X", 3, 2, outcome.lent["sums"])
+        + entry_lines("lesser", 3, 2, outcome.lent["lesser"])
+        + observed_lines(outcome.lent["lesser"])
+    )
+
+
+def langreth_inputs(clock):
+    """Retarded, advanced, lesser, greater of the left and of the right operand."""
+    left = [
+        lambda t, u, a, b: (1 + t, u),
+        lambda t, u, a, b: (0.3 - u, t),
+        lambda t, u, a, b: (0.1 * (t + 1), 0.7),
+        lambda t, u, a, b: (t - u, -0.2),
+    ]
+    right = [
+        lambda t, u, a, b: (0.5, t + u),
+        lambda t, u, a, b: (1 + t * u, -1),
+        lambda t, u, a, b: (u, 0.9),
+        lambda t, u, a, b: (0.6, -t),
+    ]
+    return [[function(clock, 1, formula) for formula in operand] for operand in (left, right)]
+
+
+COMPONENTS = ["retarded", "advanced", "lesser", "greater"]
+
+
+def cases_ef(times, clock):
+    left, right = langreth_inputs(clock)
+    lines = []
+    for side, operand in (("left", left), ("right", right)):
+        for name, numbers in zip(COMPONENTS, operand):
+            lines += entry_lines("input of e, %s %s" % (side, name), 2, 1, numbers)
+    outcome = langreth_product(2, 1, times, left, right, *lent(2, 1, 4))
+    lines += ["", "e) langreth_product"]
+    for name in COMPONENTS:
+        lines += entry_lines(name, 2, 1, outcome.lent[name])
+    report = consistency_report(2, 1, *left)
+    lines += ["", "f) consistency_report of e's left operand"]
+    return lines + ["%s: %s" % (name, hex_of(getattr(report, name))) for name in Report._fields]
+
+
+def part(title, clock_of):
+    sections = [
+        ("N=3 n=1 times 0, 0.5, 2", cases_ab, [0.0, 0.5, 2.0]),
+        ("N=3 n=2 times 0, 1, 3", case_c, [0.0, 1.0, 3.0]),
+        ("N=3 n=2 times 0, 1, 3", case_d, [0.0, 1.0, 3.0]),
+        ("N=2 n=1 times 0, 0.1", cases_ef, [0.0, 0.1]),
+    ]
+    lines = [title]
+    for heading, case, times in sections:
+        lines += ["", heading] + case(times, clock_of(times))
+    return lines
+
+
+def text():
+    indices = lambda times: [float(index) for index in range(len(times))]
+    lines = part("PART 1: t and u are indices of times", indices)
+    lines += ["", ""] + part("PART 2: t and u are the times themselves", lambda times: times)
+    return "\n".join(lines) + "\n"
+
+
+if __name__ == "__main__":
+    folder = os.path.dirname(os.path.abspath(__file__))
+    with open(os.path.join(folder, "expected.txt"), "w", newline="\n") as output:
+        output.write(text())
+    print("expected.txt: written")
