@@ -59,8 +59,11 @@ def cases_ab(times, clock):
     left = function(clock, 1, lambda t, u, a, b: (1 + t + 0.25 * u, 0.5 * t - u))
     right = function(clock, 1, lambda t, u, a, b: (2 - t + u, t * u + 1))
     lines = entry_lines("inputs of a and b, left", 3, 1, left) + entry_lines("right", 3, 1, right)
-    calls = {"a) causal_volterra_convolution": causal_volterra_convolution, "b) time_convolution": time_convolution}
-    for name, call in calls.items():
+    calls = [
+        ("a) causal_volterra_convolution", causal_volterra_convolution),
+        ("b) time_convolution", time_convolution),
+    ]
+    for name, call in calls:
         outcome = call(3, 1, times, left, right, *lent(3, 1, 1))
         lines += [""] + entry_lines(name, 3, 1, outcome.lent["output"])
     return lines
@@ -85,18 +88,18 @@ def case_c(times, clock):
 
 
 def observed_lines(lesser):
-    """Observables of case d's lesser function."""
+    """Observables of case d's lesser function; 1000 refuses some, 1000000 none."""
     block = block_of(2, 2, [(1.0, 0.0), (0.5, -1.0), (0.5, 1.0), (-2.0, 0.0)])
-    lines = [
-        "particle_number at time index %d, tolerance 1000: %s"
-        % (t, answer_text(particle_number(3, 2, lesser, t, 1000.0)))
-        for t in range(3)
-    ]
-    one_body = one_body_expectation(3, 2, lesser, 2, block, 1000.0)
+    lines = []
+    for tolerance in (1000.0, 1000000.0):
+        numbers = [particle_number(3, 2, lesser, t, tolerance) for t in range(3)]
+        one_body = one_body_expectation(3, 2, lesser, 2, block, tolerance)
+        told = "tolerance %d: " % tolerance
+        lines += ["particle_number at time index %d, " % t + told + answer_text(numbers[t]) for t in range(3)]
+        lines.append("one_body_expectation at time index 2, " + told + answer_text(one_body))
     flow = bond_flow_into(3, 2, lesser, 1, 0, 1, (0.5, 0.25), 1.5)
-    lines.append("one_body_expectation at time index 2, tolerance 1000: " + answer_text(one_body))
-    lines.append("bond_flow_into at time index 1, a 0, b 1, hopping 0.5+0.25i, charge 1.5: " + answer_text(flow))
-    return lines
+    asked = "bond_flow_into at time index 1, a 0, b 1, hopping 0.5+0.25i, charge 1.5: "
+    return lines + [asked + answer_text(flow)]
 
 
 def case_d(times, clock):

@@ -1,0 +1,64 @@
+-- Document 01, convolutions and support: the outcome of each call, and lines 1 to 7 as every call on two-time functions asks them.
+use Prim.Native.Nat.{ℕ, zero, suc}
+use mathlib.Core.Bool.{Bool, true, _&&_}
+use mathlib.Core.List.{List, [], _∷_, _++_}
+use lib.Dec.{eqb}
+use lib.ListN.{length}
+use lib.Ieee.{Float}
+use Rattle.refusal.specs.declared.Verdict.{Verdict}
+use Rattle.refusal.specs.declared.Verdict.the-variants.{Pass}
+use Rattle.refusal.specs.Verdict.{_then_, afterwards}
+use Rattle.refusal.specs.Lines.{largeEnough, withinLimits, fitting, finiteEntries, validTolerance, finiteWork}
+use Rattle.grid.specs.Calls.{timeLines}
+use Rattle.two_time.specs.Layout.{TwoTime, lengthOf, readAs, layOutAll}
+use Rattle.two_time.specs.Convolutions.{convolution, convolutionFinite, causal, causalFinite}
+use Rattle.two_time.specs.Support.{retarded}
+
+-- each of the slices has that length
+unfoldable pub allLong : ℕ → List (List Float) → Bool
+allLong count [] = true
+allLong count (xs ∷ rest) = eqb (length xs) count && allLong count rest
+
+-- lines 1 to 3: `fits` says whether what is lent beside the two-time functions has its length too
+unfoldable pub sizeLines : ℕ → ℕ → Bool → List (List Float) → Verdict
+sizeLines points orbitals fits slices =
+    largeEnough points orbitals then withinLimits points orbitals then fitting (fits && allLong (lengthOf points orbitals) slices)
+
+-- line 7: the operands from number k on
+unfoldable pub operandLines : ℕ → List (List Float) → Verdict
+operandLines k [] = Pass
+operandLines k (xs ∷ rest) = finiteEntries k xs (length xs) then operandLines (suc k) rest
+
+-- lines 1 to 7 of a call on a grid: line 3 asks outputs and scratch too
+unfoldable pub inputLines : ℕ → ℕ → List Float → List (List Float) → List (List Float) → Verdict
+inputLines points orbitals times operands lent =
+    sizeLines points orbitals (eqb (length times) points) (operands ++ lent) then timeLines points times then operandLines 0 operands
+
+-- the answer, and the output afterwards
+pub record Convolved : Type 0 where
+  pub answer : Verdict
+  pub out : List Float
+
+module _ (points orbitals : ℕ) (times left right out : List Float) where
+  -- lines 1 to 7, then 10
+  unfoldable pub convolved : Bool → TwoTime → Convolved
+  convolved finite f =
+      let verdict = inputLines points orbitals times (left ∷ right ∷ []) (out ∷ []) then finiteWork finite in
+      record { answer = verdict; out = afterwards verdict (layOutAll points orbitals f) out }
+
+  -- `time_convolution`
+  unfoldable pub timeConvolution : Convolved
+  timeConvolution =
+      convolved (convolutionFinite points orbitals times (readAs points orbitals left) (readAs points orbitals right))
+      (convolution points orbitals times (readAs points orbitals left) (readAs points orbitals right))
+
+  -- `causal_volterra_convolution`
+  unfoldable pub causalConvolution : Convolved
+  causalConvolution =
+      convolved (causalFinite orbitals times (readAs points orbitals left) (readAs points orbitals right) points)
+      (causal orbitals times (readAs points orbitals left) (readAs points orbitals right))
+
+-- `check_retarded_support`: lines 1 to 3, 7, 8 and 9 of one function, operand 0
+unfoldable pub checkSupport : ℕ → ℕ → List Float → Float → Verdict
+checkSupport points orbitals xs tolerance =
+    sizeLines points orbitals true (xs ∷ []) then operandLines 0 (xs ∷ []) then validTolerance tolerance then retarded points orbitals 0 tolerance (readAs points orbitals xs)

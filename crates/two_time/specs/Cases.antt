@@ -1,0 +1,131 @@
+-- Closed cases of the convolutions and the support test, P8 and P9 of document 01 among them. Expected bits by reference/expected.py.
+use mathlib.Core.Path.{_≡_, refl}
+use mathlib.Core.Bool.{Bool, true, false}
+use mathlib.Core.List.{List, [], _∷_, _++_, map}
+use Prim.Native.Nat.{ℕ}
+use lib.ListN.{length, replicate}
+use lib.Ieee as Ieee
+use lib.Ieee.{Float, nan, inf, binary64, toBits}
+use Rattle.lists.specs.Indexed.{fold, join, allBelow}
+use Rattle.complex.specs.Arithmetic.{plusZero, one, finite, larger, cadd, cmul, cfinite}
+use Rattle.complex.specs.Sum.{sumFrom, largestFrom, largestIn}
+use Rattle.norm.specs.Norm.{norm}
+use Rattle.refusal.specs.declared.Verdict.{Verdict}
+use Rattle.refusal.specs.declared.Verdict.the-variants.{Pass, Refused}
+use Rattle.refusal.specs.Verdict.{by, ask, _then_, askAll, afterwards}
+use Rattle.refusal.specs.Lines.{largeEnough, withinLimits, fitting, finiteTimes, risingTimes, finiteWeights, finiteEntries, validTolerance, retardedAt, finiteWork}
+use Rattle.matrix.specs.Block.{layOut}
+use Rattle.matrix.specs.Operations.{product, scaled, largestNorm}
+use Rattle.grid.specs.Weights.{halfStep, fullWeight, intervalWeight}
+use Rattle.grid.specs.Calls.{timeLines}
+use Rattle.two_time.specs.Layout.{layOutAll, everywhere}
+use Rattle.two_time.specs.WeightedSum.{productAt, termAt, partialSum, weightedSum, finiteSum}
+use Rattle.two_time.specs.Convolutions.{convolution, convolutionFinite, causal, causalFinite}
+use Rattle.two_time.specs.Support.{scaleOf, residual, retarded}
+use Rattle.two_time.specs.Calls.{allLong, sizeLines, operandLines, inputLines, Convolved, convolved, timeConvolution, causalConvolution, checkSupport}
+
+-- the numbers of these bit patterns, and back
+abbrev floats : List ℕ → List Float
+floats = map (Ieee.ofBits binary64)
+
+abbrev bits : List Float → List ℕ
+bits = map (toBits binary64)
+
+-- ---- three points, one orbital
+
+-- 0, 0.5, 2
+abbrev times : List Float
+times = floats (0 ∷ 0x3fe0_0000_0000_0000 ∷ 0x4000_0000_0000_0000 ∷ [])
+
+-- (1 + t + u/4) + (t/2 − u)i
+abbrev left : List Float
+left = floats (
+    0x3ff0000000000000 ∷ 0 ∷ 0x3ff4000000000000 ∷ 0xbff0000000000000 ∷ 0x3ff8000000000000 ∷ 0xc000000000000000 ∷
+    0x4000000000000000 ∷ 0x3fe0000000000000 ∷ 0x4002000000000000 ∷ 0xbfe0000000000000 ∷ 0x4004000000000000 ∷ 0xbff8000000000000 ∷
+    0x4008000000000000 ∷ 0x3ff0000000000000 ∷ 0x400a000000000000 ∷ 0 ∷ 0x400c000000000000 ∷ 0xbff0000000000000 ∷ [])
+
+-- (2 − t + u) + (t·u + 1)i
+abbrev right : List Float
+right = floats (
+    0x4000000000000000 ∷ 0x3ff0000000000000 ∷ 0x4008000000000000 ∷ 0x3ff0000000000000 ∷ 0x4010000000000000 ∷ 0x3ff0000000000000 ∷
+    0x3ff0000000000000 ∷ 0x3ff0000000000000 ∷ 0x4000000000000000 ∷ 0x4000000000000000 ∷ 0x4008000000000000 ∷ 0x4008000000000000 ∷
+    0 ∷ 0x3ff0000000000000 ∷ 0x3ff0000000000000 ∷ 0x4008000000000000 ∷ 0x4000000000000000 ∷ 0x4014000000000000 ∷ [])
+
+abbrev out : List Float
+out = replicate 18 one
+
+-- 0.5·(t' − t) weights of each interval, +0 above the diagonal
+causal-case : bits (causalConvolution 3 1 times left right out .out) ≡
+    0 ∷ 0 ∷ 0 ∷ 0 ∷ 0 ∷ 0 ∷
+    0x3ff9000000000000 ∷ 0x3ff3000000000000 ∷ 0 ∷ 0 ∷ 0 ∷ 0 ∷
+    0x4015000000000000 ∷ 0x401c800000000000 ∷ 0x4023800000000000 ∷ 0x4028000000000000 ∷ 0 ∷ 0 ∷ []
+unfolding convolved inputLines sizeLines allLong operandLines timeLines largeEnough withinLimits fitting finiteTimes risingTimes finiteWeights finiteEntries finiteWork ask askAll _then_ afterwards layOutAll layOut join everywhere allBelow weightedSum partialSum termAt productAt finiteSum product scaled sumFrom fold fullWeight halfStep cadd cmul cfinite finite Ieee.ofBits toBits Ieee.add Ieee.sub Ieee.mul Ieee.neg Ieee.lt causalConvolution causal causalFinite intervalWeight
+causal-case = refl
+
+full-case : bits (timeConvolution 3 1 times left right out .out) ≡
+    0x4011000000000000 ∷ 0x3ffa000000000000 ∷ 0x4025c00000000000 ∷ 0x4005000000000000 ∷ 0x4031800000000000 ∷ 0x400d000000000000 ∷
+    0x4013000000000000 ∷ 0x4011800000000000 ∷ 0x4028400000000000 ∷ 0x4021c00000000000 ∷ 0x4033800000000000 ∷ 0x402ac00000000000 ∷
+    0x4015000000000000 ∷ 0x401c800000000000 ∷ 0x402ac00000000000 ∷ 0x402e400000000000 ∷ 0x4035800000000000 ∷ 0x4037200000000000 ∷ []
+unfolding convolved inputLines sizeLines allLong operandLines timeLines largeEnough withinLimits fitting finiteTimes risingTimes finiteWeights finiteEntries finiteWork ask askAll _then_ afterwards layOutAll layOut join everywhere allBelow weightedSum partialSum termAt productAt finiteSum product scaled sumFrom fold fullWeight halfStep cadd cmul cfinite finite Ieee.ofBits toBits Ieee.add Ieee.sub Ieee.mul Ieee.neg Ieee.lt timeConvolution convolution convolutionFinite
+full-case = refl
+
+-- ---- two points, one orbital: what a sum starts at, where the weight goes, and 10
+
+abbrev apart : List Float
+apart = plusZero ∷ one ∷ []
+
+-- a function that is 1 but for its first number
+abbrev with-first : ℕ → List Float
+with-first x = Ieee.ofBits binary64 x ∷ plusZero ∷ one ∷ plusZero ∷ one ∷ plusZero ∷ one ∷ plusZero ∷ []
+
+-- -0 at (0,0), with +0 parts beside it: each sum starts at +0+0i, so no -0 survives
+no-minus-zero : causalConvolution 2 1 apart (with-first 0x8000_0000_0000_0000) (with-first 0x3ff0_0000_0000_0000) (replicate 8 one) .out
+    ≡ plusZero ∷ plusZero ∷ plusZero ∷ plusZero ∷ Ieee.ofBits binary64 0x3ff0_0000_0000_0000 ∷ plusZero ∷ plusZero ∷ plusZero ∷ []
+unfolding convolved inputLines sizeLines allLong operandLines timeLines largeEnough withinLimits fitting finiteTimes risingTimes finiteWeights finiteEntries finiteWork ask askAll _then_ afterwards layOutAll layOut join everywhere allBelow weightedSum partialSum termAt productAt finiteSum product scaled sumFrom fold fullWeight halfStep cadd cmul cfinite finite Ieee.ofBits toBits Ieee.add Ieee.sub Ieee.mul Ieee.neg Ieee.lt causalConvolution causal causalFinite intervalWeight
+no-minus-zero = refl
+
+-- the largest by 1.5 overflows before the weight of half a step could make it small: a weight goes on the product, not on a factor
+product-before-weight : timeConvolution 2 1 apart (with-first 0x7fef_ffff_ffff_ffff) (with-first 0x3ff8_0000_0000_0000) (replicate 8 one)
+    ≡ record { answer = Refused (by 10); out = replicate 8 plusZero }
+unfolding convolved inputLines sizeLines allLong operandLines timeLines largeEnough withinLimits fitting finiteTimes risingTimes finiteWeights finiteEntries finiteWork ask askAll _then_ afterwards layOutAll layOut join everywhere allBelow weightedSum partialSum termAt productAt finiteSum product scaled sumFrom fold fullWeight halfStep cadd cmul cfinite finite Ieee.ofBits toBits Ieee.add Ieee.sub Ieee.mul Ieee.neg Ieee.lt timeConvolution convolution convolutionFinite
+product-before-weight = refl
+
+-- the same at (0,0) of the causal one, where the weight is 0: "yet the product is formed and may give 10"
+diagonal-product : causalConvolution 2 1 apart (with-first 0x7fef_ffff_ffff_ffff) (with-first 0x4000_0000_0000_0000) (replicate 8 one)
+    ≡ record { answer = Refused (by 10); out = replicate 8 plusZero }
+unfolding convolved inputLines sizeLines allLong operandLines timeLines largeEnough withinLimits fitting finiteTimes risingTimes finiteWeights finiteEntries finiteWork ask askAll _then_ afterwards layOutAll layOut join everywhere allBelow weightedSum partialSum termAt productAt finiteSum product scaled sumFrom fold fullWeight halfStep cadd cmul cfinite finite Ieee.ofBits toBits Ieee.add Ieee.sub Ieee.mul Ieee.neg Ieee.lt causalConvolution causal causalFinite intervalWeight
+diagonal-product = refl
+
+-- any other refusal leaves the output: 7 of operand 1 at number 2, and 3 for an output that is short
+other-refusals : causalConvolution 2 1 apart (with-first 0) (plusZero ∷ plusZero ∷ nan ∷ plusZero ∷ plusZero ∷ plusZero ∷ plusZero ∷ plusZero ∷ []) (replicate 8 one)
+    ∷ causalConvolution 2 1 apart (with-first 0) (with-first 0) (one ∷ []) ∷ []
+    ≡ record { answer = Refused (record { number = 7; operand = 1; first = 2; second = 0; part = plusZero }); out = replicate 8 one }
+    ∷ record { answer = Refused (by 3); out = one ∷ [] } ∷ []
+unfolding convolved inputLines sizeLines allLong operandLines timeLines largeEnough withinLimits fitting finiteTimes risingTimes finiteWeights finiteEntries finiteWork ask askAll _then_ afterwards layOutAll layOut join everywhere allBelow weightedSum partialSum termAt productAt finiteSum product scaled sumFrom fold fullWeight halfStep cadd cmul cfinite finite Ieee.ofBits toBits Ieee.add Ieee.sub Ieee.mul Ieee.neg Ieee.lt causalConvolution causal causalFinite intervalWeight
+other-refusals = refl
+
+-- ---- support
+
+-- diagonal 1, entry (1,0) +0 and entry (0,1) as given
+abbrev above : ℕ → List Float
+above x = one ∷ plusZero ∷ Ieee.ofBits binary64 x ∷ plusZero ∷ plusZero ∷ plusZero ∷ one ∷ plusZero ∷ []
+
+abbrev half : Float
+half = Ieee.ofBits binary64 0x3fe0_0000_0000_0000
+
+-- P8: with tolerance 0.5, 0.5 at (0,1) is retarded, and 0.75 is number 9 at (0,1). A scale is at least 2^-1022.
+p8 : checkSupport 2 1 (above 0x3fe0_0000_0000_0000) half ∷ checkSupport 2 1 (above 0x3fe8_0000_0000_0000) half
+    ∷ checkSupport 2 1 (floats (0 ∷ 0 ∷ 1 ∷ 0 ∷ 0 ∷ 0 ∷ 0 ∷ 0 ∷ [])) half ∷ checkSupport 2 1 (above 0) plusZero ∷ []
+    ≡ Pass ∷ Refused (record { number = 9; operand = 0; first = 0; second = 1; part = Ieee.ofBits binary64 0x3fe8_0000_0000_0000 }) ∷ Pass ∷ Refused (by 8) ∷ []
+unfolding checkSupport sizeLines allLong operandLines largeEnough withinLimits fitting finiteEntries validTolerance retarded retardedAt residual scaleOf ask askAll _then_ largestNorm largestIn largestFrom fold larger norm finite Ieee.ofBits Ieee.div Ieee.ne Ieee.eq Ieee.lt
+p8 = refl
+
+-- P9: entry (1,0) has both parts largest, so the scale is infinite, and entry (0,1) 1 has the residual 0
+p9 : checkSupport 2 1 (floats (0 ∷ 0 ∷ 0x3ff0_0000_0000_0000 ∷ 0 ∷ 0x7fef_ffff_ffff_ffff ∷ 0x7fef_ffff_ffff_ffff ∷ 0 ∷ 0 ∷ [])) half ≡ Pass
+unfolding checkSupport sizeLines allLong operandLines largeEnough withinLimits fitting finiteEntries validTolerance retarded retardedAt residual scaleOf ask askAll _then_ largestNorm largestIn largestFrom fold larger norm finite Ieee.ofBits Ieee.div Ieee.ne Ieee.eq Ieee.lt
+p9 = refl
+
+-- an infinite norm at (0,1) by the infinite scale is a NaN, which does not exceed
+nan-residual : checkSupport 2 1 (floats (0 ∷ 0 ∷ 0x7fef_ffff_ffff_ffff ∷ 0x7fef_ffff_ffff_ffff ∷ 0 ∷ 0 ∷ 0 ∷ 0 ∷ [])) half ≡ Pass
+unfolding checkSupport sizeLines allLong operandLines largeEnough withinLimits fitting finiteEntries validTolerance retarded retardedAt residual scaleOf ask askAll _then_ largestNorm largestIn largestFrom fold larger norm finite Ieee.ofBits Ieee.div Ieee.ne Ieee.eq Ieee.lt
+nan-residual = refl

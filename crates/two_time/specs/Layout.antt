@@ -1,0 +1,35 @@
+-- Document 01, "Kept, renewed, left behind": "A two-time function is a lent slice of binary64 numbers: block (t, t') row by row, in a block
+-- entry (a, b) row by row, real part before imaginary."
+use Prim.Native.Nat.{ℕ, _+_, _*_}
+use mathlib.Core.Bool.{Bool}
+use mathlib.Core.List.{List}
+use lib.Ieee.{Float}
+use Rattle.lists.specs.Indexed.{join, allBelow}
+use Rattle.complex.specs.declared.Complex.{Complex}
+use Rattle.complex.specs.Numbers.{entryAt}
+use Rattle.matrix.specs.Block.{Entries, layOut}
+
+-- the block at times t and u
+abbrev pub TwoTime : Type 0
+TwoTime = ℕ → ℕ → Entries
+
+-- where the real part of entry (a, b) of block (t, u) stands; a row of blocks has `stride` of them
+abbrev pub place : ℕ → ℕ → ℕ → ℕ → ℕ → ℕ → ℕ
+place stride orbitals t u a b = 2 * (((t * stride + u) * orbitals + a) * orbitals + b)
+
+-- a list of numbers read as a two-time function
+abbrev pub readAs : ℕ → ℕ → List Float → TwoTime
+readAs stride orbitals xs t u a b = entryAt xs (place stride orbitals t u a b)
+
+-- "a function has 2·N·N·n·n numbers"
+abbrev pub lengthOf : ℕ → ℕ → ℕ
+lengthOf points orbitals = 2 * points * points * orbitals * orbitals
+
+-- a two-time function laid out as such a list
+unfoldable pub layOutAll : ℕ → ℕ → TwoTime → List Float
+layOutAll points orbitals f = join points (λ t. join points (λ u. layOut orbitals orbitals (f t u)))
+
+-- p holds of every entry of every block
+unfoldable pub everywhere : ℕ → ℕ → (ℕ → ℕ → ℕ → ℕ → Bool) → Bool
+everywhere points orbitals p =
+    allBelow points (λ t. allBelow points (λ u. allBelow orbitals (λ a. allBelow orbitals (λ b. p t u a b))))

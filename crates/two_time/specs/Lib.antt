@@ -1,0 +1,7 @@
+-- Document 01, two-time functions: where an entry stands, the one weighted sum, the convolutions, the support test, and closed cases.
+pub mod Layout
+pub mod WeightedSum
+pub mod Convolutions
+pub mod Support
+pub mod Calls
+pub mod Cases
