@@ -1,2 +1,4 @@
--- What is built by an index that goes up from 0: values, lists and answers to a question, with their laws.
+-- What is built by an index that goes up from 0: values, lists and tests, and their laws.
 pub mod Indexed
+pub mod Agreement
+pub mod Reading

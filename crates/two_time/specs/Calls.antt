@@ -10,8 +10,8 @@ use Rattle.refusal.specs.declared.Verdict.the-variants.{Pass}
 use Rattle.refusal.specs.Verdict.{_then_, afterwards}
 use Rattle.refusal.specs.Lines.{largeEnough, withinLimits, fitting, finiteEntries, validTolerance, finiteWork}
 use Rattle.grid.specs.Calls.{timeLines}
-use Rattle.two_time.specs.Layout.{TwoTime, lengthOf, readAs, layOutAll}
-use Rattle.two_time.specs.Convolutions.{convolution, convolutionFinite, causal, causalFinite}
+use Rattle.two_time.specs.Layout.{lengthOf, readAs}
+use Rattle.two_time.specs.Convolutions.{convolutionNumbers, convolutionFine, causalNumbers, causalFine}
 use Rattle.two_time.specs.Support.{retarded}
 
 -- each of the slices has that length
@@ -41,22 +41,18 @@ pub record Convolved : Type 0 where
 
 module _ (points orbitals : ℕ) (times left right out : List Float) where
   -- lines 1 to 7, then 10
-  unfoldable pub convolved : Bool → TwoTime → Convolved
-  convolved finite f =
+  unfoldable pub convolved : Bool → List Float → Convolved
+  convolved finite made =
       let verdict = inputLines points orbitals times (left ∷ right ∷ []) (out ∷ []) then finiteWork finite in
-      record { answer = verdict; out = afterwards verdict (layOutAll points orbitals f) out }
+      record { answer = verdict; out = afterwards verdict made out }
 
   -- `time_convolution`
   unfoldable pub timeConvolution : Convolved
-  timeConvolution =
-      convolved (convolutionFinite points orbitals times (readAs points orbitals left) (readAs points orbitals right))
-      (convolution points orbitals times (readAs points orbitals left) (readAs points orbitals right))
+  timeConvolution = convolved (convolutionFine points orbitals times left right) (convolutionNumbers points orbitals times left right)
 
   -- `causal_volterra_convolution`
   unfoldable pub causalConvolution : Convolved
-  causalConvolution =
-      convolved (causalFinite orbitals times (readAs points orbitals left) (readAs points orbitals right) points)
-      (causal orbitals times (readAs points orbitals left) (readAs points orbitals right))
+  causalConvolution = convolved (causalFine points orbitals times left right) (causalNumbers points orbitals times left right)
 
 -- `check_retarded_support`: lines 1 to 3, 7, 8 and 9 of one function, operand 0
 unfoldable pub checkSupport : ℕ → ℕ → List Float → Float → Verdict

@@ -20,7 +20,7 @@ use Rattle.grid.specs.Weights.{halfStep, fullWeight, intervalWeight}
 use Rattle.grid.specs.Calls.{timeLines}
 use Rattle.two_time.specs.Layout.{layOutAll, everywhere}
 use Rattle.two_time.specs.WeightedSum.{productAt, termAt, partialSum, weightedSum, finiteSum}
-use Rattle.two_time.specs.Convolutions.{convolution, convolutionFinite, causal, causalFinite}
+use Rattle.two_time.specs.Convolutions.{convolution, convolutionFinite, causal, causalFinite, convolutionNumbers, convolutionFine, causalNumbers, causalFine}
 use Rattle.two_time.specs.Support.{scaleOf, residual, retarded}
 use Rattle.two_time.specs.Calls.{allLong, sizeLines, operandLines, inputLines, Convolved, convolved, timeConvolution, causalConvolution, checkSupport}
 
@@ -54,19 +54,19 @@ right = floats (
 abbrev out : List Float
 out = replicate 18 one
 
--- 0.5·(t' − t) weights of each interval, +0 above the diagonal
+-- +0 on the diagonal, where the weight is 0, and above it
 causal-case : bits (causalConvolution 3 1 times left right out .out) ≡
     0 ∷ 0 ∷ 0 ∷ 0 ∷ 0 ∷ 0 ∷
     0x3ff9000000000000 ∷ 0x3ff3000000000000 ∷ 0 ∷ 0 ∷ 0 ∷ 0 ∷
     0x4015000000000000 ∷ 0x401c800000000000 ∷ 0x4023800000000000 ∷ 0x4028000000000000 ∷ 0 ∷ 0 ∷ []
-unfolding convolved inputLines sizeLines allLong operandLines timeLines largeEnough withinLimits fitting finiteTimes risingTimes finiteWeights finiteEntries finiteWork ask askAll _then_ afterwards layOutAll layOut join everywhere allBelow weightedSum partialSum termAt productAt finiteSum product scaled sumFrom fold fullWeight halfStep cadd cmul cfinite finite Ieee.ofBits toBits Ieee.add Ieee.sub Ieee.mul Ieee.neg Ieee.lt causalConvolution causal causalFinite intervalWeight
+unfolding convolved inputLines sizeLines allLong operandLines timeLines largeEnough withinLimits fitting finiteTimes risingTimes finiteWeights finiteEntries finiteWork ask askAll _then_ afterwards layOutAll layOut join everywhere allBelow weightedSum partialSum termAt productAt finiteSum product scaled sumFrom fold fullWeight halfStep cadd cmul cfinite finite Ieee.ofBits toBits Ieee.add Ieee.sub Ieee.mul Ieee.neg Ieee.lt causalConvolution causalNumbers causalFine causal causalFinite intervalWeight
 causal-case = refl
 
 full-case : bits (timeConvolution 3 1 times left right out .out) ≡
     0x4011000000000000 ∷ 0x3ffa000000000000 ∷ 0x4025c00000000000 ∷ 0x4005000000000000 ∷ 0x4031800000000000 ∷ 0x400d000000000000 ∷
     0x4013000000000000 ∷ 0x4011800000000000 ∷ 0x4028400000000000 ∷ 0x4021c00000000000 ∷ 0x4033800000000000 ∷ 0x402ac00000000000 ∷
     0x4015000000000000 ∷ 0x401c800000000000 ∷ 0x402ac00000000000 ∷ 0x402e400000000000 ∷ 0x4035800000000000 ∷ 0x4037200000000000 ∷ []
-unfolding convolved inputLines sizeLines allLong operandLines timeLines largeEnough withinLimits fitting finiteTimes risingTimes finiteWeights finiteEntries finiteWork ask askAll _then_ afterwards layOutAll layOut join everywhere allBelow weightedSum partialSum termAt productAt finiteSum product scaled sumFrom fold fullWeight halfStep cadd cmul cfinite finite Ieee.ofBits toBits Ieee.add Ieee.sub Ieee.mul Ieee.neg Ieee.lt timeConvolution convolution convolutionFinite
+unfolding convolved inputLines sizeLines allLong operandLines timeLines largeEnough withinLimits fitting finiteTimes risingTimes finiteWeights finiteEntries finiteWork ask askAll _then_ afterwards layOutAll layOut join everywhere allBelow weightedSum partialSum termAt productAt finiteSum product scaled sumFrom fold fullWeight halfStep cadd cmul cfinite finite Ieee.ofBits toBits Ieee.add Ieee.sub Ieee.mul Ieee.neg Ieee.lt timeConvolution convolutionNumbers convolutionFine convolution convolutionFinite
 full-case = refl
 
 -- ---- two points, one orbital: what a sum starts at, where the weight goes, and 10
@@ -81,19 +81,19 @@ with-first x = Ieee.ofBits binary64 x ∷ plusZero ∷ one ∷ plusZero ∷ one 
 -- -0 at (0,0), with +0 parts beside it: each sum starts at +0+0i, so no -0 survives
 no-minus-zero : causalConvolution 2 1 apart (with-first 0x8000_0000_0000_0000) (with-first 0x3ff0_0000_0000_0000) (replicate 8 one) .out
     ≡ plusZero ∷ plusZero ∷ plusZero ∷ plusZero ∷ Ieee.ofBits binary64 0x3ff0_0000_0000_0000 ∷ plusZero ∷ plusZero ∷ plusZero ∷ []
-unfolding convolved inputLines sizeLines allLong operandLines timeLines largeEnough withinLimits fitting finiteTimes risingTimes finiteWeights finiteEntries finiteWork ask askAll _then_ afterwards layOutAll layOut join everywhere allBelow weightedSum partialSum termAt productAt finiteSum product scaled sumFrom fold fullWeight halfStep cadd cmul cfinite finite Ieee.ofBits toBits Ieee.add Ieee.sub Ieee.mul Ieee.neg Ieee.lt causalConvolution causal causalFinite intervalWeight
+unfolding convolved inputLines sizeLines allLong operandLines timeLines largeEnough withinLimits fitting finiteTimes risingTimes finiteWeights finiteEntries finiteWork ask askAll _then_ afterwards layOutAll layOut join everywhere allBelow weightedSum partialSum termAt productAt finiteSum product scaled sumFrom fold fullWeight halfStep cadd cmul cfinite finite Ieee.ofBits toBits Ieee.add Ieee.sub Ieee.mul Ieee.neg Ieee.lt causalConvolution causalNumbers causalFine causal causalFinite intervalWeight
 no-minus-zero = refl
 
 -- the largest by 1.5 overflows before the weight of half a step could make it small: a weight goes on the product, not on a factor
 product-before-weight : timeConvolution 2 1 apart (with-first 0x7fef_ffff_ffff_ffff) (with-first 0x3ff8_0000_0000_0000) (replicate 8 one)
     ≡ record { answer = Refused (by 10); out = replicate 8 plusZero }
-unfolding convolved inputLines sizeLines allLong operandLines timeLines largeEnough withinLimits fitting finiteTimes risingTimes finiteWeights finiteEntries finiteWork ask askAll _then_ afterwards layOutAll layOut join everywhere allBelow weightedSum partialSum termAt productAt finiteSum product scaled sumFrom fold fullWeight halfStep cadd cmul cfinite finite Ieee.ofBits toBits Ieee.add Ieee.sub Ieee.mul Ieee.neg Ieee.lt timeConvolution convolution convolutionFinite
+unfolding convolved inputLines sizeLines allLong operandLines timeLines largeEnough withinLimits fitting finiteTimes risingTimes finiteWeights finiteEntries finiteWork ask askAll _then_ afterwards layOutAll layOut join everywhere allBelow weightedSum partialSum termAt productAt finiteSum product scaled sumFrom fold fullWeight halfStep cadd cmul cfinite finite Ieee.ofBits toBits Ieee.add Ieee.sub Ieee.mul Ieee.neg Ieee.lt timeConvolution convolutionNumbers convolutionFine convolution convolutionFinite
 product-before-weight = refl
 
 -- the same at (0,0) of the causal one, where the weight is 0: "yet the product is formed and may give 10"
 diagonal-product : causalConvolution 2 1 apart (with-first 0x7fef_ffff_ffff_ffff) (with-first 0x4000_0000_0000_0000) (replicate 8 one)
     ≡ record { answer = Refused (by 10); out = replicate 8 plusZero }
-unfolding convolved inputLines sizeLines allLong operandLines timeLines largeEnough withinLimits fitting finiteTimes risingTimes finiteWeights finiteEntries finiteWork ask askAll _then_ afterwards layOutAll layOut join everywhere allBelow weightedSum partialSum termAt productAt finiteSum product scaled sumFrom fold fullWeight halfStep cadd cmul cfinite finite Ieee.ofBits toBits Ieee.add Ieee.sub Ieee.mul Ieee.neg Ieee.lt causalConvolution causal causalFinite intervalWeight
+unfolding convolved inputLines sizeLines allLong operandLines timeLines largeEnough withinLimits fitting finiteTimes risingTimes finiteWeights finiteEntries finiteWork ask askAll _then_ afterwards layOutAll layOut join everywhere allBelow weightedSum partialSum termAt productAt finiteSum product scaled sumFrom fold fullWeight halfStep cadd cmul cfinite finite Ieee.ofBits toBits Ieee.add Ieee.sub Ieee.mul Ieee.neg Ieee.lt causalConvolution causalNumbers causalFine causal causalFinite intervalWeight
 diagonal-product = refl
 
 -- any other refusal leaves the output: 7 of operand 1 at number 2, and 3 for an output that is short
@@ -101,7 +101,7 @@ other-refusals : causalConvolution 2 1 apart (with-first 0) (plusZero ∷ plusZe
     ∷ causalConvolution 2 1 apart (with-first 0) (with-first 0) (one ∷ []) ∷ []
     ≡ record { answer = Refused (record { number = 7; operand = 1; first = 2; second = 0; part = plusZero }); out = replicate 8 one }
     ∷ record { answer = Refused (by 3); out = one ∷ [] } ∷ []
-unfolding convolved inputLines sizeLines allLong operandLines timeLines largeEnough withinLimits fitting finiteTimes risingTimes finiteWeights finiteEntries finiteWork ask askAll _then_ afterwards layOutAll layOut join everywhere allBelow weightedSum partialSum termAt productAt finiteSum product scaled sumFrom fold fullWeight halfStep cadd cmul cfinite finite Ieee.ofBits toBits Ieee.add Ieee.sub Ieee.mul Ieee.neg Ieee.lt causalConvolution causal causalFinite intervalWeight
+unfolding convolved inputLines sizeLines allLong operandLines timeLines largeEnough withinLimits fitting finiteTimes risingTimes finiteWeights finiteEntries finiteWork ask askAll _then_ afterwards layOutAll layOut join everywhere allBelow weightedSum partialSum termAt productAt finiteSum product scaled sumFrom fold fullWeight halfStep cadd cmul cfinite finite Ieee.ofBits toBits Ieee.add Ieee.sub Ieee.mul Ieee.neg Ieee.lt causalConvolution causalNumbers causalFine causal causalFinite intervalWeight
 other-refusals = refl
 
 -- ---- support

@@ -8,7 +8,7 @@ use Rattle.complex.specs.Arithmetic.{czero}
 use Rattle.matrix.specs.Block.{Entries}
 use Rattle.matrix.specs.Operations.{zeros}
 use Rattle.grid.specs.Weights.{fullWeight, intervalWeight}
-use Rattle.two_time.specs.Layout.{TwoTime, everywhere}
+use Rattle.two_time.specs.Layout.{TwoTime, readAs, layOutAll, everywhere}
 use Rattle.two_time.specs.WeightedSum.{Terms, weightedSum, finiteSum}
 
 module _ (points orbitals : ℕ) (times : List Float) (x y : TwoTime) where
@@ -35,3 +35,17 @@ module _ (orbitals : ℕ) (times : List Float) (x y : TwoTime) where
 
   unfoldable pub causalFinite : ℕ → Bool
   causalFinite points = everywhere points orbitals (λ t u a b. ltb t u || finiteSum orbitals (causalTerms t u) a b)
+
+-- both over lent numbers: the result laid out, and whether every block made for it is finite
+module _ (points orbitals : ℕ) (times left right : List Float) where
+  unfoldable pub convolutionNumbers : List Float
+  convolutionNumbers = layOutAll points orbitals (convolution points orbitals times (readAs points orbitals left) (readAs points orbitals right))
+
+  unfoldable pub convolutionFine : Bool
+  convolutionFine = convolutionFinite points orbitals times (readAs points orbitals left) (readAs points orbitals right)
+
+  unfoldable pub causalNumbers : List Float
+  causalNumbers = layOutAll points orbitals (causal orbitals times (readAs points orbitals left) (readAs points orbitals right))
+
+  unfoldable pub causalFine : Bool
+  causalFine = causalFinite orbitals times (readAs points orbitals left) (readAs points orbitals right) points

@@ -1,6 +1,8 @@
 -- Document 01, two-time functions: where an entry stands, the one weighted sum, the convolutions, the support test, and closed cases.
 pub mod Layout
+pub mod Reading
 pub mod WeightedSum
+pub mod Agreement
 pub mod Convolutions
 pub mod Support
 pub mod Calls

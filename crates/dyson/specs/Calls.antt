@@ -1,0 +1,59 @@
+-- Document 01, Dyson: the outcome of `retarded_dyson_with_tolerance` and `retarded_dyson`.
+use Prim.Native.Nat.{ℕ}
+use mathlib.Core.Bool.{Bool, _&&_}
+use mathlib.Core.List.{List, [], _∷_}
+use lib.Ieee.{Float, binary64, ofBits}
+use Rattle.refusal.specs.declared.Verdict.{Verdict}
+use Rattle.refusal.specs.Verdict.{_then_, afterwards}
+use Rattle.refusal.specs.Lines.{validTolerance, finiteWork}
+use Rattle.two_time.specs.Layout.{TwoTime, readAs}
+use Rattle.two_time.specs.Convolutions.{causalNumbers, causalFine}
+use Rattle.two_time.specs.Support.{retarded}
+use Rattle.two_time.specs.Calls.{inputLines}
+use Rattle.dyson.specs.Retarded.{retardedNumbers, retardedFine}
+
+-- the answer; the retarded function's slice and the kernel's scratch afterwards
+pub record Solved : Type 0 where
+  pub answer : Verdict
+  pub retarded : List Float
+  pub kernel : List Float
+
+-- "retarded_dyson_with_tolerance; default 1e-12 in retarded_dyson": the binary64 nearest to 1e-12
+abbrev pub defaultTolerance : Float
+defaultTolerance = ofBits binary64 0x3d71_9799_812d_ea11
+
+-- "Order: 8, 9 for free, 9 for self-energy"
+unfoldable pub supportLines : ℕ → ℕ → Float → TwoTime → TwoTime → Verdict
+supportLines points orbitals tolerance free selfEnergy =
+    validTolerance tolerance then retarded points orbitals 0 tolerance free then retarded points orbitals 1 tolerance selfEnergy
+
+-- "K is the causal convolution of both", G is made of it, and every block of the two is finite or 10
+module _ (points orbitals : ℕ) (times free selfEnergy : List Float) where
+  abbrev pub kernelOf : List Float
+  kernelOf = causalNumbers points orbitals times free selfEnergy
+
+  abbrev pub greenOf : List Float
+  greenOf = retardedNumbers points orbitals times free kernelOf
+
+  unfoldable pub greenFine : Bool
+  greenFine = causalFine points orbitals times free selfEnergy && retardedFine points orbitals times free kernelOf
+
+-- `retarded_dyson_with_tolerance`: lines 1 to 7, then 8, 9 for free, 9 for self-energy, 10
+unfoldable pub dysonVerdict : ℕ → ℕ → Float → List Float → List Float → List Float → List Float → List Float → Verdict
+dysonVerdict points orbitals tolerance times free selfEnergy retarded kernel =
+    inputLines points orbitals times (free ∷ selfEnergy ∷ []) (retarded ∷ kernel ∷ [])
+    then supportLines points orbitals tolerance (readAs points orbitals free) (readAs points orbitals selfEnergy)
+    then finiteWork (greenFine points orbitals times free selfEnergy)
+
+unfoldable pub dysonWithTolerance : ℕ → ℕ → Float → List Float → List Float → List Float → List Float → List Float → Solved
+dysonWithTolerance points orbitals tolerance times free selfEnergy retarded kernel =
+    let verdict = dysonVerdict points orbitals tolerance times free selfEnergy retarded kernel in
+    record {
+      answer = verdict;
+      retarded = afterwards verdict (greenOf points orbitals times free selfEnergy) retarded;
+      kernel = afterwards verdict (kernelOf points orbitals times free selfEnergy) kernel;
+    }
+
+-- `retarded_dyson`
+unfoldable pub dyson : ℕ → ℕ → List Float → List Float → List Float → List Float → List Float → Solved
+dyson points orbitals = dysonWithTolerance points orbitals defaultTolerance

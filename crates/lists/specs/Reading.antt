@@ -1,0 +1,33 @@
+-- A list that is joined of parts of one width, read by the part and the place in it. Assumes nothing.
+use mathlib.Core.Path.{_≡_, refl, sym, ap, _∙_}
+use mathlib.Core.Logic.{⊎-elim}
+use mathlib.Core.List.{List, [], _++_}
+use Prim.Native.Nat.{ℕ, zero, suc, _+_, _*_, _≤_, _<_}
+use native.Mathlib.Nat.{le-refl, le-of-suc-le-suc, eq-or-lt-of-le, zero-mul, suc-mul}
+use native.Mathlib.Omega.{arith}
+use lib.Arith.{digits-lt}
+use lib.ListN.{length, getD, length-append, List·getD-append}
+use lib.Seq.{getD-append-add}
+use Rattle.lists.specs.Indexed.{join}
+
+module _ {A : Type 0} where
+  pub length-join : (n w : ℕ) (f : ℕ → List A) → ((k : ℕ) → k < n → length (f k) ≡ w) → length (join n f) ≡ n * w
+  unfolding join
+  length-join zero w f h = sym (zero-mul w)
+  length-join (suc n) w f h = simp (length-append, length-join n w f (λ k l. h k (omega arith)), h n (le-refl (suc n)), suc-mul)
+
+  pub getD-join : (n w : ℕ) (f : ℕ → List A) (d : A) → ((k : ℕ) → k < n → length (f k) ≡ w) → (k j : ℕ) → k < n → j < w
+      → getD (join n f) (k * w + j) d ≡ getD (f k) j d
+  unfolding join
+  getD-join zero w f d h k j l m = absurd (omega arith)
+  getD-join (suc n) w f d h k j l m =
+      let long : length (join n f) ≡ n * w = length-join n w f (λ i i<n. h i (omega arith)) in
+      ⊎-elim
+      (λ e. ap (λ (i : ℕ). getD (join n f ++ f n) (i * w + j) d) e
+      ∙ ap (λ (i : ℕ). getD (join n f ++ f n) (i + j) d) (sym long)
+      ∙ getD-append-add (join n f) (f n) j d
+      ∙ ap (λ (i : ℕ). getD (f i) j d) (sym e))
+      (λ less.
+      let inside : k * w + j < length (join n f) = rw long (digits-lt less m) in
+      List·getD-append (join n f) (f n) d (k * w + j) inside ∙ getD-join n w f d (λ i i<n. h i (omega arith)) k j less m)
+      (eq-or-lt-of-le (le-of-suc-le-suc l))

@@ -1,0 +1,145 @@
+-- P12 of document 01, made stage by stage: each stage is computed from what the stage before it left. Assumes nothing.
+use mathlib.Core.Path.{_≡_, refl, _∙_}
+use mathlib.Core.Bool.{Bool, true, false, _&&_}
+use mathlib.Core.List.{List, [], _∷_, _++_, map}
+use Prim.Native.Nat.{ℕ, _*_}
+use lib.ListN.{replicate, take}
+use lib.Ieee as Ieee
+use lib.Ieee.{Float, nan, inf, binary64, toBits}
+use Rattle.lists.specs.Indexed.{fold, join, allBelow}
+use Rattle.complex.specs.Arithmetic.{plusZero, one, finite, larger, cadd, cmul, conj, cfinite}
+use Rattle.complex.specs.Sum.{sumFrom, largestFrom, largestIn}
+use Rattle.norm.specs.Norm.{norm}
+use Rattle.refusal.specs.declared.Verdict.{Verdict}
+use Rattle.refusal.specs.declared.Verdict.the-variants.{Pass, Refused}
+use Rattle.refusal.specs.Verdict.{by, ask, _then_, askAll, afterwards}
+use Rattle.refusal.specs.Lines.{largeEnough, withinLimits, fitting, finiteTimes, risingTimes, finiteWeights, finiteEntries, validTolerance, retardedAt, finiteWork}
+use Rattle.matrix.specs.Block.{layOut}
+use Rattle.matrix.specs.Operations.{product, scaled, adjoint, largestNorm}
+use Rattle.grid.specs.Weights.{halfStep, fullWeight, intervalWeight}
+use Rattle.grid.specs.Calls.{timeLines}
+use Rattle.two_time.specs.Layout.{readAs, layOutAll, everywhere}
+use Rattle.two_time.specs.WeightedSum.{productAt, termAt, partialSum, weightedSum, finiteSum}
+use Rattle.two_time.specs.Convolutions.{causal, causalFinite, causalNumbers, causalFine}
+use Rattle.two_time.specs.Support.{scaleOf, residual, retarded}
+use Rattle.two_time.specs.Calls.{allLong, sizeLines, operandLines, inputLines}
+use Rattle.dyson.specs.Retarded.{solve, retardedGreen, retardedFinite, retardedNumbers, retardedFine}
+use Rattle.dyson.specs.Calls.{supportLines, greenFine}
+use Rattle.dyson.specs.Example as Example
+use Rattle.dyson.specs.Example.{floats, bits}
+use Rattle.transient_run.specs.declared.Solved.the-variants.{Accepted, Refused as NotSolved}
+use Rattle.transient_run.specs.Lesser.{mixed, mixedFinite, lesserGreen, lesserFinite, mixedNumbers, mixedFine, lesserNumbers, lesserFine}
+use Rattle.transient_run.specs.Calls.{Run, Outcome, solved, solvedNumber, runFine, runVerdict, transientRun}
+
+abbrev half : Float
+half = Ieee.ofBits binary64 0x3fe0000000000000
+
+-- 0, 1, 2
+abbrev pub times : List Float
+times = floats (0 ∷ 0x3ff0000000000000 ∷ 0x4000000000000000 ∷ [])
+
+-- "free and self-energy 1 on and below the diagonal, +0 above"
+abbrev pub lower : List Float
+lower = floats (
+    0x3ff0000000000000 ∷ 0 ∷ 0 ∷ 0 ∷ 0 ∷ 0 ∷
+    0x3ff0000000000000 ∷ 0 ∷ 0x3ff0000000000000 ∷ 0 ∷ 0 ∷ 0 ∷
+    0x3ff0000000000000 ∷ 0 ∷ 0x3ff0000000000000 ∷ 0 ∷ 0x3ff0000000000000 ∷ 0 ∷ [])
+
+-- "Σ^< = i everywhere"
+abbrev pub imaginary : List Float
+imaginary = floats (
+    0 ∷ 0x3ff0000000000000 ∷ 0 ∷ 0x3ff0000000000000 ∷ 0 ∷ 0x3ff0000000000000 ∷
+    0 ∷ 0x3ff0000000000000 ∷ 0 ∷ 0x3ff0000000000000 ∷ 0 ∷ 0x3ff0000000000000 ∷
+    0 ∷ 0x3ff0000000000000 ∷ 0 ∷ 0x3ff0000000000000 ∷ 0 ∷ 0x3ff0000000000000 ∷ [])
+
+abbrev pub kernelBits : List ℕ
+kernelBits =
+    0 ∷ 0 ∷ 0 ∷ 0 ∷ 0 ∷ 0 ∷
+    0x3ff0000000000000 ∷ 0 ∷ 0 ∷ 0 ∷ 0 ∷ 0 ∷
+    0x4000000000000000 ∷ 0 ∷ 0x3ff0000000000000 ∷ 0 ∷ 0 ∷ 0 ∷ []
+
+abbrev pub retardedBits : List ℕ
+retardedBits =
+    0x3ff0000000000000 ∷ 0 ∷ 0 ∷ 0 ∷ 0 ∷ 0 ∷
+    0x3ff8000000000000 ∷ 0 ∷ 0x3ff0000000000000 ∷ 0 ∷ 0 ∷ 0 ∷
+    0x400c000000000000 ∷ 0 ∷ 0x3ff8000000000000 ∷ 0 ∷ 0x3ff0000000000000 ∷ 0 ∷ []
+
+abbrev pub mixedBits : List ℕ
+mixedBits =
+    0 ∷ 0 ∷ 0 ∷ 0x3ff4000000000000 ∷ 0 ∷ 0x400e000000000000 ∷
+    0 ∷ 0 ∷ 0 ∷ 0x3ff4000000000000 ∷ 0 ∷ 0x400e000000000000 ∷
+    0 ∷ 0 ∷ 0 ∷ 0x3ff4000000000000 ∷ 0 ∷ 0x400e000000000000 ∷ []
+
+abbrev pub lesserBits : List ℕ
+lesserBits =
+    0 ∷ 0 ∷ 0 ∷ 0 ∷ 0 ∷ 0 ∷
+    0 ∷ 0 ∷ 0 ∷ 0x3ff9000000000000 ∷ 0 ∷ 0x4012c00000000000 ∷
+    0 ∷ 0 ∷ 0 ∷ 0x4012c00000000000 ∷ 0 ∷ 0x402c200000000000 ∷ []
+
+kernel-stage : causalNumbers 3 1 times lower lower ≡ floats kernelBits
+unfolding causalNumbers causal layOutAll layOut join everywhere allBelow weightedSum partialSum termAt productAt finiteSum product scaled adjoint sumFrom fold intervalWeight halfStep cadd cmul conj cfinite finite Ieee.ofBits toBits Ieee.add Ieee.sub Ieee.mul Ieee.neg
+kernel-stage = refl
+
+retarded-stage : retardedNumbers 3 1 times lower (floats kernelBits) ≡ floats retardedBits
+unfolding retardedNumbers retardedGreen solve layOutAll layOut join everywhere allBelow weightedSum partialSum termAt productAt finiteSum product scaled adjoint sumFrom fold intervalWeight halfStep cadd cmul conj cfinite finite Ieee.ofBits toBits Ieee.add Ieee.sub Ieee.mul Ieee.neg
+retarded-stage = refl
+
+mixed-stage : mixedNumbers 3 1 times imaginary (floats retardedBits) ≡ floats mixedBits
+unfolding mixedNumbers mixed layOutAll layOut join everywhere allBelow weightedSum partialSum termAt productAt finiteSum product scaled adjoint sumFrom fold intervalWeight halfStep cadd cmul conj cfinite finite Ieee.ofBits toBits Ieee.add Ieee.sub Ieee.mul Ieee.neg
+mixed-stage = refl
+
+lesser-stage : lesserNumbers 3 1 times (floats retardedBits) (floats mixedBits) ≡ floats lesserBits
+unfolding lesserNumbers lesserGreen layOutAll layOut join everywhere allBelow weightedSum partialSum termAt productAt finiteSum product scaled adjoint sumFrom fold intervalWeight halfStep cadd cmul conj cfinite finite Ieee.ofBits toBits Ieee.add Ieee.sub Ieee.mul Ieee.neg
+lesser-stage = refl
+
+-- every block of each stage is finite
+kernel-fine : causalFine 3 1 times lower lower ≡ true
+unfolding causalFine causalFinite layOutAll layOut join everywhere allBelow weightedSum partialSum termAt productAt finiteSum product scaled adjoint sumFrom fold intervalWeight halfStep cadd cmul conj cfinite finite Ieee.ofBits toBits Ieee.add Ieee.sub Ieee.mul Ieee.neg
+kernel-fine = refl
+
+retarded-fine : retardedFine 3 1 times lower (floats kernelBits) ≡ true
+unfolding retardedFine retardedFinite retardedGreen solve layOutAll layOut join everywhere allBelow weightedSum partialSum termAt productAt finiteSum product scaled adjoint sumFrom fold intervalWeight halfStep cadd cmul conj cfinite finite Ieee.ofBits toBits Ieee.add Ieee.sub Ieee.mul Ieee.neg
+retarded-fine = refl
+
+mixed-fine : mixedFine 3 1 times imaginary (floats retardedBits) ≡ true
+unfolding mixedFine mixedFinite layOutAll layOut join everywhere allBelow weightedSum partialSum termAt productAt finiteSum product scaled adjoint sumFrom fold intervalWeight halfStep cadd cmul conj cfinite finite Ieee.ofBits toBits Ieee.add Ieee.sub Ieee.mul Ieee.neg
+mixed-fine = refl
+
+lesser-fine : lesserFine 3 1 times (floats retardedBits) (floats mixedBits) ≡ true
+unfolding lesserFine lesserFinite layOutAll layOut join everywhere allBelow weightedSum partialSum termAt productAt finiteSum product scaled adjoint sumFrom fold intervalWeight halfStep cadd cmul conj cfinite finite Ieee.ofBits toBits Ieee.add Ieee.sub Ieee.mul Ieee.neg
+lesser-fine = refl
+
+-- a run whose outputs and scratch hold ones
+abbrev pub run : Float → Run
+run tolerance =
+    record {
+      points = 3;
+      orbitals = 1;
+      tolerance = tolerance;
+      times = times;
+      free = lower;
+      selfEnergy = lower;
+      lesserSelfEnergy = imaginary;
+      retarded = replicate 18 one;
+      lesser = replicate 18 one;
+      kernel = replicate 18 one;
+      mixed = replicate 18 one;
+    }
+
+inputs : inputLines 3 1 times (lower ∷ lower ∷ imaginary ∷ []) (replicate 18 one ∷ replicate 18 one ∷ replicate 18 one ∷ replicate 18 one ∷ []) ≡ Pass
+unfolding inputLines sizeLines allLong operandLines timeLines largeEnough withinLimits fitting finiteTimes risingTimes finiteWeights finiteEntries ask askAll _then_ fullWeight halfStep allBelow finite Ieee.ofBits Ieee.sub Ieee.mul Ieee.lt
+inputs = refl
+
+support : (tolerance : Float) → validTolerance tolerance ≡ Pass → retarded 3 1 0 tolerance (readAs 3 1 lower) ≡ Pass → retarded 3 1 1 tolerance (readAs 3 1 lower) ≡ Pass → supportLines 3 1 tolerance (readAs 3 1 lower) (readAs 3 1 lower) ≡ Pass
+unfolding supportLines _then_
+support tolerance p q s = rw (p, q, s)
+
+verdict : (tolerance : Float) → supportLines 3 1 tolerance (readAs 3 1 lower) (readAs 3 1 lower) ≡ Pass → runVerdict (run tolerance) ≡ Pass
+unfolding runVerdict runFine greenFine _then_ finiteWork ask
+verdict tolerance s = rw (inputs, s, kernel-fine, kernel-stage, retarded-fine, retarded-stage, mixed-fine, mixed-stage, lesser-fine)
+
+-- whatever tolerance passes lines 8 and 9
+pub outcome : (tolerance : Float) → supportLines 3 1 tolerance (readAs 3 1 lower) (readAs 3 1 lower) ≡ Pass
+    → transientRun (run tolerance) ≡ record { answer = Accepted; retarded = floats retardedBits; lesser = floats lesserBits; kernel = floats kernelBits; mixed = floats mixedBits }
+unfolding transientRun afterwards solved
+outcome tolerance s = rw (verdict tolerance s, kernel-stage, retarded-stage, mixed-stage, lesser-stage)
