@@ -1,0 +1,93 @@
+-- Closed cases of the Langreth product (reference/expected.py, case e), 10 and another refusal.
+use mathlib.Core.Path.{_≡_, refl}
+use mathlib.Core.Bool.{Bool, true, false, _&&_}
+use mathlib.Core.List.{List, [], _∷_, _++_, map}
+use Prim.Native.Nat.{ℕ}
+use lib.ListN.{replicate, take}
+use lib.Ieee as Ieee
+use lib.Ieee.{Float, nan, binary64, toBits}
+use Rattle.lists.specs.Indexed.{fold, join, allBelow}
+use Rattle.complex.specs.Arithmetic.{plusZero, one, finite, cadd, cmul, cfinite}
+use Rattle.complex.specs.Sum.{sumFrom}
+use Rattle.refusal.specs.declared.Verdict.{Verdict}
+use Rattle.refusal.specs.declared.Verdict.the-variants.{Pass, Refused}
+use Rattle.refusal.specs.Verdict.{by, ask, _then_, askAll, numberOf, afterwards}
+use Rattle.refusal.specs.Lines.{largeEnough, withinLimits, fitting, finiteTimes, risingTimes, finiteWeights, finiteEntries, finiteWork}
+use Rattle.matrix.specs.Block.{layOut}
+use Rattle.matrix.specs.Operations.{product, scaled, added}
+use Rattle.grid.specs.Weights.{halfStep, fullWeight, intervalWeight}
+use Rattle.grid.specs.Calls.{timeLines}
+use Rattle.two_time.specs.Layout.{layOutAll, everywhere}
+use Rattle.two_time.specs.WeightedSum.{productAt, termAt, partialSum, weightedSum, finiteSum}
+use Rattle.two_time.specs.Convolutions.{convolution, convolutionFinite, causal, causalFinite, causalNumbers, causalFine}
+use Rattle.two_time.specs.Calls.{allLong, sizeLines, operandLines, inputLines}
+use Rattle.langreth.specs.Product.{advanced, advancedFinite, correlation, correlationFinite}
+use Rattle.langreth.specs.Calls.{Components, Multiplied, listed, productFine, productVerdict, langrethProduct}
+
+abbrev floats : List ℕ → List Float
+floats = map (Ieee.ofBits binary64)
+
+-- 0, 0.1
+abbrev times : List Float
+times = floats (0 ∷ 0x3fb999999999999a ∷ [])
+
+-- R = (1 + t) + ui, A = (0.3 − u) + ti, lesser 0.1·(t + 1) + 0.7i, greater (t − u) − 0.2i
+abbrev left : Components
+left =
+    record {
+      retarded = floats (
+    0x3ff0000000000000 ∷ 0 ∷ 0x3ff0000000000000 ∷ 0x3ff0000000000000 ∷ 0x4000000000000000 ∷ 0 ∷ 0x4000000000000000 ∷ 0x3ff0000000000000 ∷ []);
+      advanced = floats (
+    0x3fd3333333333333 ∷ 0 ∷ 0xbfe6666666666666 ∷ 0 ∷ 0x3fd3333333333333 ∷ 0x3ff0000000000000 ∷ 0xbfe6666666666666 ∷ 0x3ff0000000000000 ∷ []);
+      lesser = floats (
+    0x3fb999999999999a ∷ 0x3fe6666666666666 ∷ 0x3fb999999999999a ∷ 0x3fe6666666666666 ∷ 0x3fc999999999999a ∷ 0x3fe6666666666666 ∷ 0x3fc999999999999a ∷ 0x3fe6666666666666 ∷ []);
+      greater = floats (
+    0 ∷ 0xbfc999999999999a ∷ 0xbff0000000000000 ∷ 0xbfc999999999999a ∷ 0x3ff0000000000000 ∷ 0xbfc999999999999a ∷ 0 ∷ 0xbfc999999999999a ∷ []);
+    }
+
+-- R = 0.5 + (t + u)i, A = (1 + t·u) − i, lesser u + 0.9i, greater 0.6 − ti
+abbrev right : Components
+right =
+    record {
+      retarded = floats (
+    0x3fe0000000000000 ∷ 0 ∷ 0x3fe0000000000000 ∷ 0x3ff0000000000000 ∷ 0x3fe0000000000000 ∷ 0x3ff0000000000000 ∷ 0x3fe0000000000000 ∷ 0x4000000000000000 ∷ []);
+      advanced = floats (
+    0x3ff0000000000000 ∷ 0xbff0000000000000 ∷ 0x3ff0000000000000 ∷ 0xbff0000000000000 ∷ 0x3ff0000000000000 ∷ 0xbff0000000000000 ∷ 0x4000000000000000 ∷ 0xbff0000000000000 ∷ []);
+      lesser = floats (
+    0 ∷ 0x3feccccccccccccd ∷ 0x3ff0000000000000 ∷ 0x3feccccccccccccd ∷ 0 ∷ 0x3feccccccccccccd ∷ 0x3ff0000000000000 ∷ 0x3feccccccccccccd ∷ []);
+      greater = floats (
+    0x3fe3333333333333 ∷ 0x8000000000000000 ∷ 0x3fe3333333333333 ∷ 0x8000000000000000 ∷ 0x3fe3333333333333 ∷ 0xbff0000000000000 ∷ 0x3fe3333333333333 ∷ 0xbff0000000000000 ∷ []);
+    }
+
+abbrev ones : Components
+ones = record { retarded = replicate 8 one; advanced = replicate 8 one; lesser = replicate 8 one; greater = replicate 8 one }
+
+abbrev bits : Components → List (List ℕ)
+bits x = map (map (toBits binary64)) (listed x)
+
+components : bits (langrethProduct 2 1 times left right ones .out) ≡
+    (
+    0 ∷ 0 ∷ 0 ∷ 0 ∷ 0x3fa999999999999a ∷ 0x3fc0000000000000 ∷ 0 ∷ 0 ∷ [])
+    ∷ (
+    0 ∷ 0 ∷ 0xbfac28f5c28f5c28 ∷ 0x3f947ae147ae147a ∷ 0 ∷ 0 ∷ 0 ∷ 0 ∷ [])
+    ∷ (
+    0x3fa1eb851eb851eb ∷ 0x3fc3333333333334 ∷ 0x3fc1eb851eb851eb ∷ 0x3fce147ae147ae14 ∷ 0x3fa70a3d70a3d709 ∷ 0x3fcd70a3d70a3d71 ∷ 0x3fd051eb851eb852 ∷ 0x3fd428f5c28f5c28 ∷ [])
+    ∷ (
+    0x3fa47ae147ae147c ∷ 0x3f847ae147ae147c ∷ 0xbf847ae147ae1480 ∷ 0xbc60000000000000 ∷ 0x3fc999999999999a ∷ 0xbfc1eb851eb851ec ∷ 0x3fc999999999999a ∷ 0xbfc3333333333333 ∷ [])
+    ∷ []
+unfolding langrethProduct productVerdict productFine inputLines sizeLines allLong operandLines timeLines largeEnough withinLimits fitting finiteTimes risingTimes finiteWeights finiteEntries finiteWork ask askAll _then_ afterwards causalNumbers causalFine causal causalFinite advanced advancedFinite correlation correlationFinite convolution convolutionFinite layOutAll layOut join everywhere allBelow weightedSum partialSum termAt productAt finiteSum product scaled added sumFrom fold intervalWeight fullWeight halfStep cadd cmul cfinite finite Ieee.ofBits toBits Ieee.add Ieee.sub Ieee.mul Ieee.neg Ieee.lt
+components = refl
+
+-- 10 by the product of the advanced components at (1,1), where the weight is 0: each output +0. And 7 of operand 7, the right greater function
+most : List Float
+most = floats (0 ∷ 0 ∷ 0 ∷ 0 ∷ 0 ∷ 0 ∷ 0x7fe0000000000000 ∷ 0 ∷ [])
+
+abbrev zero-but-advanced : List Float → Components
+zero-but-advanced x = record { retarded = replicate 8 plusZero; advanced = x; lesser = replicate 8 plusZero; greater = replicate 8 plusZero }
+
+refused : langrethProduct 2 1 times (zero-but-advanced most) (zero-but-advanced most) ones
+    ∷ langrethProduct 2 1 times ones (record { retarded = replicate 8 one; advanced = replicate 8 one; lesser = replicate 8 one; greater = nan ∷ replicate 7 one }) ones ∷ []
+    ≡ record { answer = Refused (by 10); out = zero-but-advanced (replicate 8 plusZero) }
+    ∷ record { answer = Refused (record { number = 7; operand = 7; first = 0; second = 0; part = plusZero }); out = ones } ∷ []
+unfolding most langrethProduct productVerdict productFine inputLines sizeLines allLong operandLines timeLines largeEnough withinLimits fitting finiteTimes risingTimes finiteWeights finiteEntries finiteWork ask askAll _then_ afterwards causalNumbers causalFine causal causalFinite advanced advancedFinite correlation correlationFinite convolution convolutionFinite layOutAll layOut join everywhere allBelow weightedSum partialSum termAt productAt finiteSum product scaled added sumFrom fold intervalWeight fullWeight halfStep cadd cmul cfinite finite Ieee.ofBits toBits Ieee.add Ieee.sub Ieee.mul Ieee.neg Ieee.lt
+refused = refl

@@ -1,0 +1,78 @@
+-- Document 01, observables: the outcome of each call. Lines 1, 2, 3 and 7 of the lesser function (operand 0) and of the observable's block
+-- (operand 1) come before the order that the module names.
+use Prim.Native.Nat.{ℕ}
+use mathlib.Core.Bool.{Bool, true, cond, _&&_}
+use mathlib.Core.List.{List, [], _∷_}
+use lib.Dec.{eqb}
+use lib.ListN.{length}
+use lib.Ieee.{Float, binary64, ofBits}
+use Rattle.complex.specs.declared.Complex.{Complex}
+use Rattle.complex.specs.Arithmetic.{mul, cmul}
+use Rattle.refusal.specs.declared.Verdict.{Verdict}
+use Rattle.refusal.specs.declared.Verdict.the-variants.{Pass, Refused}
+use Rattle.refusal.specs.Verdict.{_then_}
+use Rattle.refusal.specs.Lines.{largeEnough, notEmpty, withinLimits, withinBlock, fitting, finiteEntries, validTolerance, finiteWork, timeBelow, orbitalBelow, finiteFactors, realWithin}
+use Rattle.matrix.specs.declared.DenseMatrix.{DenseMatrix}
+use Rattle.matrix.specs.declared.Checked.{Checked}
+use Rattle.matrix.specs.Block.{Entries, entriesOf, countOf, blockOf, checked}
+use Rattle.matrix.specs.Operations.{product, trace, allFinite}
+use Rattle.two_time.specs.Layout.{TwoTime, readAs, lengthOf}
+use Rattle.two_time.specs.Calls.{sizeLines, operandLines}
+use Rattle.observables.specs.declared.Observed.{Observed}
+use Rattle.observables.specs.declared.Observed.the-variants.{Number, NotReal, Refused as NotObserved}
+use Rattle.observables.specs.Density.{density}
+
+-- the paper's number of an observable's answer: 0 for a number, and 14 with the imaginary part
+unfoldable pub observedNumber : Observed → ℕ
+observedNumber (Number x) = 0
+observedNumber (NotReal part) = 14
+observedNumber (NotObserved r) = r .number
+
+-- "An observable's answer is a number, or a refusal that carries the imaginary part": number 14 carries it, any other its places
+unfoldable pub observed : Verdict → Float → Observed
+observed Pass x = Number x
+observed (Refused r) x = cond (eqb (r .number) 14) (NotReal (r .part)) (NotObserved r)
+
+-- lines 1, 2, 3 and 7 of the lesser function
+unfoldable pub lesserLines : ℕ → ℕ → List Float → Verdict
+lesserLines points orbitals lesser = sizeLines points orbitals true (lesser ∷ []) then operandLines 0 (lesser ∷ [])
+
+-- the same with a block: line by line, and a block that is not n by n is 3
+unfoldable pub lesserBlockLines : ℕ → ℕ → List Float → DenseMatrix → Verdict
+lesserBlockLines points orbitals lesser x =
+    (largeEnough points orbitals then notEmpty (x .rows) (x .columns))
+    then (withinLimits points orbitals then withinBlock (x .rows) (x .columns))
+    then fitting (eqb (length lesser) (lengthOf points orbitals) && (eqb (x .rows) orbitals && eqb (x .columns) orbitals))
+    then (finiteEntries 0 lesser (length lesser) then finiteEntries 1 (x .values) (countOf x))
+
+module _ (points orbitals : ℕ) (lesser : List Float) where
+  abbrev rho : ℕ → Entries
+  rho = density (readAs points orbitals lesser)
+
+  -- `density_matrix`: its questions, then 11
+  unfoldable pub densityMatrix : ℕ → Checked
+  densityMatrix time = checked (lesserLines points orbitals lesser then timeBelow time points) (blockOf orbitals orbitals (rho time))
+
+  -- "`particle_number`: 11, 8, 14."
+  unfoldable pub particleNumber : ℕ → Float → Observed
+  particleNumber time tolerance =
+      let z = trace orbitals (rho time) in
+      observed (lesserLines points orbitals lesser then timeBelow time points then validTolerance tolerance then realWithin tolerance (z .im)) (z .re)
+
+  -- "`one_body_expectation`: 11, 10 (the product observable·density), 8, 14."
+  unfoldable pub oneBodyExpectation : ℕ → DenseMatrix → Float → Observed
+  oneBodyExpectation time x tolerance =
+      let made = product orbitals (entriesOf x) (rho time) in
+      let z = trace orbitals made in
+      observed
+      (lesserBlockLines points orbitals lesser x then timeBelow time points
+      then finiteWork (allFinite orbitals orbitals made) then validTolerance tolerance then realWithin tolerance (z .im))
+      (z .re)
+
+  -- "`bond_flow_into`: 13, 12, 11; then (2·charge)·Im(hopping·rho_ba)."
+  unfoldable pub bondFlowInto : ℕ → ℕ → ℕ → Complex → Float → Observed
+  bondFlowInto time a b hopping charge =
+      observed
+      (lesserLines points orbitals lesser then finiteFactors hopping charge
+      then (orbitalBelow a orbitals then orbitalBelow b orbitals) then timeBelow time points)
+      (mul (mul (ofBits binary64 0x4000_0000_0000_0000) charge) (cmul hopping (rho time b a) .im))

@@ -1,0 +1,104 @@
+-- Closed cases of the observables: P10 of document 01, the run with two orbitals (reference/expected.py, case d), and each refusal.
+use mathlib.Core.Path.{_≡_, refl}
+use mathlib.Core.Bool.{Bool, true, false, _&&_}
+use mathlib.Core.List.{List, [], _∷_, _++_, map}
+use Prim.Native.Nat.{ℕ}
+use lib.ListN.{replicate, take}
+use lib.Ieee as Ieee
+use lib.Ieee.{Float, nan, inf, binary64, toBits}
+use Rattle.lists.specs.Indexed.{fold, join, allBelow}
+use Rattle.complex.specs.declared.Complex.{Complex}
+use Rattle.complex.specs.Arithmetic.{plusZero, one, czero, finite, size, cadd, cmul, cfinite}
+use Rattle.complex.specs.Sum.{sumFrom}
+use Rattle.refusal.specs.declared.Verdict.{Verdict}
+use Rattle.refusal.specs.declared.Verdict.the-variants.{Pass, Refused}
+use Rattle.refusal.specs.Verdict.{by, ask, _then_, askAll, numberOf}
+use Rattle.refusal.specs.Lines.{largeEnough, notEmpty, withinLimits, withinBlock, fitting, finiteEntries, validTolerance, finiteWork, timeBelow, orbitalBelow, finiteFactors, realWithin}
+use Rattle.matrix.specs.declared.DenseMatrix.{DenseMatrix}
+use Rattle.matrix.specs.declared.Checked.{Checked}
+use Rattle.matrix.specs.Block.{layOut, blockOf, checked}
+use Rattle.matrix.specs.Operations.{product, trace, allFinite}
+use Rattle.two_time.specs.Calls.{allLong, sizeLines, operandLines}
+use Rattle.observables.specs.declared.Observed.{Observed}
+use Rattle.observables.specs.declared.Observed.the-variants.{Number, NotReal, Refused as NotObserved}
+use Rattle.observables.specs.Density.{density}
+use Rattle.observables.specs.Calls.{observedNumber, observed, lesserLines, lesserBlockLines, densityMatrix, particleNumber, oneBodyExpectation, bondFlowInto}
+
+abbrev floats : List ℕ → List Float
+floats = map (Ieee.ofBits binary64)
+
+abbrev f : ℕ → Float
+f = Ieee.ofBits binary64
+
+-- ---- two points, one orbital
+
+-- G^<(0,0) as given, and i at (1,1), so that the density there is 1
+abbrev lesser : ℕ → ℕ → List Float
+lesser a b = floats (a ∷ b ∷ 0 ∷ 0 ∷ 0 ∷ 0 ∷ 0 ∷ 0x3ff0_0000_0000_0000 ∷ [])
+
+-- P10: the density is (0 − 1i)·(−0.5 + 2i) = 2 + 0.5i: with tolerance 0.5 the number 2, and 14 where the imaginary part is 0.75
+p10 : particleNumber 2 1 (lesser 0xbfe0_0000_0000_0000 0x4000_0000_0000_0000) 0 (f 0x3fe0_0000_0000_0000)
+    ∷ particleNumber 2 1 (lesser 0xbfe8_0000_0000_0000 0x4000_0000_0000_0000) 0 (f 0x3fe0_0000_0000_0000)
+    ∷ particleNumber 2 1 (lesser 0 0) 1 one ∷ []
+    ≡ Number (f 0x4000_0000_0000_0000) ∷ NotReal (f 0x3fe8_0000_0000_0000) ∷ Number one ∷ []
+unfolding particleNumber observed lesserLines sizeLines allLong operandLines largeEnough withinLimits fitting finiteEntries validTolerance timeBelow realWithin ask askAll _then_ trace sumFrom fold density size cadd cmul finite Ieee.ofBits Ieee.add Ieee.sub Ieee.mul Ieee.neg Ieee.lt
+p10 = refl
+
+-- the density of G^<(0,0) = 3 + 2i is 2 − 3i, and +0 follows the entry
+densities : densityMatrix 2 1 (lesser 0x4008_0000_0000_0000 0x4000_0000_0000_0000) 0 .block .rows ∷ map (toBits binary64) (take 3 (densityMatrix 2 1 (lesser 0x4008_0000_0000_0000 0x4000_0000_0000_0000) 0 .block .values))
+    ≡ 1 ∷ 0x4000_0000_0000_0000 ∷ 0xc008_0000_0000_0000 ∷ 0 ∷ []
+unfolding densityMatrix lesserLines sizeLines allLong operandLines largeEnough withinLimits fitting finiteEntries timeBelow ask askAll _then_ checked blockOf layOut join density cmul finite Ieee.ofBits toBits Ieee.add Ieee.sub Ieee.mul Ieee.neg
+densities = refl
+
+-- in order: 11 before 8; 3, 7 with its place, and 1 before those
+refused : particleNumber 2 1 (lesser 0 0) 2 plusZero ∷ particleNumber 2 1 (lesser 0 0) 1 plusZero ∷ particleNumber 2 1 (one ∷ []) 2 plusZero
+    ∷ particleNumber 2 1 (plusZero ∷ plusZero ∷ plusZero ∷ nan ∷ replicate 4 one) 2 plusZero ∷ particleNumber 1 1 [] 2 plusZero ∷ []
+    ≡ NotObserved (by 11) ∷ NotObserved (by 8) ∷ NotObserved (by 3) ∷ NotObserved (record { number = 7; operand = 0; first = 3; second = 0; part = plusZero }) ∷ NotObserved (by 1) ∷ []
+unfolding particleNumber observed lesserLines sizeLines allLong operandLines largeEnough withinLimits fitting finiteEntries validTolerance timeBelow realWithin ask askAll _then_ trace sumFrom fold density size cadd cmul finite Ieee.ofBits Ieee.add Ieee.sub Ieee.mul Ieee.neg Ieee.lt
+refused = refl
+
+-- ---- the run with two orbitals
+
+abbrev run : List Float
+run = floats (
+    0 ∷ 0 ∷ 0 ∷ 0 ∷ 0 ∷ 0 ∷ 0 ∷ 0 ∷
+    0 ∷ 0 ∷ 0 ∷ 0 ∷ 0 ∷ 0 ∷ 0 ∷ 0 ∷
+    0 ∷ 0 ∷ 0 ∷ 0 ∷ 0 ∷ 0 ∷ 0 ∷ 0 ∷
+    0 ∷ 0 ∷ 0 ∷ 0 ∷ 0 ∷ 0 ∷ 0 ∷ 0 ∷
+    0x3ff3fb1000000000 ∷ 0x4020be3400000000 ∷ 0x401b9fd400000000 ∷ 0x4032381600000000 ∷ 0x3fc0b28000000000 ∷ 0x40356e0e00000000 ∷ 0x4026451200000000 ∷ 0x4048202500000000 ∷
+    0x40745241ac000000 ∷ 0xc0428d28e0000000 ∷ 0x40854d202a000000 ∷ 0xc070a16850000000 ∷ 0x408a0d5226000000 ∷ 0x403913fe40000000 ∷ 0x409c655a81000000 ∷ 0xc07a62dd60000000 ∷
+    0 ∷ 0 ∷ 0 ∷ 0 ∷ 0 ∷ 0 ∷ 0 ∷ 0 ∷
+    0xc074ccf6c4000000 ∷ 0x405bd07530000000 ∷ 0xc085b50fd2000000 ∷ 0x407a1a054c000000 ∷ 0xc0885dc256000000 ∷ 0x404bf09000000000 ∷ 0xc09b05034f000000 ∷ 0x4080293da8000000 ∷
+    0x40ae631f2e400000 ∷ 0x40c990991fa00000 ∷ 0x40cf095134880000 ∷ 0x40d978ae6ce40000 ∷ 0x4092241cf5400000 ∷ 0x40ddb0d9efec0000 ∷ 0x40d36b79a3340000 ∷ 0x40efc7962bd40000 ∷ [])
+
+abbrev million : Float
+million = f 0x412e_8480_0000_0000
+
+-- 1, 0.5 − i over 0.5 + i, −2
+abbrev x : DenseMatrix
+x = record { rows = 2; columns = 2; values = floats (0x3ff0_0000_0000_0000 ∷ 0 ∷ 0x3fe0_0000_0000_0000 ∷ 0xbff0_0000_0000_0000 ∷ 0x3fe0_0000_0000_0000 ∷ 0x3ff0_0000_0000_0000 ∷ 0xc000_0000_0000_0000 ∷ 0 ∷ []) }
+
+numbers : particleNumber 3 2 run 0 million ∷ particleNumber 3 2 run 1 million ∷ particleNumber 3 2 run 2 million ∷ particleNumber 3 2 run 2 one ∷ []
+    ≡ Number plusZero ∷ Number (f 0x404c_4fb2_0000_0000) ∷ Number (f 0x40f3_15de_39de_0000) ∷ NotReal (f 0xc0d7_37dd_88fc_0000) ∷ []
+unfolding particleNumber observed lesserLines sizeLines allLong operandLines largeEnough withinLimits fitting finiteEntries validTolerance timeBelow realWithin ask askAll _then_ trace sumFrom fold density size cadd cmul finite Ieee.ofBits Ieee.add Ieee.sub Ieee.mul Ieee.neg Ieee.lt
+numbers = refl
+
+-- the expectation; 3 of a block that is not n by n, after 2 of one with 17 rows; 7 of operand 1; 10 of the product before 8
+expectations : oneBodyExpectation 3 2 run 2 x million
+    ∷ oneBodyExpectation 3 2 run 2 (record { rows = 1; columns = 1; values = one ∷ one ∷ [] }) million ∷ oneBodyExpectation 3 2 run 2 (record { rows = 17; columns = 1; values = [] }) million
+    ∷ oneBodyExpectation 3 2 run 2 (record { rows = 2; columns = 2; values = replicate 5 one ++ nan ∷ one ∷ one ∷ [] }) million
+    ∷ oneBodyExpectation 3 2 run 2 (record { rows = 2; columns = 2; values = replicate 8 (f 0x7fef_ffff_ffff_ffff) }) plusZero ∷ oneBodyExpectation 3 2 run 3 x plusZero ∷ []
+    ≡ Number (f 0xc0f2_17b8_498a_0000) ∷ NotObserved (by 3) ∷ NotObserved (by 2)
+    ∷ NotObserved (record { number = 7; operand = 1; first = 5; second = 0; part = plusZero }) ∷ NotObserved (by 10) ∷ NotObserved (by 11) ∷ []
+unfolding oneBodyExpectation observed lesserBlockLines largeEnough notEmpty withinLimits withinBlock fitting finiteEntries validTolerance finiteWork timeBelow realWithin ask askAll _then_ product trace allFinite allBelow sumFrom fold density size cadd cmul cfinite finite Ieee.ofBits Ieee.add Ieee.sub Ieee.mul Ieee.neg Ieee.lt
+expectations = refl
+
+-- hopping 0.5 + 0.25i, charge factor 1.5; then 13 before 12 before 11
+abbrev hopping : Complex
+hopping = record { re = f 0x3fe0_0000_0000_0000; im = f 0x3fd0_0000_0000_0000 }
+
+flows : bondFlowInto 3 2 run 1 0 1 hopping (f 0x3ff8_0000_0000_0000) ∷ bondFlowInto 3 2 run 3 2 2 hopping nan ∷ bondFlowInto 3 2 run 3 2 0 hopping one ∷ bondFlowInto 3 2 run 3 0 2 hopping one
+    ∷ bondFlowInto 3 2 run 3 0 1 hopping one ∷ []
+    ≡ Number (f 0x402f_c0e6_0000_0000) ∷ NotObserved (by 13) ∷ NotObserved (by 12) ∷ NotObserved (by 12) ∷ NotObserved (by 11) ∷ []
+unfolding bondFlowInto observed lesserLines sizeLines allLong operandLines largeEnough withinLimits fitting finiteEntries timeBelow orbitalBelow finiteFactors ask askAll _then_ density cmul cfinite finite Ieee.ofBits Ieee.add Ieee.sub Ieee.mul Ieee.neg
+flows = refl
