@@ -3,7 +3,7 @@ use mathlib.Core.Path.{_≡_, refl, _∙_}
 use mathlib.Core.Bool.{Bool, true, false, _&&_}
 use mathlib.Core.List.{List, [], _∷_, _++_, map}
 use Prim.Native.Nat.{ℕ, _*_}
-use lib.ListN.{replicate, take}
+use lib.ListN.{length}
 use lib.Ieee as Ieee
 use lib.Ieee.{Float, nan, inf, binary64, toBits}
 use Rattle.lists.specs.Indexed.{fold, join, allBelow}
@@ -109,9 +109,9 @@ lesser-fine : lesserFine 3 1 times (floats retardedBits) (floats mixedBits) ≡ 
 unfolding lesserFine lesserFinite layOutAll layOut join everywhere allBelow weightedSum partialSum termAt productAt finiteSum product scaled adjoint sumFrom fold intervalWeight halfStep cadd cmul conj cfinite finite Ieee.ofBits toBits Ieee.add Ieee.sub Ieee.mul Ieee.neg
 lesser-fine = refl
 
--- a run whose outputs and scratch hold ones
-abbrev pub run : Float → Run
-run tolerance =
+-- the run, with outputs and scratch that hold `before`
+abbrev pub run : Float → List Float → Run
+run tolerance before =
     record {
       points = 3;
       orbitals = 1;
@@ -120,26 +120,23 @@ run tolerance =
       free = lower;
       selfEnergy = lower;
       lesserSelfEnergy = imaginary;
-      retarded = replicate 18 one;
-      lesser = replicate 18 one;
-      kernel = replicate 18 one;
-      mixed = replicate 18 one;
+      retarded = before;
+      lesser = before;
+      kernel = before;
+      mixed = before;
     }
 
-inputs : inputLines 3 1 times (lower ∷ lower ∷ imaginary ∷ []) (replicate 18 one ∷ replicate 18 one ∷ replicate 18 one ∷ replicate 18 one ∷ []) ≡ Pass
+inputs : (before : List Float) → length before ≡ 18 → inputLines 3 1 times (lower ∷ lower ∷ imaginary ∷ []) (before ∷ before ∷ before ∷ before ∷ []) ≡ Pass
 unfolding inputLines sizeLines allLong operandLines timeLines largeEnough withinLimits fitting finiteTimes risingTimes finiteWeights finiteEntries ask askAll _then_ fullWeight halfStep allBelow finite Ieee.ofBits Ieee.sub Ieee.mul Ieee.lt
-inputs = refl
+inputs before h = rw h
 
-support : (tolerance : Float) → validTolerance tolerance ≡ Pass → retarded 3 1 0 tolerance (readAs 3 1 lower) ≡ Pass → retarded 3 1 1 tolerance (readAs 3 1 lower) ≡ Pass → supportLines 3 1 tolerance (readAs 3 1 lower) (readAs 3 1 lower) ≡ Pass
-unfolding supportLines _then_
-support tolerance p q s = rw (p, q, s)
+module _ (tolerance : Float) (before : List Float) (long : length before ≡ 18) (passed : supportLines 3 1 tolerance (readAs 3 1 lower) (readAs 3 1 lower) ≡ Pass) where
+  verdict : runVerdict (run tolerance before) ≡ Pass
+  unfolding runVerdict runFine greenFine _then_ finiteWork ask
+  verdict = rw (inputs before long, passed, kernel-fine, kernel-stage, retarded-fine, retarded-stage, mixed-fine, mixed-stage, lesser-fine)
 
-verdict : (tolerance : Float) → supportLines 3 1 tolerance (readAs 3 1 lower) (readAs 3 1 lower) ≡ Pass → runVerdict (run tolerance) ≡ Pass
-unfolding runVerdict runFine greenFine _then_ finiteWork ask
-verdict tolerance s = rw (inputs, s, kernel-fine, kernel-stage, retarded-fine, retarded-stage, mixed-fine, mixed-stage, lesser-fine)
-
--- whatever tolerance passes lines 8 and 9
-pub outcome : (tolerance : Float) → supportLines 3 1 tolerance (readAs 3 1 lower) (readAs 3 1 lower) ≡ Pass
-    → transientRun (run tolerance) ≡ record { answer = Accepted; retarded = floats retardedBits; lesser = floats lesserBits; kernel = floats kernelBits; mixed = floats mixedBits }
-unfolding transientRun afterwards solved
-outcome tolerance s = rw (verdict tolerance s, kernel-stage, retarded-stage, mixed-stage, lesser-stage)
+  -- "G^<(1,1) = 1.5625i, G^<(2,2) = 14.0625i", whatever tolerance passes lines 8 and 9
+  pub outcome : transientRun (run tolerance before)
+      ≡ record { answer = Accepted; retarded = floats retardedBits; lesser = floats lesserBits; kernel = floats kernelBits; mixed = floats mixedBits }
+  unfolding transientRun afterwards solved
+  outcome = rw (verdict, kernel-stage, retarded-stage, mixed-stage, lesser-stage)

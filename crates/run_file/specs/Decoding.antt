@@ -1,0 +1,61 @@
+-- Document 01, run file: "N, n as u32; a contents table of four rows (times, free, retarded self-energy, Σ^<), each u32 byte offset and u32
+-- count of numbers; then bodies, eight bytes a number. Well formed: at least 40 bytes, and, once lines 1 and 2 pass, bodies adjoin in table
+-- order from byte 40, counts match, length is exact."
+use Prim.Native.Nat.{ℕ, zero, suc, _+_, _*_}
+use mathlib.Core.Bool.{Bool, true, _&&_}
+use mathlib.Core.List.{List, [], _∷_}
+use lib.Dec.{leb, eqb}
+use lib.ListN.{length, replicate}
+use lib.Ieee.{Float}
+use Rattle.complex.specs.Arithmetic.{plusZero}
+use Rattle.refusal.specs.declared.Verdict.{Verdict}
+use Rattle.refusal.specs.Verdict.{_then_}
+use Rattle.refusal.specs.Lines.{largeEnough, withinProgram, wellFormed}
+use Rattle.two_time.specs.Layout.{lengthOf}
+use Rattle.dyson.specs.Calls.{defaultTolerance}
+use Rattle.transient_run.specs.Calls.{Run}
+use Rattle.run_file.specs.Bytes.{u32, numbers}
+
+module _ (bytes : List ℕ) where
+  abbrev pub pointsOf : ℕ
+  pointsOf = u32 0 bytes
+
+  abbrev pub orbitalsOf : ℕ
+  orbitalsOf = u32 4 bytes
+
+  -- the counts of numbers that the four bodies have, in table order
+  abbrev pub counts : List ℕ
+  counts =
+      let each = lengthOf pointsOf orbitalsOf in
+      pointsOf ∷ each ∷ each ∷ each ∷ []
+
+  -- From row `row` of the table on, whose body is to start at byte `start`: each row names its body's start and count, the bodies adjoin,
+  -- and the last ends where the bytes do.
+  unfoldable pub tableFits : ℕ → ℕ → List ℕ → Bool
+  tableFits row start [] = eqb (length bytes) start
+  tableFits row start (count ∷ rest) =
+      (eqb (u32 (8 + 8 * row) bytes) start && eqb (u32 (12 + 8 * row) bytes) count) && tableFits (suc row) (start + 8 * count) rest
+
+  -- 15 before line 1, lines 1 and 2 "even where the rest is ill formed", then 15; lines 4 to 10 are the run's own
+  unfoldable pub fileLines : Verdict
+  fileLines =
+      wellFormed (leb 40 (length bytes)) then largeEnough pointsOf orbitalsOf then withinProgram pointsOf orbitalsOf then wellFormed (tableFits 0 40 counts)
+
+  -- the run of a well-formed file, with the tolerance 1e-12, in buffers that hold +0
+  unfoldable pub runOf : Run
+  runOf =
+      let each = lengthOf pointsOf orbitalsOf in
+      let free = 40 + 8 * pointsOf in
+      record {
+        points = pointsOf;
+        orbitals = orbitalsOf;
+        tolerance = defaultTolerance;
+        times = numbers 40 pointsOf bytes;
+        free = numbers free each bytes;
+        selfEnergy = numbers (free + 8 * each) each bytes;
+        lesserSelfEnergy = numbers (free + 16 * each) each bytes;
+        retarded = replicate each plusZero;
+        lesser = replicate each plusZero;
+        kernel = replicate each plusZero;
+        mixed = replicate each plusZero;
+      }

@@ -1,0 +1,7 @@
+-- Document 01, run file: the bytes of a run, its questions in order, the text that the program prints, and closed cases.
+pub mod Bytes
+pub mod Decoding
+pub mod Text
+pub mod Program
+pub mod P12
+pub mod Cases
