@@ -1,9 +1,10 @@
 -- A list that is joined of parts of one width, read by the part and the place in it. Assumes nothing.
-use mathlib.Core.Path.{_≡_, refl, sym, ap, _∙_}
+use mathlib.Core.Path.{_≡_, refl, sym, ap, subst, _∙_}
 use mathlib.Core.Logic.{⊎-elim}
 use mathlib.Core.List.{List, [], _++_}
-use Prim.Native.Nat.{ℕ, zero, suc, _+_, _*_, _≤_, _<_}
+use Prim.Native.Nat.{ℕ, zero, suc, _+_, _-_, _*_, _≤_, _<_}
 use native.Mathlib.Nat.{le-refl, le-of-suc-le-suc, eq-or-lt-of-le, zero-mul, suc-mul}
+use native.Mathlib.Decide.{decLt}
 use native.Mathlib.Omega.{arith}
 use lib.Arith.{digits-lt}
 use lib.ListN.{length, getD, length-append, List·getD-append}
@@ -31,3 +32,19 @@ module _ {A : Type 0} where
       let inside : k * w + j < length (join n f) = rw long (digits-lt less m) in
       List·getD-append (join n f) (f n) d (k * w + j) inside ∙ getD-join n w f d (λ i i<n. h i (omega arith)) k j less m)
       (eq-or-lt-of-le (le-of-suc-le-suc l))
+
+  -- what holds of every element of every part holds of every element
+  pub each-in-join : (P : A → Type 0) (n : ℕ) (f : ℕ → List A) (d : A) → ((k : ℕ) → k < n → (j : ℕ) → j < length (f k) → P (getD (f k) j d))
+      → (i : ℕ) → i < length (join n f) → P (getD (join n f) i d)
+  unfolding join
+  each-in-join P zero f d h i l = absurd (omega arith)
+  each-in-join P (suc n) f d h i l =
+      elim (decLt i (length (join n f)))
+      [ yes inside ↦ subst P (sym (List·getD-append (join n f) (f n) d i inside)) (each-in-join P n f d (λ k hk. h k (omega arith)) i inside)
+      | no outside ↦
+        (let past : length (join n f) ≤ i = omega arith in
+        let j : ℕ = i - length (join n f) in
+        let at : i ≡ length (join n f) + j = omega arith in
+        let fits : j < length (f n) = omega (arith, length-append (join n f) (f n)) in
+        subst P (sym (ap (λ (m : ℕ). getD (join n f ++ f n) m d) at ∙ getD-append-add (join n f) (f n) j d)) (h n (le-refl (suc n)) j fits))
+      ]

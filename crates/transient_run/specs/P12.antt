@@ -131,7 +131,7 @@ unfolding inputLines sizeLines allLong operandLines timeLines largeEnough within
 inputs before h = rw h
 
 module _ (tolerance : Float) (before : List Float) (long : length before ≡ 18) (passed : supportLines 3 1 tolerance (readAs 3 1 lower) (readAs 3 1 lower) ≡ Pass) where
-  verdict : runVerdict (run tolerance before) ≡ Pass
+  pub verdict : runVerdict (run tolerance before) ≡ Pass
   unfolding runVerdict runFine greenFine _then_ finiteWork ask
   verdict = rw (inputs before long, passed, kernel-fine, kernel-stage, retarded-fine, retarded-stage, mixed-fine, mixed-stage, lesser-fine)
 

@@ -3,6 +3,7 @@ pub mod Layout
 pub mod Reading
 pub mod WeightedSum
 pub mod Agreement
+pub mod Finite
 pub mod Convolutions
 pub mod Support
 pub mod Calls

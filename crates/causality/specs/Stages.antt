@@ -1,0 +1,101 @@
+-- Each stage of a run reads only what stands on and below the diagonal in rows to k, or with both indices to k: the four sums, by one lemma.
+-- Assumes nothing.
+use mathlib.Core.Path.{_≡_, refl}
+use mathlib.Core.Bool.{true, false}
+use mathlib.Core.List.{List}
+use Prim.Native.Nat.{ℕ, zero, suc, _+_, _-_, _≤_, _<_}
+use native.Mathlib.Nat.{le-trans}
+use native.Mathlib.Omega.{arith}
+use lib.Dec.{ltb}
+use lib.Ieee.{Float}
+use borrow.Author.Tests.{ltb-false}
+use Rattle.lists.specs.Agreement.{cond-agree}
+use Rattle.matrix.specs.Block.{Entries}
+use Rattle.matrix.specs.Operations.{adjoint}
+use Rattle.matrix.specs.Agreement.{Agree, adjoint-agree}
+use Rattle.grid.specs.Weights.{intervalWeight}
+use Rattle.grid.specs.Agreement.{AgreeTo, weight-agree}
+use Rattle.two_time.specs.Layout.{TwoTime}
+use Rattle.two_time.specs.WeightedSum.{Terms, weightedSum}
+use Rattle.two_time.specs.Agreement.{AgreeTerms, weighted-agree}
+use Rattle.two_time.specs.Convolutions.{causalTerms, causal}
+use Rattle.dyson.specs.Retarded.{dysonTerms, solve, retardedGreen}
+use Rattle.transient_run.specs.Lesser.{mixedTerms, mixed, lesserTerms, lesserGreen}
+
+-- two functions agree on and below the diagonal in rows to k; in rows to k; with both indices to k
+abbrev pub LowerTo : ℕ → ℕ → TwoTime → TwoTime → Type 0
+LowerTo n k x y = (t u : ℕ) → t ≤ k → u ≤ t → Agree n (x t u) (y t u)
+
+abbrev pub RowsTo : ℕ → ℕ → TwoTime → TwoTime → Type 0
+RowsTo n k x y = (t u : ℕ) → t ≤ k → Agree n (x t u) (y t u)
+
+abbrev pub SquareTo : ℕ → ℕ → TwoTime → TwoTime → Type 0
+SquareTo n k x y = (t u : ℕ) → t ≤ k → u ≤ k → Agree n (x t u) (y t u)
+
+module _ (n k : ℕ) (times times' : List Float) (ht : AgreeTo k times times') where
+  -- the weights of an interval that ends at e ≤ k
+  weights : (s e p : ℕ) → e ≤ k → s ≤ p → p ≤ e → intervalWeight times p s e ≡ intervalWeight times' p s e
+  weights s e p he lo hi = weight-agree times times' p s e (λ i hi'. ht i (le-trans hi' he)) lo hi
+
+  -- K(t,u) sums over u ≤ s ≤ t
+  pub causal-stage : (x x' y y' : TwoTime) → LowerTo n k x x' → LowerTo n k y y' → LowerTo n k (causal n times x y) (causal n times' x' y')
+  unfolding causal
+  causal-stage x x' y y' hx hy t u hk hu a b ha hb =
+      cond-agree (ltb t u) _ _ _ _ (λ _. refl)
+      (λ _. weighted-agree n (causalTerms n times x y t u) (causalTerms n times' x' y' t u)
+      (record {
+        from = refl;
+        count = refl;
+        start = λ c d hc hd. refl;
+        weight = λ s lo hi. weights u t s hk lo (omega arith);
+        left = λ s lo hi. hx t s hk (omega arith);
+        right = λ s lo hi. hy s u (omega arith) lo;
+      }) a b ha hb)
+
+  -- G(t,u) sums over u ≤ s < t, and above the diagonal is +0
+  module _ (f f' m m' : TwoTime) (hf : LowerTo n k f f') (hm : LowerTo n k m m') where
+    solve-stage : (d : ℕ) → LowerTo n k (solve n times f m d) (solve n times' f' m' d)
+    unfolding solve
+    solve-stage zero t u hk hu = λ a b ha hb. refl
+    solve-stage (suc d) t u hk hu =
+        weighted-agree n (dysonTerms n times f m (solve n times f m d) t u) (dysonTerms n times' f' m' (solve n times' f' m' d) t u)
+        (record {
+          from = refl;
+          count = refl;
+          start = hf t u hk hu;
+          weight = λ s lo hi. weights u t s hk lo (omega arith);
+          left = λ s lo hi. hm t s hk (omega arith);
+          right = λ s lo hi. solve-stage d s u (omega arith) lo;
+        })
+
+    pub retarded-stage : RowsTo n k (retardedGreen n times f m) (retardedGreen n times' f' m')
+    unfolding retardedGreen
+    retarded-stage t u hk a b ha hb = cond-agree (ltb t u) _ _ _ _ (λ _. refl) (λ below. solve-stage (suc t) t u hk (ltb-false t u below) a b ha hb)
+
+  -- X(t,u) sums over s ≤ u
+  pub mixed-stage : (x x' g g' : TwoTime) → SquareTo n k x x' → SquareTo n k g g' → SquareTo n k (mixed n times x g) (mixed n times' x' g')
+  unfolding mixed
+  mixed-stage x x' g g' hx hg t u hk hu =
+      weighted-agree n (mixedTerms n times x g t u) (mixedTerms n times' x' g' t u)
+      (record {
+        from = refl;
+        count = refl;
+        start = λ c d hc hd. refl;
+        weight = λ s lo hi. weights 0 u s hu lo (omega arith);
+        left = λ s lo hi. hx t s hk (omega arith);
+        right = λ s lo hi. adjoint-agree n (g u s) (g' u s) (hg u s hu (omega arith));
+      })
+
+  -- G^<(t,u) sums over s ≤ t
+  pub lesser-stage : (g g' x x' : TwoTime) → SquareTo n k g g' → SquareTo n k x x' → SquareTo n k (lesserGreen n times g x) (lesserGreen n times' g' x')
+  unfolding lesserGreen
+  lesser-stage g g' x x' hg hx t u hk hu =
+      weighted-agree n (lesserTerms n times g x t u) (lesserTerms n times' g' x' t u)
+      (record {
+        from = refl;
+        count = refl;
+        start = λ c d hc hd. refl;
+        weight = λ s lo hi. weights 0 t s hk lo (omega arith);
+        left = λ s lo hi. hg t s hk (omega arith);
+        right = λ s lo hi. hx s u (omega arith) hu;
+      })

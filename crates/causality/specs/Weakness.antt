@@ -1,0 +1,108 @@
+-- Demand 3 alone is weak: a solver that leaves +0 everywhere, and one that leaves the free function with +0 above the diagonal, meet the same
+-- statement, and P11 tells both from the definition. So the rows themselves are demand 2's. Assumes nothing.
+use mathlib.Core.Path.{_≡_, refl, sym, ap, _∙_}
+use mathlib.Core.Bool.{Bool, true, false, cond}
+use mathlib.Core.List.{List, [], _∷_}
+use Prim.Native.Nat.{ℕ, zero, suc, _≤_, _<_}
+use native.Mathlib.Omega.{arith}
+use lib.Dec.{ltb}
+use lib.ListN.{length, getD, replicate}
+use lib.Ieee as Ieee
+use lib.Ieee.{Float, nan, binary64, toBits}
+use borrow.Author.Tests.{lt-ltb, ltb-false}
+use Rattle.lists.specs.Indexed.{fold, join}
+use Rattle.lists.specs.Agreement.{cond-agree}
+use Rattle.complex.specs.Arithmetic.{one, czero, finite, larger, cfinite}
+use Rattle.complex.specs.Sum.{largestFrom, largestIn}
+use Rattle.norm.specs.Norm.{norm}
+use Rattle.refusal.specs.declared.Verdict.the-variants.{Pass}
+use Rattle.refusal.specs.Verdict.{ask, _then_, askAll}
+use Rattle.refusal.specs.Lines.{validTolerance, retardedAt}
+use Rattle.matrix.specs.Block.{layOut}
+use Rattle.matrix.specs.Operations.{largestNorm}
+use Rattle.two_time.specs.Layout.{TwoTime, readAs, layOutAll}
+use Rattle.two_time.specs.Support.{scaleOf, residual, retarded}
+use Rattle.dyson.specs.Calls.{supportLines}
+use Rattle.dyson.specs.Example.{floats}
+use Rattle.transient_run.specs.Calls.{Run, Outcome, runVerdict, transientRun}
+use Rattle.transient_run.specs.P12 as P12
+use Rattle.causality.specs.Statement.{Solver, of, SameTo, Demand3}
+use Rattle.causality.specs.Stages.{RowsTo}
+use Rattle.causality.specs.Solvers.{told, left-made, solverOf, ReadsNoLater, meets}
+
+-- +0 everywhere
+abbrev nothing : Run → TwoTime
+nothing r t u a b = czero
+
+-- the free function, +0 above the diagonal
+abbrev freeBelow : Run → TwoTime
+freeBelow r t u a b = cond (ltb t u) czero (of r (r .free) t u a b)
+
+abbrev cleared : Run → List Float
+cleared r = layOutAll (r .points) (r .orbitals) (nothing r)
+
+abbrev pub allZero : Solver
+allZero = solverOf nothing nothing cleared cleared
+
+abbrev pub freeOnly : Solver
+freeOnly = solverOf freeBelow nothing cleared cleared
+
+zero-finite : cfinite czero ≡ true
+unfolding cfinite finite Ieee.ofBits
+zero-finite = refl
+
+-- one argument for both: whatever G^R is, with G^< at +0
+no-lesser : (g : Run → TwoTime)
+    → ((k : ℕ) (r r' : Run) → SameTo k r (told r' (r .orbitals)) → RowsTo (r .orbitals) k (g r) (g (told r' (r .orbitals))))
+    → ((r : Run) (t u a b : ℕ) → t < u → g r t u a b ≡ czero) → Demand3 (solverOf g nothing cleared cleared)
+no-lesser g rows above =
+    meets g nothing cleared cleared
+    (record {
+      retarded = λ k r r' hk hk' same. rows k r r' same;
+      lesser = λ k r r' hk hk' same t u ht hu a b ha hb. refl;
+      numbers = λ r v t u a b ht hu ha hb. zero-finite;
+      above = above;
+    })
+
+pub all-zero-meets : Demand3 allZero
+all-zero-meets = no-lesser nothing (λ k r r' same t u ht a b ha hb. refl) (λ r t u a b less. refl)
+
+pub free-only-meets : Demand3 freeOnly
+free-only-meets =
+    no-lesser freeBelow
+    (λ k r r' same t u ht a b ha hb. cond-agree (ltb t u) _ _ _ _ (λ _. refl) (λ below. same .free t u ht (ltb-false t u below) a b ha hb))
+    (λ r t u a b less. rw (lt-ltb t u less))
+
+-- ---- P11 tells them apart: G(2,0) = 3.5, where they leave +0 and 1
+
+abbrev run : Run
+run = P12.run one (replicate 18 one)
+
+-- the bits of the real part of G(2,0)
+abbrev seen : Outcome → ℕ
+seen o = toBits binary64 (getD (o .retarded) 12 nan)
+
+inputs-pass : supportLines 3 1 one (readAs 3 1 P12.lower) (readAs 3 1 P12.lower) ≡ Pass
+unfolding supportLines validTolerance retarded retardedAt residual scaleOf ask askAll _then_ largestNorm largestIn largestFrom fold larger norm finite Ieee.ofBits Ieee.div Ieee.lt Ieee.ne Ieee.eq
+inputs-pass = refl
+
+passes : runVerdict run ≡ Pass
+passes = P12.verdict one (replicate 18 one) refl inputs-pass
+
+definition-sees : seen (transientRun run) ≡ 0x400c_0000_0000_0000
+unfolding Ieee.ofBits toBits
+definition-sees = rw (P12.outcome one (replicate 18 one) refl inputs-pass)
+
+all-zero-sees : seen (allZero run) ≡ 0
+unfolding solverOf layOutAll layOut join Ieee.ofBits toBits
+all-zero-sees = rw (left-made (runVerdict run) (layOutAll 3 1 (nothing run)) (replicate 18 one) passes)
+
+free-only-sees : seen (freeOnly run) ≡ 0x3ff0_0000_0000_0000
+unfolding solverOf layOutAll layOut join Ieee.ofBits toBits
+free-only-sees = rw (left-made (runVerdict run) (layOutAll 3 1 (freeBelow run)) (replicate 18 one) passes)
+
+pub all-zero-differs : allZero run ≡ transientRun run → ⊥
+all-zero-differs e = let h : _≡_ {A = ℕ} 0 0x400c_0000_0000_0000 = sym all-zero-sees ∙ ap seen e ∙ definition-sees in omega arith
+
+pub free-only-differs : freeOnly run ≡ transientRun run → ⊥
+free-only-differs e = let h : _≡_ {A = ℕ} 0x3ff0_0000_0000_0000 0x400c_0000_0000_0000 = sym free-only-sees ∙ ap seen e ∙ definition-sees in omega arith

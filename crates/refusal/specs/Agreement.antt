@@ -1,0 +1,48 @@
+-- Laws of questions in order: when all were answered yes, and when two calls get the same answer. Assumes nothing.
+use mathlib.Core.Path.{_≡_, refl, sym, ap, _∙_}
+use mathlib.Core.Bool.{Bool, true, false}
+use Prim.Native.Nat.{ℕ, zero, suc, _≤_, _<_}
+use native.Mathlib.Nat.{le-refl}
+use native.Mathlib.Omega.{arith}
+use Rattle.lists.specs.Agreement.{never}
+use Rattle.refusal.specs.declared.Refusal.{Refusal}
+use Rattle.refusal.specs.declared.Verdict.{Verdict}
+use Rattle.refusal.specs.declared.Verdict.the-variants.{Pass, Refused}
+use Rattle.refusal.specs.Verdict.{ask, _then_, askAll}
+
+-- a refusal is no yes
+pub not-pass : {P : Type 0} (r : Refusal) → Refused r ≡ Pass → P
+not-pass r e = absurd (let z : _≡_ {A = ℕ} 0 1 = cc in omega arith)
+
+pub ask-pass : (b : Bool) (r : Refusal) → ask b r ≡ Pass → b ≡ true
+unfolding ask
+ask-pass true r e = refl
+ask-pass false r e = not-pass r e
+
+pub ask-yes : (b : Bool) (r : Refusal) → b ≡ true → ask b r ≡ Pass
+unfolding ask
+ask-yes b r e = rw e
+
+pub then-pass : (x y : Verdict) → (x then y) ≡ Pass → (x ≡ Pass) × (y ≡ Pass)
+unfolding _then_
+then-pass Pass y e = (refl, e)
+then-pass (Refused r) y e = not-pass r e
+
+-- later questions count only where the earlier ones pass
+pub then-agree : (x x' y y' : Verdict) → x ≡ x' → (x ≡ Pass → y ≡ y') → (x then y) ≡ (x' then y')
+unfolding _then_
+then-agree x x' y y' e h = ap (λ (v : Verdict). v then y) e ∙ later x' (λ p. h (e ∙ p))
+  where
+    later : (v : Verdict) → (v ≡ Pass → y ≡ y') → (v then y) ≡ (v then y')
+    later Pass k = k refl
+    later (Refused r) k = refl
+
+pub all-asked : (n : ℕ) (f : ℕ → Verdict) → ((k : ℕ) → k < n → f k ≡ Pass) → askAll n f ≡ Pass
+unfolding askAll _then_
+all-asked zero f h = refl
+all-asked (suc n) f h = rw (all-asked n f (λ k l. h k (omega arith)), h n (le-refl (suc n)))
+
+pub asked-agree : (n : ℕ) (f g : ℕ → Verdict) → ((k : ℕ) → k < n → f k ≡ g k) → askAll n f ≡ askAll n g
+unfolding askAll
+asked-agree zero f g h = refl
+asked-agree (suc n) f g h = rw (asked-agree n f g (λ k l. h k (omega arith)), h n (le-refl (suc n)))
