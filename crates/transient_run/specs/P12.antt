@@ -76,11 +76,11 @@ lesserBits =
     0 ∷ 0 ∷ 0 ∷ 0x3ff9000000000000 ∷ 0 ∷ 0x4012c00000000000 ∷
     0 ∷ 0 ∷ 0 ∷ 0x4012c00000000000 ∷ 0 ∷ 0x402c200000000000 ∷ []
 
-kernel-stage : causalNumbers 3 1 times lower lower ≡ floats kernelBits
+pub kernel-stage : causalNumbers 3 1 times lower lower ≡ floats kernelBits
 unfolding causalNumbers causal layOutAll layOut join everywhere allBelow weightedSum partialSum termAt productAt finiteSum product scaled adjoint sumFrom fold intervalWeight halfStep cadd cmul conj cfinite finite Ieee.ofBits toBits Ieee.add Ieee.sub Ieee.mul Ieee.neg
 kernel-stage = refl
 
-retarded-stage : retardedNumbers 3 1 times lower (floats kernelBits) ≡ floats retardedBits
+pub retarded-stage : retardedNumbers 3 1 times lower (floats kernelBits) ≡ floats retardedBits
 unfolding retardedNumbers retardedGreen solve layOutAll layOut join everywhere allBelow weightedSum partialSum termAt productAt finiteSum product scaled adjoint sumFrom fold intervalWeight halfStep cadd cmul conj cfinite finite Ieee.ofBits toBits Ieee.add Ieee.sub Ieee.mul Ieee.neg
 retarded-stage = refl
 
@@ -93,11 +93,11 @@ unfolding lesserNumbers lesserGreen layOutAll layOut join everywhere allBelow we
 lesser-stage = refl
 
 -- every block of each stage is finite
-kernel-fine : causalFine 3 1 times lower lower ≡ true
+pub kernel-fine : causalFine 3 1 times lower lower ≡ true
 unfolding causalFine causalFinite layOutAll layOut join everywhere allBelow weightedSum partialSum termAt productAt finiteSum product scaled adjoint sumFrom fold intervalWeight halfStep cadd cmul conj cfinite finite Ieee.ofBits toBits Ieee.add Ieee.sub Ieee.mul Ieee.neg
 kernel-fine = refl
 
-retarded-fine : retardedFine 3 1 times lower (floats kernelBits) ≡ true
+pub retarded-fine : retardedFine 3 1 times lower (floats kernelBits) ≡ true
 unfolding retardedFine retardedFinite retardedGreen solve layOutAll layOut join everywhere allBelow weightedSum partialSum termAt productAt finiteSum product scaled adjoint sumFrom fold intervalWeight halfStep cadd cmul conj cfinite finite Ieee.ofBits toBits Ieee.add Ieee.sub Ieee.mul Ieee.neg
 retarded-fine = refl
 

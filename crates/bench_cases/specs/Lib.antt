@@ -1,0 +1,3 @@
+-- Document 01, "Bench cases (P is proved)": P1 to P12 as one theorem about the definitions that contracts cite.
+pub mod Inputs
+pub mod Bench
