@@ -11,4 +11,4 @@ pub sum-agree : (s s' : Complex) (f g : ℕ → Complex) (from count : ℕ) → 
     → sumFrom s f from count ≡ sumFrom s' g from count
 unfolding sumFrom
 sum-agree s s' f g from count e h =
-    fold-agree count (λ k z. cadd z (f (from + k))) (λ k z. cadd z (g (from + k))) s s' e (λ k l z. rw (h k l))
+    fold-agree count _ _ s s' e (λ k l z. rw (h k l))

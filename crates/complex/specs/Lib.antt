@@ -2,5 +2,5 @@
 pub mod Arithmetic
 pub mod Sum
 pub mod Numbers
-pub mod Agreement
 pub mod Cases
+pub mod Agreement

@@ -1,5 +1,5 @@
 -- Document 01, grid: the trapezoid weights, and each call's outcome, with closed cases.
 pub mod Weights
-pub mod Agreement
 pub mod Calls
 pub mod Cases
+pub mod Agreement

@@ -84,13 +84,19 @@ no-minus-zero : causalConvolution 2 1 apart (with-first 0x8000_0000_0000_0000) (
 unfolding convolved inputLines sizeLines allLong operandLines timeLines largeEnough withinLimits fitting finiteTimes risingTimes finiteWeights finiteEntries finiteWork ask askAll _then_ afterwards layOutAll layOut join everywhere allBelow weightedSum partialSum termAt productAt finiteSum product scaled sumFrom fold fullWeight halfStep cadd cmul cfinite finite Ieee.ofBits toBits Ieee.add Ieee.sub Ieee.mul Ieee.neg Ieee.lt causalConvolution causalNumbers causalFine causal causalFinite intervalWeight
 no-minus-zero = refl
 
--- the largest by 1.5 overflows before the weight of half a step could make it small: a weight goes on the product, not on a factor
+-- the largest by 1.5 overflows before the weight of half a step could make it small
 product-before-weight : timeConvolution 2 1 apart (with-first 0x7fef_ffff_ffff_ffff) (with-first 0x3ff8_0000_0000_0000) (replicate 8 one)
     ≡ record { answer = Refused (by 10); out = replicate 8 plusZero }
 unfolding convolved inputLines sizeLines allLong operandLines timeLines largeEnough withinLimits fitting finiteTimes risingTimes finiteWeights finiteEntries finiteWork ask askAll _then_ afterwards layOutAll layOut join everywhere allBelow weightedSum partialSum termAt productAt finiteSum product scaled sumFrom fold fullWeight halfStep cadd cmul cfinite finite Ieee.ofBits toBits Ieee.add Ieee.sub Ieee.mul Ieee.neg Ieee.lt timeConvolution convolutionNumbers convolutionFine convolution convolutionFinite
 product-before-weight = refl
 
--- the same at (0,0) of the causal one, where the weight is 0: "yet the product is formed and may give 10"
+-- 2u at (0,0) by half a step is u; half a step of u alone would be +0
+weight-on-the-product : bits (timeConvolution 2 1 apart (floats (1 ∷ 0 ∷ 0 ∷ 0 ∷ 0 ∷ 0 ∷ 0 ∷ 0 ∷ [])) (floats (0x4000_0000_0000_0000 ∷ 0 ∷ 0 ∷ 0 ∷ 0 ∷ 0 ∷ 0 ∷ 0 ∷ [])) (replicate 8 one) .out)
+    ≡ 1 ∷ 0 ∷ 0 ∷ 0 ∷ 0 ∷ 0 ∷ 0 ∷ 0 ∷ []
+unfolding convolved inputLines sizeLines allLong operandLines timeLines largeEnough withinLimits fitting finiteTimes risingTimes finiteWeights finiteEntries finiteWork ask askAll _then_ afterwards layOutAll layOut join everywhere allBelow weightedSum partialSum termAt productAt finiteSum product scaled sumFrom fold fullWeight halfStep cadd cmul cfinite finite Ieee.ofBits toBits Ieee.add Ieee.sub Ieee.mul Ieee.neg Ieee.lt timeConvolution convolutionNumbers convolutionFine convolution convolutionFinite
+weight-on-the-product = refl
+
+-- the product at (0,0) of the causal one, where the weight is 0: "yet the product is formed and may give 10"
 diagonal-product : causalConvolution 2 1 apart (with-first 0x7fef_ffff_ffff_ffff) (with-first 0x4000_0000_0000_0000) (replicate 8 one)
     ≡ record { answer = Refused (by 10); out = replicate 8 plusZero }
 unfolding convolved inputLines sizeLines allLong operandLines timeLines largeEnough withinLimits fitting finiteTimes risingTimes finiteWeights finiteEntries finiteWork ask askAll _then_ afterwards layOutAll layOut join everywhere allBelow weightedSum partialSum termAt productAt finiteSum product scaled sumFrom fold fullWeight halfStep cadd cmul cfinite finite Ieee.ofBits toBits Ieee.add Ieee.sub Ieee.mul Ieee.neg Ieee.lt causalConvolution causalNumbers causalFine causal causalFinite intervalWeight

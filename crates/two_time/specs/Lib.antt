@@ -1,10 +1,10 @@
 -- Document 01, two-time functions: where an entry stands, the one weighted sum, the convolutions, the support test, and closed cases.
 pub mod Layout
-pub mod Reading
 pub mod WeightedSum
-pub mod Agreement
-pub mod Finite
 pub mod Convolutions
 pub mod Support
 pub mod Calls
 pub mod Cases
+pub mod Reading
+pub mod Agreement
+pub mod Finite
