@@ -1,8 +1,7 @@
 """Writes expected.txt: exact bits of small cases, to hold definitions to.
 
-Every number is given by a formula in t, u (time arguments), a, b (orbitals),
-worked out in binary64 from left to right. Part 1 reads t and u as indices of
-times, part 2 as the times themselves.
+Every number is given by a formula in t, u (indices of times), a, b (orbitals),
+worked out in binary64 from left to right.
 """
 
 import os
@@ -150,24 +149,17 @@ def cases_ef(times, clock):
     return lines + ["%s: %s" % (name, hex_of(getattr(report, name))) for name in Report._fields]
 
 
-def part(title, clock_of):
+def text():
     sections = [
         ("N=3 n=1 times 0, 0.5, 2", cases_ab, [0.0, 0.5, 2.0]),
         ("N=3 n=2 times 0, 1, 3", case_c, [0.0, 1.0, 3.0]),
         ("N=3 n=2 times 0, 1, 3", case_d, [0.0, 1.0, 3.0]),
         ("N=2 n=1 times 0, 0.1", cases_ef, [0.0, 0.1]),
     ]
-    lines = [title]
+    lines = []
     for heading, case, times in sections:
-        lines += ["", heading] + case(times, clock_of(times))
-    return lines
-
-
-def text():
-    indices = lambda times: [float(index) for index in range(len(times))]
-    lines = part("PART 1: t and u are indices of times", indices)
-    lines += ["", ""] + part("PART 2: t and u are the times themselves", lambda times: times)
-    return "\n".join(lines) + "\n"
+        lines += [heading] + case(times, [float(index) for index in range(len(times))]) + [""]
+    return "\n".join(lines)
 
 
 if __name__ == "__main__":

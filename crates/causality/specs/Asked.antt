@@ -88,9 +88,9 @@ numbers-same x x' s i h =
     let e : entriesOf x a b ≡ entriesOf x' a b = s .entries a b (div-lt-iff-lt-mul some .1 inside) (mod-lt q some) in
     let whole : a * c + b ≡ q = div-add-mod' q c in
     let whole' : a * x' .columns + b ≡ q = ap (λ (m : ℕ). a * m + b) (sym (s .columns)) ∙ whole in
-    elim (decLt (i % 2) 1)
-    [ yes even ↦ at x (omega arith) ∙ ap (λ (z : Complex). z .re) e ∙ sym (at x' (omega arith))
-    | no odd ↦ at x (omega arith) ∙ ap (λ (z : Complex). z .im) e ∙ sym (at x' (omega arith))
+    elim (decLt (i % 2) 1) [
+      | yes even ↦ at x (omega arith) ∙ ap (λ (z : Complex). z .re) e ∙ sym (at x' (omega arith))
+      | no odd ↦ at x (omega arith) ∙ ap (λ (z : Complex). z .im) e ∙ sym (at x' (omega arith))
     ]
   where
     at : (y : DenseMatrix) {j : ℕ} → i ≡ j → getD (y .values) i nan ≡ getD (y .values) j nan
@@ -119,7 +119,7 @@ module _ (n points points' : ℕ) (f f' : TwoTime) (left : Left points n f) (lef
   unfolding density
   density-agree a b ha hb =
       let e : readAs points n (layOutAll points n f) t t a b ≡ readAs points' n (layOutAll points' n f') t t a b =
-          read-back n points f t t a b ht ht ha hb ∙ same a b ha hb ∙ sym (read-back n points' f' t t a b ht' ht' ha hb) in
+      read-back n points f t t a b ht ht ha hb ∙ same a b ha hb ∙ sym (read-back n points' f' t t a b ht' ht' ha hb) in
       ap (λ (z : Complex). cmul minusI z) e
 
   pub particles-agree : (tolerance : Float) → particleNumber points n (layOutAll points n f) t tolerance ≡ particleNumber points' n (layOutAll points' n f') t tolerance
@@ -143,8 +143,19 @@ module _ (n points points' : ℕ) (f f' : TwoTime) (left : Left points n f) (lef
   block-lines-agree : (x x' : DenseMatrix) → SameBlock x x' → lesserBlockLines points n (layOutAll points n f) x ≡ lesserBlockLines points' n (layOutAll points' n f') x'
   unfolding lesserBlockLines
   block-lines-agree x x' s =
-      rw (left .large, left' .large, left .small, left' .small, long points n f left, long points' n f' left', entries-pass points n f left, entries-pass points' n f' left',
-        block-asked x x' s, s .rows, s .columns)
+      rw (
+        left .large,
+        left' .large,
+        left .small,
+        left' .small,
+        long points n f left,
+        long points' n f' left',
+        entries-pass points n f left,
+        entries-pass points' n f' left',
+        block-asked x x' s,
+        s .rows,
+        s .columns,
+      )
 
   module _ (x x' : DenseMatrix) (s : SameBlock x x') (passed : lesserBlockLines points n (layOutAll points n f) x ≡ Pass) where
     -- past line 3 the block is n by n

@@ -124,6 +124,6 @@ module _ (g l : Run → TwoTime) (kernel mixed : Run → List Float) (reads : Re
       record {
         blind = λ k r r' hk hk' acc acc' same. equal-n Blind one-n r r' (same .orbitals) k hk hk' acc acc' same;
         above = λ r acc t u a b less hu ha hb.
-          let v : runVerdict r ≡ Pass = accepted (runVerdict r) acc in
-          rw (left-made (runVerdict r) _ (r .retarded) v) (read-back (r .orbitals) (r .points) (g r) t u a b (omega arith) hu ha hb ∙ reads .above r t u a b less);
+            let v : runVerdict r ≡ Pass = accepted (runVerdict r) acc in
+            rw (left-made (runVerdict r) _ (r .retarded) v) (read-back (r .orbitals) (r .points) (g r) t u a b (omega arith) hu ha hb ∙ reads .above r t u a b less);
       }

@@ -39,12 +39,12 @@ module _ {A : Type 0} where
   unfolding join
   each-in-join P zero f d h i l = absurd (omega arith)
   each-in-join P (suc n) f d h i l =
-      elim (decLt i (length (join n f)))
-      [ yes inside ↦ subst P (sym (List·getD-append (join n f) (f n) d i inside)) (each-in-join P n f d (λ k hk. h k (omega arith)) i inside)
-      | no outside ↦
-        (let past : length (join n f) ≤ i = omega arith in
-        let j : ℕ = i - length (join n f) in
-        let at : i ≡ length (join n f) + j = omega arith in
-        let fits : j < length (f n) = omega (arith, length-append (join n f) (f n)) in
-        subst P (sym (ap (λ (m : ℕ). getD (join n f ++ f n) m d) at ∙ getD-append-add (join n f) (f n) j d)) (h n (le-refl (suc n)) j fits))
+      elim (decLt i (length (join n f))) [
+        | yes inside ↦ subst P (sym (List·getD-append (join n f) (f n) d i inside)) (each-in-join P n f d (λ k hk. h k (omega arith)) i inside)
+        | no outside ↦
+            (let past : length (join n f) ≤ i = omega arith in
+            let j : ℕ = i - length (join n f) in
+            let at : i ≡ length (join n f) + j = omega arith in
+            let fits : j < length (f n) = omega (arith, length-append (join n f) (f n)) in
+            subst P (sym (ap (λ (m : ℕ). getD (join n f ++ f n) m d) at ∙ getD-append-add (join n f) (f n) j d)) (h n (le-refl (suc n)) j fits))
       ]

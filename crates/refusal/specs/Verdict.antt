@@ -15,7 +15,6 @@ use Rattle.refusal.specs.declared.Decision.{Decision}
 use Rattle.refusal.specs.declared.Decision.the-variants.{Yes, No, Refused as Undecided}
 
 infixr 30 _then_
-
 -- a refusal by a line that has no places
 abbrev pub by : ℕ → Refusal
 by number = record { number = number; operand = 0; first = 0; second = 0; part = plusZero }

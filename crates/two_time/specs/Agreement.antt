@@ -32,6 +32,6 @@ weighted-agree n x y h a b ha hb =
     let hi : s < x .from + x .count = omega arith in
     let w : x .weight s ≡ y .weight s = h .weight s lo hi in
     let p : product n (x .left s) (x .right s) a b ≡ product n (y .left s) (y .right s) a b =
-        product-agree n (x .left s) (y .left s) (h .left s lo hi) (x .right s) (y .right s) (h .right s lo hi) a b ha hb in
+    product-agree n (x .left s) (y .left s) (h .left s lo hi) (x .right s) (y .right s) (h .right s lo hi) a b ha hb in
     rw (w, p))
     ∙ ap₂ (λ (from count : ℕ). sumFrom (y .start a b) (λ s. termAt n y s a b) from count) (h .from) (h .count)

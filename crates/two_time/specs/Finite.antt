@@ -35,8 +35,8 @@ sum-finite n x a b last e h =
     let q : Bool = cfinite (termAt n x (x .from + last) a b) in
     let r : Bool = cfinite (partialSum n x (suc last) a b) in
     let ends : p && (q && r) ≡ true =
-        all-each (x .count)
-        (λ k. cfinite (productAt n x (x .from + k) a b) && (cfinite (termAt n x (x .from + k) a b) && cfinite (partialSum n x (suc k) a b))) h last (omega arith) in
+    all-each (x .count)
+    (λ k. cfinite (productAt n x (x .from + k) a b) && (cfinite (termAt n x (x .from + k) a b) && cfinite (partialSum n x (suc k) a b))) h last (omega arith) in
     subst (λ (k : ℕ). cfinite (partialSum n x k a b) ≡ true) (sym e) (both q r (both p (q && r) ends .1) .1)
 
 -- both numbers of a pair

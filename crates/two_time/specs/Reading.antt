@@ -53,7 +53,7 @@ module _ (n : ℕ) where
           where-it-stands : place points n t u a b + j ≡ t * (points * (n * (n * 2))) + (u * (n * (n * 2)) + (a * (n * 2) + (b * 2 + j)))
           where-it-stands =
               let rows : t * (points * (n * (n * 2))) ≡ 2 * (t * points * n * n) =
-                  rw (mul-comm n 2, mul-left-comm n 2 n, mul-left-comm points 2 (n * n), mul-left-comm t 2 (points * (n * n))) (simp mul-assoc) in
+              rw (mul-comm n 2, mul-left-comm n 2 n, mul-left-comm points 2 (n * n), mul-left-comm t 2 (points * (n * n))) (simp mul-assoc) in
               let blocks : u * (n * (n * 2)) ≡ 2 * (u * n * n) = rw (mul-comm n 2, mul-left-comm n 2 n, mul-left-comm u 2 (n * n)) (simp mul-assoc) in
               let entries : a * (n * 2) ≡ 2 * (a * n) = rw (mul-comm n 2, mul-left-comm a 2 n) in
               simp add-mul (omega arith)
