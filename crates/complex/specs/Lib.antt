@@ -4,3 +4,4 @@ pub mod Sum
 pub mod Numbers
 pub mod Cases
 pub mod Agreement
+pub mod Filling

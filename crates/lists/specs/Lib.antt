@@ -2,3 +2,5 @@
 pub mod Indexed
 pub mod Agreement
 pub mod Reading
+pub mod Turns
+pub mod Filling

@@ -16,8 +16,11 @@ use Rattle.matrix.specs.declared.Checked.{Checked}
 abbrev pub Entries : Type 0
 Entries = ℕ → ℕ → Complex
 
+abbrev pub entriesIn : ℕ → List Float → Entries
+entriesIn columns xs a b = entryAt xs (2 * (a * columns + b))
+
 abbrev pub entriesOf : DenseMatrix → Entries
-entriesOf x a b = entryAt (x .values) (2 * (a * x .columns + b))
+entriesOf x = entriesIn (x .columns) (x .values)
 
 -- how many numbers a block's entries have
 abbrev pub countOf : DenseMatrix → ℕ

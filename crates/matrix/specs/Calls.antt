@@ -29,15 +29,21 @@ unfoldable pub valueNumber : Value → ℕ
 valueNumber (Of z) = 0
 valueNumber (NoValue r) = r .number
 
--- the lines of one block, with its own question of shape, and of two: line by line, not block by block
+-- Lines 1 to 3 of one block, with its own question of shape, and of two: line by line, not block by block
+abbrev pub shapeOf : Bool → ℕ → ℕ → Verdict
+shapeOf fits rows columns = notEmpty rows columns then withinBlock rows columns then fitting fits
+
+abbrev pub pairShape : Bool → ℕ → ℕ → ℕ → ℕ → Verdict
+pairShape fits rows columns rows' columns' =
+    (notEmpty rows columns then notEmpty rows' columns') then (withinBlock rows columns then withinBlock rows' columns') then fitting fits
+
+-- and line 7 after them
 unfoldable pub blockLines : Bool → DenseMatrix → Verdict
-blockLines fits x = notEmpty (x .rows) (x .columns) then withinBlock (x .rows) (x .columns) then fitting fits then finiteEntries 0 (x .values) (countOf x)
+blockLines fits x = shapeOf fits (x .rows) (x .columns) then finiteEntries 0 (x .values) (countOf x)
 
 unfoldable pub pairLines : Bool → DenseMatrix → DenseMatrix → Verdict
 pairLines fits x y =
-    (notEmpty (x .rows) (x .columns) then notEmpty (y .rows) (y .columns))
-    then (withinBlock (x .rows) (x .columns) then withinBlock (y .rows) (y .columns))
-    then fitting fits
+    pairShape fits (x .rows) (x .columns) (y .rows) (y .columns)
     then (finiteEntries 0 (x .values) (countOf x) then finiteEntries 1 (y .values) (countOf y))
 
 abbrev pub sameShape : DenseMatrix → DenseMatrix → Bool
@@ -54,12 +60,12 @@ finiteBlock verdict rows columns f = checked (verdict then finiteWork (allFinite
 unfoldable pub fromNumbers : ℕ → ℕ → List Float → Checked
 fromNumbers rows columns numbers =
     checked
-    (notEmpty rows columns then withinBlock rows columns then fitting (eqb (length numbers) (2 * (rows * columns))) then finiteEntries 0 numbers (length numbers))
+    (shapeOf (eqb (length numbers) (2 * (rows * columns))) rows columns then finiteEntries 0 numbers (length numbers))
     (blockOf rows columns (λ a b. entryAt numbers (2 * (a * columns + b))))
 
 -- `identity`: lines 1 and 2 of its size
 unfoldable pub identityOf : ℕ → Checked
-identityOf size = checked (notEmpty size size then withinBlock size size) (blockOf size size identity)
+identityOf size = checked (shapeOf true size size) (blockOf size size identity)
 
 unfoldable pub adjointOf : DenseMatrix → Checked
 adjointOf x = checked (blockLines true x) (blockOf (x .columns) (x .rows) (adjoint (entriesOf x)))

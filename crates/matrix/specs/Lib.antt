@@ -3,4 +3,5 @@ pub mod Block
 pub mod Operations
 pub mod Calls
 pub mod Cases
+pub mod Made
 pub mod Agreement

@@ -1,5 +1,18 @@
-// Dense complex matrices of at most 16 by 16 entries, by value (document 01, matrix): the meaning of each operation is in specs/.
+// Dense complex matrices of at most 16 by 16 entries, by value (document 01, matrix).
+mod fill;
+mod lines;
+
+ghost use mathlib.Core.Path.{_≡_};
+ghost use Prim.Native.Nat.{_≤_, _<_};
+ghost use lib.ListN.{length};
+ghost use Rattle.refusal.specs.Lines.{finiteWork};
+ghost use Rattle.matrix.specs.Block.{entriesIn, blockOf, checked, noBlock};
+ghost use Rattle.matrix.specs.Operations.{allFinite};
+ghost use Rattle.matrix.specs.Made.{madeBy, combinedOf};
+ghost use Rattle.matrix.specs.Calls.{fromNumbers, identityOf, adjointOf, productOf, scaleOf, addOf, subtractOf};
+
 use complex::Complex;
+use fill::Operation;
 use refusal::Refusal;
 use refusal::Verdict;
 
@@ -20,4 +33,161 @@ pub struct Checked {
 pub enum Value {
     Of(Complex),
     Refused(Refusal),
+}
+
+// A block, and whether all its entries are finite.
+struct Made {
+    finite: bool,
+    block: DenseMatrix,
+}
+
+fn refused(refusal: Refusal) -> Checked
+    ensures { λ r. ⌜ r ≡ record { verdict = Verdict.Refused refusal; block = noBlock } ⌝ }
+{
+    Checked {
+        verdict: Verdict::Refused(refusal),
+        block: DenseMatrix {
+            rows: 0,
+            columns: 0,
+            values: [0.0; 512],
+        },
+    }
+}
+
+// The block that an operation makes of a, with `inner` columns, and b, with `columns`.
+fn build(op: Operation, rows: usize, inner: usize, columns: usize, a: &[f64], b: &[f64]) -> Made
+    requires { ⌜ (0 < columns) × (rows ≤ 16) × (inner ≤ 16) × (columns ≤ 16) ⌝ }
+    requires { ⌜ (512 ≤ length (now a)) × (512 ≤ length (now b)) ⌝ }
+    ensures { λ r. ⌜ (r .finite ≡ allFinite rows columns (madeBy op inner (entriesIn inner (now (a .entry))) (entriesIn columns (now (b .entry)))))
+        × (r .block ≡ blockOf rows columns (madeBy op inner (entriesIn inner (now (a .entry))) (entriesIn columns (now (b .entry))))) ⌝ }
+{
+    let mut values = [0.0; 512];
+    let finite = fill::fill(op, &mut values, a, b, rows, inner, columns);
+    Made {
+        finite,
+        block: DenseMatrix {
+            rows,
+            columns,
+            values,
+        },
+    }
+}
+
+// A block that was made: finite, or 10.
+fn finite_or_10(made: Made) -> Checked
+    ensures { λ r. ⌜ r ≡ checked (finiteWork (made .finite)) (made .block) ⌝ }
+{
+    if made.finite {
+        let block = made.block;
+        Checked {
+            verdict: Verdict::Pass,
+            block,
+        }
+    } else {
+        refused(Refusal::by(10))
+    }
+}
+
+fn accepted(made: Made) -> Checked
+    ensures { λ r. ⌜ r ≡ checked Verdict.Pass (made .block) ⌝ }
+{
+    let block = made.block;
+    Checked {
+        verdict: Verdict::Pass,
+        block,
+    }
+}
+
+// What an operation makes of two blocks, rows by inner and below by columns: lines 1, 2, 3, 7, then 10.
+fn combined(
+    op: Operation,
+    fits: bool,
+    rows: usize,
+    inner: usize,
+    a: &[f64],
+    below: usize,
+    columns: usize,
+    b: &[f64],
+) -> Checked
+    requires { ⌜ (512 ≤ length (now a)) × (512 ≤ length (now b)) ⌝ }
+    ensures { λ r. ⌜ r ≡ combinedOf op fits (record { rows = rows; columns = inner; values = now (a .entry) }) (record { rows = below; columns = columns; values = now (b .entry) }) ⌝ }
+{
+    let verdict = lines::pair_lines(fits, rows, inner, a, below, columns, b);
+    match verdict {
+        Verdict::Pass => finite_or_10(build(op, rows, inner, columns, a, b)),
+        Verdict::Refused(r) => refused(r),
+    }
+}
+
+impl DenseMatrix {
+    // The identity matrix of that size.
+    pub fn identity(size: usize) -> Checked
+        ensures { λ r. ⌜ r ≡ identityOf size ⌝ }
+    {
+        let zeros = [0.0; 512];
+        let verdict = lines::shape(true, size, size);
+        match verdict {
+            Verdict::Pass => accepted(build(Operation::Identity, size, size, size, &zeros, &zeros)),
+            Verdict::Refused(r) => refused(r),
+        }
+    }
+
+    // The conjugate transpose.
+    pub fn adjoint(self) -> Checked
+        ensures { λ r. ⌜ r ≡ adjointOf self ⌝ }
+    {
+        let rows = self.rows;
+        let columns = self.columns;
+        let a = self.values;
+        let verdict = lines::block_lines(true, rows, columns, &a);
+        match verdict {
+            Verdict::Pass => accepted(build(Operation::Adjoint, columns, columns, rows, &a, &a)),
+            Verdict::Refused(r) => refused(r),
+        }
+    }
+
+    // Each entry times the factor.
+    pub fn scale(self, factor: Complex) -> Checked
+        ensures { λ r. ⌜ r ≡ scaleOf self factor ⌝ }
+    {
+        let rows = self.rows;
+        let columns = self.columns;
+        let a = self.values;
+        let verdict = lines::block_lines(true, rows, columns, &a);
+        match verdict {
+            Verdict::Pass => {
+                finite_or_10(build(Operation::Scale(factor), rows, columns, columns, &a, &a))
+            }
+            Verdict::Refused(r) => refused(r),
+        }
+    }
+
+    // The matrix product self·other: rows·inner·columns complex products.
+    pub fn multiply(self, other: DenseMatrix) -> Checked
+        ensures { λ r. ⌜ r ≡ productOf self other ⌝ }
+    {
+        let inner = self.columns;
+        let below = other.rows;
+        let a = self.values;
+        let b = other.values;
+        combined(Operation::Product, inner == below, self.rows, inner, &a, below, other.columns, &b)
+    }
+
+    pub fn add(self, other: DenseMatrix) -> Checked
+        ensures { λ r. ⌜ r ≡ addOf self other ⌝ }
+    {
+        let a = self.values;
+        let b = other.values;
+        let same = (self.rows == other.rows) & (self.columns == other.columns);
+        combined(Operation::Add, same, self.rows, self.columns, &a, other.rows, other.columns, &b)
+    }
+
+    pub fn subtract(self, other: DenseMatrix) -> Checked
+        ensures { λ r. ⌜ r ≡ subtractOf self other ⌝ }
+    {
+        let a = self.values;
+        let b = other.values;
+        let same = (self.rows == other.rows) & (self.columns == other.columns);
+        combined(Operation::Subtract, same, self.rows, self.columns, &a, other.rows, other.columns, &b)
+    }
 }

@@ -46,3 +46,17 @@ pub asked-agree : (n : ℕ) (f g : ℕ → Verdict) → ((k : ℕ) → k < n →
 unfolding askAll
 asked-agree zero f g h = refl
 asked-agree (suc n) f g h = rw (asked-agree n f g (λ k l. h k (omega arith)), h n (le-refl (suc n)))
+
+pub then-assoc : (x y z : Verdict) → ((x then y) then z) ≡ (x then (y then z))
+unfolding _then_
+then-assoc Pass y z = refl
+then-assoc (Refused r) y z = refl
+
+-- what follows a verdict that is known
+pub then-after : (x y : Verdict) → x ≡ Pass → (x then y) ≡ y
+unfolding _then_
+then-after x y e = rw e
+
+pub then-refused : (x y : Verdict) (r : Refusal) → x ≡ Refused r → (x then y) ≡ Refused r
+unfolding _then_
+then-refused x y r e = rw e

@@ -3,3 +3,4 @@ pub mod Verdict
 pub mod Lines
 pub mod Cases
 pub mod Agreement
+pub mod Search

@@ -2,6 +2,8 @@
 ghost use mathlib.Core.Path.{_≡_};
 ghost use Rattle.refusal.specs.Verdict.{by, _then_, numberOf};
 
+pub mod lines;
+
 // The number of the line whose answer is no, with its places. A place that the line does not have is 0, a part +0.
 pub struct Refusal {
     pub number: u8,

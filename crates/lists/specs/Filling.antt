@@ -1,0 +1,51 @@
+-- A slice that a loop writes over from its start: what it holds after k turns, and at the end. Assumes nothing.
+use mathlib.Core.Path.{_≡_, refl, sym, ap, subst, _∙_}
+use mathlib.Core.List.{List, [], _∷_, _++_, append-assoc, append-nil}
+use Prim.Native.Nat.{ℕ, zero, suc, _+_, _-_, _*_, _≤_, _<_}
+use native.Mathlib.Nat.{le-refl, not-suc-le-zero, le-of-suc-le-suc, sub-zero, suc-sub-suc, zero-sub}
+use native.Mathlib.Omega.{arith}
+use lib.ListN.{length, drop, set, replicate, length-append, length-drop, drop-of-length-le}
+
+module _ {A : Type 0} where
+  -- d with xs written over its start
+  unfoldable pub over : List A → List A → List A
+  over d xs = xs ++ drop (length xs) d
+
+  pub over-none : (d : List A) → over d [] ≡ d
+  unfolding over
+  over-none d = refl
+
+  pub length-over : (d xs : List A) → length xs ≤ length d → length (over d xs) ≡ length d
+  unfolding over
+  length-over d xs h = simp (length-append, length-drop) (omega arith)
+
+  -- a write just past what is written
+  over-next : (xs d : List A) (a : A) → length xs < length d → set (over d xs) (length xs) a ≡ over d (xs ++ (a ∷ []))
+  unfolding over
+  over-next [] [] a h = absurd (not-suc-le-zero h)
+  over-next [] (y ∷ d) a h = refl
+  over-next (x ∷ xs) [] a h = absurd (not-suc-le-zero h)
+  over-next (x ∷ xs) (y ∷ d) a h = ap (λ (l : List A). x ∷ l) (over-next xs d a (le-of-suc-le-suc h))
+
+  pub over-one : (d xs : List A) (n : ℕ) (a : A) → length xs ≡ n → n < length d → set (over d xs) n a ≡ over d (xs ++ (a ∷ []))
+  over-one d xs n a e h = rw (← e) (over-next xs d a (omega arith))
+
+  -- two writes
+  pub over-two : (d xs : List A) (n : ℕ) (a b : A) → length xs ≡ n → n + 1 < length d → set (set (over d xs) n a) (n + 1) b ≡ over d (xs ++ (a ∷ b ∷ []))
+  over-two d xs n a b e h =
+      rw (over-one d xs n a e (omega arith), over-one d (xs ++ (a ∷ [])) (n + 1) b (simp length-append (omega arith)) h, append-assoc)
+
+  -- all of d written over
+  pub over-all : (d xs : List A) → length xs ≡ length d → over d xs ≡ xs
+  unfolding over
+  over-all d xs e = rw (e, drop-of-length-le d {i = length d} (le-refl (length d)), append-nil)
+
+  drop-replicate : (k n : ℕ) (a : A) → drop k (replicate n a) ≡ replicate (n - k) a
+  drop-replicate zero n a = rw sub-zero
+  drop-replicate (suc k) zero a = rw zero-sub
+  drop-replicate (suc k) (suc n) a = drop-replicate k n a ∙ ap (λ (m : ℕ). replicate m a) (sym (suc-sub-suc n k))
+
+  -- written over n equal elements
+  pub over-replicate : (n k : ℕ) (a : A) (xs : List A) → length xs ≡ k → over (replicate n a) xs ≡ xs ++ replicate (n - k) a
+  unfolding over
+  over-replicate n k a xs e = rw (drop-replicate, e)

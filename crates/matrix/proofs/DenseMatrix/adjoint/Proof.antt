@@ -1,0 +1,50 @@
+-- `matrix::DenseMatrix::adjoint` meets its contract. Assumes nothing.
+use mathlib.Core.Path.{_≡_, sym, _∙_}
+use mathlib.Core.Bool.{true}
+use native.Mathlib.Nat.{le-of-eq}
+use borrow.Author.Needs.{needs}
+use Rattle.refusal.specs.declared.Verdict.the-variants.{Pass}
+use Rattle.matrix.specs.Calls.{blockLines, adjointOf}
+use Rattle.matrix.specs.Made.{madeBy}
+use Rattle.matrix.proofs.Shapes.{Small, lines-small}
+use Rattle.matrix.proofs.Results.{accepted-is, refused-is}
+use Rattle.matrix.proofs.DenseMatrix.adjoint.Statement.{statement}
+use Rattle.matrix.proofs.DenseMatrix.adjoint.Tie as tie
+
+passed : (c : tie.After-enum-told) → blockLines true (c .before .before .before .before .before .args .self) ≡ Pass
+passed c = sym (c .before .before .block-lines .ensures) ∙ c .enum-told .given .1
+
+first : tie.Need-slice-aggregate-build
+first c = search needs
+
+second : tie.Need-slice-aggregate-build-2
+second c = search needs
+
+build-requires : tie.Need-build-requires
+build-requires c κs =
+    let s = lines-small true _ (passed (c .before .before)) in
+    ((s .rows-some, s .columns-most, s .columns-most, s .rows-most), (le-of-eq (first (c .before)), le-of-eq (second c)))
+
+returns : tie.Need-returns
+unfolding adjointOf madeBy
+returns c = c .accepted .ensures ∙ accepted-is _ _ _ (passed (c .before .before .before .before)) (c .before .build .ensures .1)
+
+returns-2 : tie.Need-returns-2
+unfolding adjointOf
+returns-2 c = c .refused .ensures ∙ refused-is _ _ _ (sym (c .before .before .before .before .block-lines .ensures) ∙ c .before .before .verdict .given .1)
+
+pub adjoint-spec : {M : Type 1} → statement M
+adjoint-spec =
+    tie.close
+    (tie.spec
+    (λ c. search needs)  -- slice-aggregate-block-lines
+    (λ c κs. search needs)  -- block-lines-requires
+    (λ c. search needs)  -- enum-told
+    first
+    second
+    build-requires
+    (λ c κs. search needs)  -- accepted-requires
+    (λ c. search needs)  -- enum-known-verdict
+    (λ c κs. search needs)  -- refused-requires
+    returns
+    returns-2)

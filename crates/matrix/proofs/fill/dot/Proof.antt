@@ -1,0 +1,43 @@
+-- `matrix::fill::dot` meets its contract: after k turns the sum has the first k terms of the product's entry. Assumes nothing.
+use mathlib.Core.Path.{_≡_, refl, sym, ap, _∙_}
+use mathlib.Core.List.{List}
+use Prim.Native.Nat.{ℕ, _+_, _-_, _*_, _≤_}
+use native.Mathlib.Nat.{le-antisymm}
+use native.Mathlib.Omega.{arith}
+use lib.Ieee.{Float}
+use Rattle.complex.specs.declared.Complex.{Complex}
+use Rattle.complex.specs.Arithmetic.{czero, cadd, cmul}
+use Rattle.complex.specs.Sum.{sum, sumFrom}
+use Rattle.complex.specs.Agreement.{sum-more, sum-none}
+use Rattle.matrix.specs.Block.{entriesIn}
+use Rattle.matrix.specs.Operations.{product}
+use borrow.Author.Needs.{needs}
+use Rattle.matrix.proofs.fill.dot.Statement.{statement}
+use Rattle.matrix.proofs.fill.dot.Tie as tie
+
+-- the terms of entry (i, j)
+abbrev term : List Float → List Float → ℕ → ℕ → ℕ → ℕ → ℕ → Complex
+term a b inner columns i j k = cmul (entriesIn inner a i k) (entriesIn columns b k j)
+
+abbrev Inv-loop : tie.InvT-loop
+Inv-loop a b inner columns i j sum₀ k₀ sum k = (k ≤ inner) × (sum ≡ sumFrom czero (term a b inner columns i j) 0 k)
+
+abbrev μ-loop : tie.MeasureT-loop
+μ-loop a b inner columns i j sum₀ k₀ sum k = inner - k
+
+pub dot-spec : {M : Type 1} → statement M
+unfolding product
+dot-spec =
+    tie.close
+    (tie.spec
+    Inv-loop
+    μ-loop
+    (λ c. (omega arith, sym (sum-none czero _ 0)))  -- loop-holds
+    (λ c κs. search needs)  -- entry-requires
+    (λ c κs. search needs)  -- entry-requires-2
+    (λ c κs. search needs)  -- times-requires
+    (λ c κs. search needs)  -- plus-requires
+    (λ c. search needs)  -- add-k
+    (λ c. search needs)  -- loop-less
+    (λ c. (omega arith, rw sum-more (cc)))  -- loop-again
+    (λ c. cc (le-antisymm (c .before .loop .inv .0) (c .loop-test .left))))  -- returns

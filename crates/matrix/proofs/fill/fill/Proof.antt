@@ -1,0 +1,85 @@
+-- `matrix::fill::fill` meets its contract: after p turns the first p entries are written, and their test is done. Assumes nothing.
+use mathlib.Core.Path.{_≡_, refl, sym, ap, _∙_}
+use mathlib.Core.Bool.{Bool, true, _&&_}
+use mathlib.Core.List.{List}
+use Prim.Native.Nat.{ℕ, _+_, _-_, _*_, _/_, _%_, _≤_, _<_}
+use native.Mathlib.Nat.{le-antisymm}
+use native.Mathlib.Omega.{arith}
+use lib.ListN.{length, length-set}
+use lib.Ieee.{Float}
+use denote.Ref.{now}
+use borrow.Author.Needs.{needs}
+use Rattle.lists.specs.Indexed.{join, allBelow}
+use Rattle.lists.specs.Turns.{all-more, all-none, join-none, join-flat, all-flat}
+use Rattle.lists.specs.Filling.{over, over-none}
+use Rattle.complex.specs.declared.Complex.{Complex}
+use Rattle.complex.specs.Arithmetic.{cfinite}
+use Rattle.complex.specs.Numbers.{pair}
+use Rattle.complex.specs.Filling.{cells, cells-next}
+use Rattle.matrix.specs.declared.fill.Operation.{Operation}
+use Rattle.matrix.specs.Block.{Entries, entriesIn, layOut}
+use Rattle.matrix.specs.Operations.{allFinite}
+use Rattle.matrix.specs.Made.{madeBy}
+use Rattle.matrix.proofs.Filled.{tested, filled}
+use Rattle.matrix.proofs.Places.{entries-most, row-below, column-below}
+use Rattle.matrix.proofs.fill.fill.Statement.{statement}
+use Rattle.matrix.proofs.fill.fill.Tie as tie
+
+-- entry p, counted by rows
+abbrev at : Operation → List Float → List Float → ℕ → ℕ → ℕ → Complex
+at op a b inner columns p = madeBy op inner (entriesIn inner a) (entriesIn columns b) (p / columns) (p % columns)
+
+abbrev Inv-loop : tie.InvT-loop
+Inv-loop op out₀ a b rows inner columns all₀ count p₀ out all p =
+    (p ≤ count) × (length out ≡ length out₀) × (all ≡ allBelow p (λ q. cfinite (at op a b inner columns q))) × (out ≡ over out₀ (cells p (at op a b inner columns)))
+
+abbrev μ-loop : tie.MeasureT-loop
+μ-loop op out₀ a b rows inner columns all₀ count p₀ out all p = count - p
+
+-- at most 256 entries
+few : (c : tie.At-loop Inv-loop μ-loop) → let x = c .before .before .before .before .args in x .rows * x .columns ≤ 256
+few c = let x = c .before .before .before .before .args in entries-most (x .rows) (x .columns) (omega arith) (omega arith)
+
+loop-holds : tie.Need-loop-holds Inv-loop μ-loop
+unfolding join allBelow
+loop-holds c = (omega arith, refl, refl, sym (over-none _))
+
+made-requires : tie.Need-made-requires Inv-loop μ-loop
+made-requires c κs =
+    let x = c .before .before .before .before .before .args in
+    ((row-below (c .before .loop .p) (x .rows) (x .columns) (omega arith) (omega arith) (omega arith), column-below (c .before .loop .p) (x .columns) (omega arith) (omega arith), search needs, search needs), search needs)
+
+loop-again : tie.Need-loop-again Inv-loop μ-loop
+loop-again c =
+    let k = c .before .before .before .before .before .before .before in
+    (omega arith, c .before .before .put .kept .0 ∙ k .loop .inv .1, rw all-more (cc), cells-next _ _ _ _ _ _ (k .loop .inv .3) (c .before .before .before .before .before .made .ensures) (c .before .before .put .ensures) (omega (arith, few k)))
+
+same-length : tie.Need-same-length Inv-loop μ-loop
+same-length c = c .before .loop .inv .1
+
+returns : tie.Need-returns Inv-loop μ-loop
+returns c =
+    let x = c .before .before .before .before .before .args in
+    let i = c .before .loop .inv in
+    let f : Entries = madeBy (x .op) (x .inner) (entriesIn (x .inner) (now (x .a))) (entriesIn (x .columns) (now (x .b))) in
+    let e : c .before .loop .p ≡ x .rows * x .columns = le-antisymm (i .0) (c .loop-test .left) in
+    (tested (x .rows) (x .columns) f (c .before .loop .p) e (c .before .loop .all) (i .2), filled (x .rows) (x .columns) f (c .before .loop .p) e (now (x .out)) (c .before .loop .out) (i .3))
+
+pub fill-spec : {M : Type 1} → statement M
+fill-spec =
+    tie.close
+    (tie.spec
+    Inv-loop
+    μ-loop
+    (λ c. let x = c .before .before .before .args in omega (arith, entries-most (x .rows) (x .columns) (omega arith) (omega arith)))  -- mul-count
+    loop-holds
+    (λ c. search needs)  -- div-made
+    (λ c. search needs)  -- rem-made
+    made-requires
+    (λ c κs. search needs)  -- is-finite-requires
+    (λ c κs. omega (arith, few (c .before .before .before .before)))  -- put-requires
+    (λ c. omega (arith, few (c .before .before .before .before .before .before .before)))  -- add-p
+    (λ c. search needs)  -- loop-less
+    loop-again
+    same-length
+    returns)

@@ -1,0 +1,41 @@
+-- `matrix::fill::made` meets its contract, by the operation that the match found. Assumes nothing.
+use mathlib.Core.Path.{_≡_}
+use borrow.Author.Needs.{needs}
+use borrow.Author.Tests.{eq-eqb, ne-eqb}
+use Rattle.matrix.specs.Operations.{scaled, added, subtracted, adjoint, identity}
+use Rattle.matrix.specs.Made.{madeBy}
+use Rattle.matrix.proofs.fill.made.Statement.{statement}
+use Rattle.matrix.proofs.fill.made.Tie as tie
+
+pub made-spec : {M : Type 1} → statement M
+unfolding madeBy scaled added subtracted adjoint identity
+made-spec =
+    tie.close
+    (tie.spec
+    (λ c. search needs)  -- enum-told
+    (λ c κs. search needs)  -- entry-requires
+    (λ c. search needs)  -- enum-told-2
+    (λ c. search needs)  -- enum-told-3
+    (λ c κs. search needs)  -- entry-requires-2
+    (λ c κs. search needs)  -- conj-requires
+    (λ c. search needs)  -- enum-told-4
+    (λ c κs. search needs)  -- dot-requires
+    (λ c. search needs)  -- enum-known-op
+    (λ c κs. search needs)  -- entry-requires-3
+    (λ c κs. search needs)  -- times-requires
+    (λ c. search needs)  -- enum-told-5
+    (λ c κs. search needs)  -- entry-requires-4
+    (λ c κs. search needs)  -- entry-requires-5
+    (λ c κs. search needs)  -- plus-requires
+    (λ c. search needs)  -- enum-told-6
+    (λ c κs. search needs)  -- entry-requires-6
+    (λ c κs. search needs)  -- entry-requires-7
+    (λ c κs. search needs)  -- minus-requires
+    (λ c. rw (c .before .enum-told .given .1) (c .entry .ensures))  -- returns
+    (λ c. rw (c .before .enum-told2 .given .1, eq-eqb _ _ (c .if1 .taken)))  -- returns-2
+    (λ c. rw (c .before .enum-told2 .given .1, ne-eqb _ _ (c .if1 .left)))  -- returns-3
+    (λ c. rw (c .before .before .enum-told3 .given .1) (cc))  -- returns-4
+    (λ c. rw (c .before .enum-told4 .given .1) (c .dot .ensures))  -- returns-5
+    (λ c. rw (c .before .before .before .op .given .1) (cc))  -- returns-6
+    (λ c. rw (c .before .before .before .enum-told5 .given .1) (cc))  -- returns-7
+    (λ c. rw (c .before .before .before .enum-told6 .given .1) (cc)))  -- returns-8

@@ -1,0 +1,15 @@
+-- `matrix::lines::shape` meets its contract: its callees' answers in order. Assumes nothing.
+use borrow.Author.Needs.{needs}
+use Rattle.matrix.proofs.lines.shape.Statement.{statement}
+use Rattle.matrix.proofs.lines.shape.Tie as tie
+
+pub shape-spec : {M : Type 1} → statement M
+shape-spec =
+    tie.close
+    (tie.spec
+    (λ c κs. search needs)  -- not-empty-requires
+    (λ c κs. search needs)  -- within-block-requires
+    (λ c κs. search needs)  -- fitting-requires
+    (λ c κs. search needs)  -- then-requires
+    (λ c κs. search needs)  -- then-requires-2
+    (λ c. cc))  -- returns

@@ -1,0 +1,9 @@
+-- `refusal::lines::finite_factors` meets its contract: it asks the question of `finiteFactors`. Assumes nothing.
+use borrow.Author.Needs.{needs}
+use Rattle.refusal.specs.Lines.{finiteFactors}
+use Rattle.refusal.proofs.lines.finite_factors.Statement.{statement}
+use Rattle.refusal.proofs.lines.finite_factors.Tie as tie
+
+pub finite-factors-spec : {M : Type 1} → statement M
+unfolding finiteFactors
+finite-factors-spec = tie.close (tie.spec (λ c κs. search needs) (λ c κs. search needs) (λ c κs. search needs) (λ c. cc))

@@ -1,0 +1,9 @@
+-- `refusal::lines::valid_tolerance` meets its contract: it asks the question of `validTolerance`. Assumes nothing.
+use borrow.Author.Needs.{needs}
+use Rattle.refusal.specs.Lines.{validTolerance}
+use Rattle.refusal.proofs.lines.valid_tolerance.Statement.{statement}
+use Rattle.refusal.proofs.lines.valid_tolerance.Tie as tie
+
+pub valid-tolerance-spec : {M : Type 1} → statement M
+unfolding validTolerance
+valid-tolerance-spec = tie.close (tie.spec (λ c κs. search needs) (λ c κs. search needs) (λ c. cc))
