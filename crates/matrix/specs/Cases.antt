@@ -21,7 +21,7 @@ use Rattle.matrix.specs.declared.DenseMatrix.{DenseMatrix}
 use Rattle.matrix.specs.declared.Checked.{Checked}
 use Rattle.matrix.specs.declared.Value.the-variants.{Of, Refused as NoValue}
 use Rattle.matrix.specs.Block.{layOut, blockOf, noBlock, checked}
-use Rattle.matrix.specs.Operations.{product, scaled, added, subtracted, adjoint, identity, trace, largestNorm, allFinite, partSize, partAbove, hermitian}
+use Rattle.matrix.specs.Operations.{product, scaled, added, subtracted, adjoint, identity, trace, largestNorm, allFinite, partSize, partAbove, hermitianWithin, hermitian}
 use Rattle.matrix.specs.Calls.{valued, valueNumber, blockLines, pairLines, finiteBlock, fromNumbers, identityOf, adjointOf, productOf, scaleOf, addOf, subtractOf, traceOf, maxDifferenceOf, isHermitian, entryOf}
 
 -- a block of these bit patterns
@@ -94,5 +94,5 @@ questions : isHermitian (block 2 2 (0x4010_0000_0000_0000 ∷ 0 ∷ 0x3ff0_0000_
     ∷ isHermitian (block 2 2 (0x3ff0_0000_0000_0000 ∷ 0 ∷ 0 ∷ 0x3fe0_0000_0000_0000 ∷ 0 ∷ 0 ∷ 0x3ff0_0000_0000_0000 ∷ 0 ∷ [])) (Ieee.ofBits binary64 0x3fdf_ffff_ffff_ffff)
     ∷ isHermitian x plusZero ∷ isHermitian (block 1 2 (0 ∷ 0 ∷ 0 ∷ 0 ∷ [])) one ∷ []
     ≡ Yes ∷ No ∷ Yes ∷ No ∷ Undecided (by 8) ∷ No ∷ []
-unfolding isHermitian decide blockLines notEmpty withinBlock fitting finiteEntries validTolerance ask askAll _then_ hermitian partAbove partSize allBelow largestIn largestFrom fold larger csub conj size finite Ieee.ofBits Ieee.add Ieee.sub Ieee.neg Ieee.mul Ieee.ne Ieee.eq Ieee.lt
+unfolding isHermitian decide blockLines notEmpty withinBlock fitting finiteEntries validTolerance ask askAll _then_ hermitian hermitianWithin partAbove partSize allBelow largestIn largestFrom fold larger csub conj size finite Ieee.ofBits Ieee.add Ieee.sub Ieee.neg Ieee.mul Ieee.ne Ieee.eq Ieee.lt
 questions = refl

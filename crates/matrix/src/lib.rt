@@ -1,20 +1,27 @@
 // Dense complex matrices of at most 16 by 16 entries, by value (document 01, matrix).
 mod fill;
 mod lines;
+mod measure;
 
 ghost use mathlib.Core.Path.{_≡_};
 ghost use Prim.Native.Nat.{_≤_, _<_};
 ghost use lib.ListN.{length};
+ghost use Rattle.refusal.specs.Verdict.{decide};
 ghost use Rattle.refusal.specs.Lines.{finiteWork};
 ghost use Rattle.matrix.specs.Block.{entriesIn, blockOf, checked, noBlock};
 ghost use Rattle.matrix.specs.Operations.{allFinite};
 ghost use Rattle.matrix.specs.Made.{madeBy, combinedOf};
 ghost use Rattle.matrix.specs.Calls.{fromNumbers, identityOf, adjointOf, productOf, scaleOf, addOf, subtractOf};
+ghost use Rattle.matrix.specs.Calls.{traceOf, entryOf, maxDifferenceOf, isHermitian};
 
 use complex::Complex;
 use fill::Operation;
+use refusal::Decision;
+use refusal::Measured;
 use refusal::Refusal;
 use refusal::Verdict;
+use refusal::lines::orbital_below;
+use refusal::lines::valid_tolerance;
 
 // rows·columns entries by rows, the real part before the imaginary. What stands beyond them changes nothing.
 pub struct DenseMatrix {
@@ -96,6 +103,12 @@ fn accepted(made: Made) -> Checked
         verdict: Verdict::Pass,
         block,
     }
+}
+
+fn decided(yes: bool) -> Decision
+    ensures { λ r. ⌜ r ≡ decide Verdict.Pass yes ⌝ }
+{
+    if yes { Decision::Yes } else { Decision::No }
 }
 
 // What an operation makes of two blocks, rows by inner and below by columns: lines 1, 2, 3, 7, then 10.
@@ -189,5 +202,73 @@ impl DenseMatrix {
         let b = other.values;
         let same = (self.rows == other.rows) & (self.columns == other.columns);
         combined(Operation::Subtract, same, self.rows, self.columns, &a, other.rows, other.columns, &b)
+    }
+
+    // The sum of the diagonal, which is not checked and may be infinite.
+    pub fn trace(self) -> Value
+        ensures { λ r. ⌜ r ≡ traceOf self ⌝ }
+    {
+        let rows = self.rows;
+        let columns = self.columns;
+        let a = self.values;
+        let verdict = lines::block_lines(rows == columns, rows, columns, &a);
+        match verdict {
+            Verdict::Pass => Value::Of(measure::diagonal(&a, columns)),
+            Verdict::Refused(r) => Value::Refused(r),
+        }
+    }
+
+    // The entry in a row and a column.
+    pub fn get(self, row: usize, column: usize) -> Value
+        ensures { λ r. ⌜ r ≡ entryOf self row column ⌝ }
+    {
+        let rows = self.rows;
+        let columns = self.columns;
+        let a = self.values;
+        let inside = orbital_below(row, rows).then(orbital_below(column, columns));
+        let verdict = lines::block_lines(true, rows, columns, &a).then(inside);
+        match verdict {
+            Verdict::Pass => Value::Of(fill::entry(&a, columns, row, column)),
+            Verdict::Refused(r) => Value::Refused(r),
+        }
+    }
+
+    // The largest norm of an entry of self less that of other, which is not checked and may be infinite.
+    pub fn max_difference(self, other: DenseMatrix) -> Measured
+        ensures { λ r. ⌜ r ≡ maxDifferenceOf self other ⌝ }
+    {
+        let rows = self.rows;
+        let columns = self.columns;
+        let below = other.rows;
+        let beside = other.columns;
+        let a = self.values;
+        let b = other.values;
+        let same = (rows == below) & (columns == beside);
+        let verdict = lines::pair_lines(same, rows, columns, &a, below, beside, &b);
+        match verdict {
+            Verdict::Pass => Measured::Of(measure::largest_difference(&a, &b, rows, columns)),
+            Verdict::Refused(r) => Measured::Refused(r),
+        }
+    }
+
+    // Whether the matrix is Hermitian within the tolerance times its largest part; one that is not square is not.
+    pub fn is_hermitian(self, tolerance: f64) -> Decision
+        ensures { λ r. ⌜ r ≡ isHermitian self tolerance ⌝ }
+    {
+        let rows = self.rows;
+        let columns = self.columns;
+        let a = self.values;
+        let verdict = lines::block_lines(true, rows, columns, &a).then(valid_tolerance(tolerance));
+        match verdict {
+            Verdict::Pass => {
+                if rows == columns {
+                    let threshold = tolerance * measure::largest_part(&a, rows);
+                    decided(measure::hermitian_within(&a, rows, threshold))
+                } else {
+                    Decision::No
+                }
+            }
+            Verdict::Refused(r) => Decision::Refused(r),
+        }
     }
 }

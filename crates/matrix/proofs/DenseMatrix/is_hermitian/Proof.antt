@@ -1,0 +1,89 @@
+-- `matrix::DenseMatrix::is_hermitian` meets its contract, by its tests. Assumes nothing.
+use mathlib.Core.Path.{_≡_, refl, sym, ap, ap₂, _∙_}
+use mathlib.Core.Bool.{Bool, true, false, _&&_}
+use Prim.Native.Nat.{ℕ, _≤_, _<_}
+use native.Mathlib.Nat.{le-of-eq, le-trans}
+use lib.Dec.{eqb, ltb}
+use lib.Ieee.{Float}
+use borrow.Author.Needs.{needs}
+use borrow.Author.Tests.{eqb-true, ltb-true, eq-eqb, ne-eqb}
+use Rattle.lists.specs.Agreement.{both}
+use Rattle.complex.specs.declared.Complex.{Complex}
+use Rattle.refusal.specs.declared.Verdict.{Verdict}
+use Rattle.refusal.specs.declared.Verdict.the-variants.{Pass, Refused}
+use Rattle.complex.specs.Arithmetic.{mul}
+use Rattle.complex.specs.Sum.{largestIn}
+use Rattle.refusal.specs.declared.Decision.{Decision}
+use Rattle.refusal.specs.Verdict.{_then_, decide}
+use Rattle.refusal.specs.Agreement.{then-pass}
+use Rattle.refusal.specs.Lines.{validTolerance}
+use Rattle.matrix.specs.declared.DenseMatrix.{DenseMatrix}
+use Rattle.matrix.specs.Block.{entriesIn, entriesOf}
+use Rattle.matrix.specs.Operations.{partSize, hermitianWithin, hermitian}
+use Rattle.matrix.specs.Calls.{square, blockLines, isHermitian}
+use Rattle.matrix.proofs.Shapes.{Small, lines-small}
+use Rattle.matrix.proofs.DenseMatrix.is_hermitian.Statement.{statement}
+use Rattle.matrix.proofs.DenseMatrix.is_hermitian.Tie as tie
+
+asked : (c : tie.After-then) → let x = c .before .before .before .before .before .args in c .then .result ≡ (blockLines true (x .self) then validTolerance (x .tolerance))
+asked c = cc
+
+passed : (c : tie.After-enum-told) → let x = c .before .before .before .before .before .before .before .args in (blockLines true (x .self) then validTolerance (x .tolerance)) ≡ Pass
+passed c = sym (asked (c .before .before)) ∙ c .enum-told .given .1
+
+few : (c : tie.After-enum-told) → let x = c .before .before .before .before .before .before .before .args .self in Small (x .rows) (x .columns)
+few c = lines-small true _ (then-pass _ _ (passed c) .0)
+
+first : tie.Need-slice-aggregate-largest-part
+first c = search needs
+
+second : tie.Need-slice-aggregate-hermitian-within
+second c = search needs
+
+-- past the lines, of a square block: what both loops found
+square-is : (x : DenseMatrix) (tolerance largest : Float) (within : Bool) (v : Verdict) → v ≡ Pass → x .rows ≡ x .columns
+    → largest ≡ largestIn (x .rows) (x .rows) (λ c d. partSize (entriesIn (x .rows) (x .values) c d))
+    → within ≡ hermitianWithin (x .rows) (mul tolerance largest) (entriesIn (x .rows) (x .values))
+    → decide Pass within ≡ decide v (square x && hermitian (x .rows) tolerance (entriesOf x))
+unfolding hermitian
+square-is x tolerance largest within v p e l w =
+    ap₂ decide (sym p)
+    (w ∙ ap (λ (m : Float). hermitianWithin (x .rows) (mul tolerance m) (entriesIn (x .rows) (x .values))) l
+    ∙ ap (λ (m : ℕ). hermitian (x .rows) tolerance (entriesIn m (x .values))) e
+    ∙ ap (λ (b : Bool). b && hermitian (x .rows) tolerance (entriesOf x)) (sym (eq-eqb (x .rows) (x .columns) e)))
+
+returns : tie.Need-returns
+unfolding isHermitian
+returns c =
+    let t = c .before .before .before .before .before in
+    let x = t .before .before .before .before .before .before .before .before .args in
+    c .decided .ensures
+    ∙ square-is (x .self) (x .tolerance) (c .before .before .before .largest-part .result) (c .before .hermitian-within .result) _ (passed (t .before)) (t .if1 .taken)
+    (c .before .before .before .largest-part .ensures) (c .before .hermitian-within .ensures)
+
+returns-2 : tie.Need-returns-2
+unfolding isHermitian decide
+returns-2 c = rw (passed (c .before), ne-eqb _ _ (c .if1 .left))
+
+returns-3 : tie.Need-returns-3
+unfolding isHermitian decide
+returns-3 c = rw (sym (asked (c .before .before .before)) ∙ c .before .verdict .given .1)
+
+pub is-hermitian-spec : {M : Type 1} → statement M
+is-hermitian-spec =
+    tie.close
+    (tie.spec
+    (λ c. search needs)  -- slice-aggregate-block-lines
+    (λ c κs. search needs)  -- block-lines-requires
+    (λ c κs. search needs)  -- valid-tolerance-requires
+    (λ c κs. search needs)  -- then-requires
+    (λ c. search needs)  -- enum-told
+    first
+    (λ c κs. let s = few (c .before .before) in (s .rows-some, s .rows-most, le-of-eq (first c)))  -- largest-part-requires
+    second
+    (λ c κs. let s = few (c .before .before .before .before) in (s .rows-some, s .rows-most, le-of-eq (second c)))  -- hermitian-within-requires
+    (λ c κs. search needs)  -- decided-requires
+    (λ c. search needs)  -- enum-known-verdict
+    returns
+    returns-2
+    returns-3)

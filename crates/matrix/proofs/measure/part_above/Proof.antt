@@ -1,0 +1,14 @@
+-- `matrix::measure::part_above` meets its contract, from its callees'. Assumes nothing.
+use borrow.Author.Needs.{needs}
+use Rattle.matrix.specs.Operations.{partAbove}
+use Rattle.matrix.proofs.measure.part_above.Statement.{statement}
+use Rattle.matrix.proofs.measure.part_above.Tie as tie
+
+pub part-above-spec : {M : Type 1} → statement M
+unfolding partAbove
+part-above-spec =
+    tie.close
+    (tie.spec
+    (λ c κs. search needs)  -- abs-requires
+    (λ c κs. search needs)  -- abs-requires-2
+    (λ c. cc))  -- returns

@@ -1,0 +1,15 @@
+-- `matrix::measure::part_size` meets its contract, from its callees'. Assumes nothing.
+use borrow.Author.Needs.{needs}
+use Rattle.matrix.specs.Operations.{partSize}
+use Rattle.matrix.proofs.measure.part_size.Statement.{statement}
+use Rattle.matrix.proofs.measure.part_size.Tie as tie
+
+pub part-size-spec : {M : Type 1} → statement M
+unfolding partSize
+part-size-spec =
+    tie.close
+    (tie.spec
+    (λ c κs. search needs)  -- abs-requires
+    (λ c κs. search needs)  -- abs-requires-2
+    (λ c κs. search needs)  -- max-requires
+    (λ c. cc))  -- returns

@@ -1,0 +1,63 @@
+-- `norm::nearest::rounded` meets its contract, by `Result`: what the words keep is small, and the bits are the rounded root's.
+-- Assumes nothing.
+use Prim.Native.Nat.{ℕ, _+_, _-_, _*_, _/_, _%_, _^_, _<_}
+use native.Mathlib.Nat.{le-refl, lt-of-le-of-lt}
+use lib.Dec.{lit<}
+use native.Mathlib.Omega.{arith}
+use borrow.Author.Needs.{needs}
+use Rattle.norm.proofs.Result.{kept-small, Rounded, within-steps, past-steps}
+use Rattle.norm.proofs.nearest.rounded.Statement.{statement}
+use Rattle.norm.proofs.nearest.rounded.Tie as tie
+
+-- what the words keep
+abbrev kept : ℕ → ℕ → ℕ → ℕ
+kept hi lo r = hi * 2 ^ (64 - r) % 2 ^ 64 + lo / 2 ^ r
+
+small : (c : tie.After-dropped) → kept (c .before .before .before .args .s .root .hi) (c .before .before .before .args .s .root .lo) (c .dropped .result) < 2 ^ 53
+small c =
+    let s = c .before .before .before in
+    kept-small (s .args .s .root .hi) (s .args .s .root .lo) (c .dropped .result) (c .dropped .ensures)
+
+add-q : tie.Need-add-q
+add-q c = let h = small (c .before .before) in omega (arith, h)
+
+add-result : tie.Need-add-result
+add-result c = let h = small (c .before .before .before .before .before .before .before) in let m = c .before .rounding-up .ensures .1 in omega (arith, h, m)
+
+-- what is known at the last test
+at-test : (c : tie.After-rounding-up) →
+    let d = c .before .before .before .before .before .before in
+    let s = d .before .before .before .args in
+    Rounded (s .s .root .hi) (s .s .root .lo) (s .s .rest .hi) (s .s .rest .lo) (s .shift) (d .dropped .result) (kept (s .s .root .hi) (s .s .root .lo) (d .dropped .result) + c .rounding-up .result)
+at-test c =
+    let d = c .before .before .before .before .before .before in
+    let s = d .before .before .before in
+    record { little = s .pre .0; dropped = d .dropped .ensures; unit = s .pre .3; up = c .rounding-up .ensures .0 }
+
+add-result-2 : tie.Need-add-result-2
+add-result-2 c = let h = within-steps (at-test (c .before)) (c .if1 .taken) .0 in record { fits = lt-of-le-of-lt h (lit< {m = 2047 * 2 ^ 52} {n = 2 ^ 64} tt) }
+
+returns : tie.Need-returns
+returns c = within-steps (at-test (c .before)) (c .if1 .taken)
+
+returns-2 : tie.Need-returns-2
+returns-2 c = (le-refl (2047 * 2 ^ 52), past-steps (at-test (c .before)) (c .if1 .left))
+
+pub rounded-spec : {M : Type 1} → statement M
+rounded-spec =
+    tie.close
+    (tie.spec
+    (λ c κs. search needs)
+    (λ c. search needs)
+    (λ c. search needs)
+    (λ c. search needs)
+    add-q
+    (λ c. search needs)
+    (λ c κs. search needs)
+    (λ c. search needs)
+    (λ c. search needs)
+    (λ c. search needs)
+    add-result
+    add-result-2
+    returns
+    returns-2)

@@ -1,0 +1,14 @@
+-- What the integers' check of a guess says, and what it settles: the rounded root, and the norm's bits.
+use mathlib.Core.Path.{_≡_}
+use Prim.Native.Nat.{ℕ, _+_, _-_, _*_, _^_, _≤_, _<_}
+use lib.Ieee.{binary64, ofBits}
+use Rattle.norm.specs.Norm.{roundedRoot}
+
+-- the root of sum lies strictly between the middles of the steps below and above m, where h is half a step
+abbrev pub Between : ℕ → ℕ → ℕ → Type 0
+Between sum m h = ((2 * m - 1) * h * ((2 * m - 1) * h) < sum) × (sum < (2 * m + 1) * h * ((2 * m + 1) * h))
+
+-- the bits r are the norm's, for significands qa and qb that are gap shifts apart, the larger shifted by `shift`
+pub record Settles (qa qb gap shift r : ℕ) : Type 0 where
+  pub most : r ≤ 2047 * 2 ^ 52
+  pub value : (n u : ℕ) → gap + u ≡ shift → (qa * qa * 2 ^ (2 * gap + 2) + (2 * qb) * (2 * qb)) * 4 ^ u ≡ 4 * n → ofBits binary64 r ≡ roundedRoot n

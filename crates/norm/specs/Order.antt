@@ -1,0 +1,88 @@
+-- Order is kept: a larger sum of squares never gives a smaller norm. It follows from nearness alone. Assumes nothing.
+use mathlib.Core.Path.{_≡_, refl, sym, ap, _∙_, subst}
+use mathlib.Core.Logic.{_⊎_, inl, inr}
+use mathlib.Core.Bool.{false}
+use Prim.Native.Nat.{ℕ, suc, _+_, _*_, _^_, _≤_, _<_}
+use native.Mathlib.Nat.{le-trans, le-of-eq, lt-of-not-le, not-le-of-lt, eq-or-lt-of-le, add-comm, mul-assoc, mul-comm, pow-suc, mul-le-mul-right}
+use native.Mathlib.Decide.{decLe}
+use native.Mathlib.Omega.{arith}
+use lib.Dec.{T, ltb, lit<}
+use lib.Arith.{le→nltb}
+use lib.Pow.{pow-pos}
+use lib.Ieee.{Float, nan, inf, fin, binary64, odd, units, le}
+use lib.Ieee.Bits.{cond-no}
+use lib.Ieee.Exact.{HasValue, units-val}
+use lib.Ieee.Fits.{nearest-le}
+use lib.Ieee.Order.{le-of-values}
+use Rattle.norm.specs.Norm.{roundedRoot}
+use Rattle.norm.specs.Nearest.{roundedSize, significandOfRoot, digitsOf, stepOf, orderOf, rounded-is, own-step, Representable, no-nearer}
+
+-- the rounded size is a binary64's, also where a carry made 2^53 of the significand
+rounded-representable : (n : ℕ) → Representable (roundedSize n)
+rounded-representable n = go (eq-or-lt-of-le most)
+  where
+    m : ℕ
+    m = significandOfRoot n
+
+    k : ℕ
+    k = stepOf n
+
+    most : m ≤ 2 ^ 53
+    most = le-trans (nearest-le (digitsOf n) (orderOf n)) (own-step n .digits .small)
+
+    go : (m ≡ 2 ^ 53) ⊎ (m < 2 ^ 53) → Representable (roundedSize n)
+    go (inl e) = record { digits = 2 ^ 52; step = suc k; short = lit< tt; value = ap (λ (x : ℕ). x * 2 ^ k) e ∙ mul-assoc (2 ^ 52) 2 (2 ^ k) ∙ ap (λ (x : ℕ). 2 ^ 52 * x) (mul-comm 2 (2 ^ k) ∙ sym (pow-suc 2 k)) }
+    go (inr h) = record { digits = m; step = k; short = h; value = refl }
+
+-- Were the larger sum's size w' below the smaller sum's w, each would be as near as the other to both roots, and the sums equal.
+pub size-kept : (n n' : ℕ) → n ≤ n' → roundedSize n ≤ roundedSize n'
+size-kept n n' h = go (decLe (roundedSize n) (roundedSize n'))
+  where
+    w : ℕ
+    w = roundedSize n
+
+    w' : ℕ
+    w' = roundedSize n'
+
+    squeezed : (s s' : ℕ) → s ≡ s' → s ≤ 4 * n → 4 * n' ≤ s' → n ≡ n'
+    squeezed s s' e a b = omega arith
+
+    equal : w' < w → n ≡ n'
+    equal l = squeezed ((w + w') * (w + w')) ((w' + w) * (w' + w)) (ap (λ (x : ℕ). x * x) (add-comm w w')) (no-nearer n w' (rounded-representable n') .0 l) (no-nearer n' w (rounded-representable n) .1 l)
+
+    go : Dec (w ≤ w') → w ≤ w'
+    go (yes l) = l
+    go (no l) = le-of-eq (ap roundedSize (equal (lt-of-not-le l)))
+
+-- what the size is as a value: itself below 2^1024, and infinity from there on
+pub rounded-value : (n : ℕ) → roundedSize n < 2 ^ 2098 → HasValue (roundedRoot n) false (roundedSize n) (2 ^ 1074)
+rounded-value n h = subst (λ (x : Float). HasValue x false (roundedSize n) (2 ^ 1074)) (sym (rounded-is n)) (units-val binary64 false (significandOfRoot n) (stepOf n) h)
+
+pub rounded-infinite : (n : ℕ) → 2 ^ 2098 ≤ roundedSize n → roundedRoot n ≡ inf false
+unfolding units
+rounded-infinite n h =
+    rounded-is n ∙ cond-no (ltb (roundedSize n) (2 ^ 2098)) (odd 54 false (significandOfRoot n) (stepOf n) 1074) (inf false) (le→nltb (roundedSize n) (2 ^ 2098) h)
+
+below-infinity : (x : Float) (a c : ℕ) → HasValue x false a c → T (le x (inf false))
+unfolding le
+below-infinity nan a c h = absurd h
+below-infinity (inf s) a c h = absurd h
+below-infinity (fin s m e) a c h = tt
+
+infinity-itself : T (le (inf false) (inf false))
+unfolding le
+infinity-itself = tt
+
+pub order-kept : (n n' : ℕ) → n ≤ n' → T (le (roundedRoot n) (roundedRoot n'))
+order-kept n n' h = go (decLe (2 ^ 2098) (roundedSize n')) (decLe (2 ^ 2098) (roundedSize n))
+  where
+    top : ℕ
+    top = 2 ^ 2098
+
+    go : Dec (top ≤ roundedSize n') → Dec (top ≤ roundedSize n) → T (le (roundedRoot n) (roundedRoot n'))
+    go (yes p) (yes q) = subst (λ (x : Float). T (le x (roundedRoot n'))) (sym (rounded-infinite n q)) (subst (λ (y : Float). T (le (inf false) y)) (sym (rounded-infinite n' p)) infinity-itself)
+    go (yes p) (no q) = subst (λ (y : Float). T (le (roundedRoot n) y)) (sym (rounded-infinite n' p)) (below-infinity (roundedRoot n) (roundedSize n) (2 ^ 1074) (rounded-value n (lt-of-not-le q)))
+    go (no p) (yes q) = absurd (not-le-of-lt (lt-of-not-le p) (le-trans q (size-kept n n' h)))
+    go (no p) (no q) =
+        le-of-values (roundedRoot n) (roundedRoot n') (roundedSize n) (2 ^ 1074) (roundedSize n') (2 ^ 1074) (pow-pos 1074) (pow-pos 1074)
+        (rounded-value n (lt-of-not-le q)) (rounded-value n' (lt-of-not-le p)) (mul-le-mul-right (2 ^ 1074) (size-kept n n' h))

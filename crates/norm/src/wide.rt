@@ -1,0 +1,143 @@
+// Numbers of two and of three words: what the root needs of them, each contract in natural numbers.
+ghost use mathlib.Core.Path.{_≡_};
+ghost use Prim.Native.Nat.{_+_, _-_, _*_, _/_, _^_, _≤_, _<_};
+ghost use lib.Dec.{leb};
+ghost use Rattle.norm.specs.Words.{two, three};
+
+// hi·2^64 + lo
+pub(crate) struct Wide {
+    pub(crate) hi: u64,
+    pub(crate) lo: u64,
+}
+
+// high·2^128 + mid·2^64 + low
+pub(crate) struct Three {
+    pub(crate) high: u64,
+    pub(crate) mid: u64,
+    pub(crate) low: u64,
+}
+
+// 4·w + d: the two binary digits d behind w.
+pub(crate) fn with_two_digits(w: Wide, d: u64) -> Wide
+    requires { ⌜ (w .hi < 2 ^ 62) × (d < 4) ⌝ }
+    ensures { λ r. ⌜ two r ≡ 4 * two w + d ⌝ }
+{
+    Wide {
+        hi: w.hi * 4 + (w.lo >> 62),
+        lo: (w.lo << 2) + d,
+    }
+}
+
+// 2·w + d: the binary digit d behind w.
+pub(crate) fn with_digit(w: Wide, d: u64) -> Wide
+    requires { ⌜ (w .hi < 2 ^ 62) × (d < 2) ⌝ }
+    ensures { λ r. ⌜ two r ≡ 2 * two w + d ⌝ }
+{
+    Wide {
+        hi: w.hi * 2 + (w.lo >> 63),
+        lo: (w.lo << 1) + d,
+    }
+}
+
+pub(crate) fn at_most(a: Wide, b: Wide) -> bool
+    ensures { λ r. ⌜ r ≡ leb (two a) (two b) ⌝ }
+{
+    if a.hi == b.hi {
+        a.lo <= b.lo
+    } else {
+        a.hi < b.hi
+    }
+}
+
+// a − b
+pub(crate) fn minus(a: Wide, b: Wide) -> Wide
+    requires { ⌜ two b ≤ two a ⌝ }
+    ensures { λ r. ⌜ two r + two b ≡ two a ⌝ }
+{
+    if b.lo <= a.lo {
+        Wide {
+            hi: a.hi - b.hi,
+            lo: a.lo - b.lo,
+        }
+    } else {
+        Wide {
+            hi: a.hi - b.hi - 1,
+            lo: a.lo + (u64::MAX - b.lo) + 1,
+        }
+    }
+}
+
+// s², by columns of 32 digits: s is s1·2^32 + s0, and no column's sum reaches 2^64.
+pub(crate) fn square(s: u64) -> Wide
+    requires { ⌜ s < 2 ^ 56 ⌝ }
+    ensures { λ r. ⌜ two r ≡ s * s ⌝ }
+{
+    let s1 = s >> 32;
+    let s0 = s % 0x1_0000_0000;
+    let base = s0 * s0;
+    let cross = s1 * s0 * 2 + (base >> 32);
+    Wide {
+        hi: s1 * s1 + (cross >> 32),
+        lo: (cross % 0x1_0000_0000) * 0x1_0000_0000 + base % 0x1_0000_0000,
+    }
+}
+
+// w·2^j, whose two words become three.
+pub(crate) fn raised(w: Wide, j: u64) -> Three
+    requires { ⌜ (1 ≤ j) × (j < 64) ⌝ }
+    ensures { λ r. ⌜ three r ≡ two w * 2 ^ j ⌝ }
+{
+    let down = 64 - j;
+    Three {
+        high: w.hi >> down,
+        mid: (w.hi << j) + (w.lo >> down),
+        low: w.lo << j,
+    }
+}
+
+// The whole part of w / 2^j.
+pub(crate) fn lowered(w: Wide, j: u64) -> Wide
+    requires { ⌜ (1 ≤ j) × (j < 64) ⌝ }
+    ensures { λ r. ⌜ two r ≡ two w / 2 ^ j ⌝ }
+{
+    let up = 64 - j;
+    Wide {
+        hi: w.hi >> j,
+        lo: (w.hi << up) + (w.lo >> j),
+    }
+}
+
+// a + b + carry: the sum's word is lo, and what it carries is hi.
+pub(crate) fn sum_of(a: u64, b: u64, carry: u64) -> Wide
+    requires { ⌜ carry ≤ 1 ⌝ }
+    ensures { λ r. ⌜ (two r ≡ a + b + carry) × (r .hi ≤ 1) ⌝ }
+{
+    let room = u64::MAX - b;
+    if a < room {
+        return Wide {
+            hi: 0,
+            lo: a + b + carry,
+        };
+    }
+    if a - room < 1 - carry {
+        return Wide { hi: 0, lo: a + b };
+    }
+    Wide {
+        hi: 1,
+        lo: a - room - (1 - carry),
+    }
+}
+
+// n + w
+pub(crate) fn plus(n: Three, w: Wide) -> Three
+    requires { ⌜ n .high < 2 ^ 63 ⌝ }
+    ensures { λ r. ⌜ three r ≡ three n + two w ⌝ }
+{
+    let low = sum_of(n.low, w.lo, 0);
+    let mid = sum_of(n.mid, w.hi, low.hi);
+    Three {
+        high: n.high + mid.hi,
+        mid: mid.lo,
+        low: low.lo,
+    }
+}
