@@ -3,3 +3,6 @@ pub mod Weights
 pub mod Calls
 pub mod Cases
 pub mod Agreement
+pub mod Inside
+pub mod Past
+pub mod Outcome

@@ -1,1 +1,154 @@
-// A grid of rising times and its trapezoid weights (document 01, grid): the meaning of each call is in specs/.
+// A grid of rising times and its trapezoid weights (document 01, grid). All calls are total: a time past the end of a slice
+// is a NaN to them.
+use refusal::Measured;
+use refusal::Verdict;
+use refusal::lines;
+ghost use mathlib.Core.Path.{_≡_};
+ghost use mathlib.Core.List.{[], _∷_};
+ghost use Prim.Native.Nat.{_+_, _-_, min, max};
+ghost use lib.ListN.{length, getD};
+ghost use lib.Ieee.{nan};
+ghost use Rattle.lists.specs.Indexed.{join};
+ghost use Rattle.refusal.specs.Lines.{finiteWeights};
+ghost use Rattle.grid.specs.Weights.{halfStep, fullWeight, intervalWeight};
+ghost use Rattle.grid.specs.Calls.{timeLines, gridLines, checkTimes, fullWeights, intervalWeightOf};
+
+// The time of a point.
+fn time_at(times: &[f64], i: usize) -> f64
+    ensures { λ r. ⌜ r ≡ getD (now (times .entry)) i nan ⌝ }
+{
+    if i < times.len() { times[i] } else { 0.0 / 0.0 }
+}
+
+// 0.5·(times[later] − times[earlier]).
+pub fn half_step(times: &[f64], later: usize, earlier: usize) -> f64
+    ensures { λ r. ⌜ r ≡ halfStep (now (times .entry)) later earlier ⌝ }
+{
+    0.5 * (time_at(times, later) - time_at(times, earlier))
+}
+
+// The weight of a point in the trapezoid rule over all points: half the adjoining step at the first and the last, half of
+// next minus previous between.
+pub fn full_weight(times: &[f64], points: usize, index: usize) -> f64
+    ensures { λ r. ⌜ r ≡ fullWeight points (now (times .entry)) index ⌝ }
+{
+    if times.len() <= index {
+        return 0.0 / 0.0;
+    }
+    if index == 0 {
+        return half_step(times, 1, 0);
+    }
+    if index + 1 == points {
+        return half_step(times, index, index - 1);
+    }
+    half_step(times, index + 1, index - 1)
+}
+
+// The point after, at most the end.
+fn next(point: usize, end: usize) -> usize
+    ensures { λ r. ⌜ r ≡ min (point + 1) end ⌝ }
+{
+    if point < end { point + 1 } else { end }
+}
+
+// The point before, at least the start.
+fn previous(point: usize, start: usize) -> usize
+    ensures { λ r. ⌜ r ≡ max (point - 1) start ⌝ }
+{
+    if start < point { point - 1 } else { start }
+}
+
+// The weight of a point in the trapezoid rule from start to end: 0 if start ≥ end or the point lies outside, half the
+// adjoining step at an end, half of next minus previous inside.
+pub fn trapezoid_weight(times: &[f64], point: usize, start: usize, end: usize) -> f64
+    ensures { λ r. ⌜ r ≡ intervalWeight (now (times .entry)) point start end ⌝ }
+{
+    if (end <= start) | ((point < start) | (end < point)) {
+        return 0.0;
+    }
+    let later = next(point, end);
+    let earlier = previous(point, start);
+    if end < times.len() {
+        return 0.5 * (times[later] - times[earlier]);
+    }
+    half_step(times, later, earlier)
+}
+
+// 6: the full weights are finite.
+fn finite_weights(times: &[f64], points: usize) -> Verdict
+    ensures { λ r. ⌜ r ≡ finiteWeights points (fullWeight points (now (times .entry))) ⌝ }
+{
+    if times.len() < points {
+        return lines::numbered(false, 6);
+    }
+    let mut all = true;
+    for i in 0..points {
+        all = all & complex::is_finite(full_weight(times, points, i));
+    }
+    lines::numbered(all, 6)
+}
+
+// The lines 4, 5 and 6.
+pub fn time_lines(times: &[f64], points: usize) -> Verdict
+    ensures { λ r. ⌜ r ≡ timeLines points (now (times .entry)) ⌝ }
+{
+    let rise = lines::rising_times(points, times);
+    lines::finite_times(points, times).then(rise.then(finite_weights(times, points)))
+}
+
+// The lines 1 to 6 of a call that is lent the times, with its own question of other lengths.
+fn grid_lines(times: &[f64], points: usize, fits: bool) -> Verdict
+    ensures { λ r. ⌜ r ≡ gridLines points (now (times .entry)) fits ⌝ }
+{
+    let limits = lines::within_limits(points, 1);
+    let fitting = lines::fitting((times.len() == points) & fits);
+    lines::large_enough(points, 1).then(limits.then(fitting.then(time_lines(times, points))))
+}
+
+// Whether the times are a grid of N points.
+pub fn check_times(times: &[f64], points: usize) -> Verdict
+    ensures { λ r. ⌜ r ≡ checkTimes points (now (times .entry)) ⌝ }
+{
+    grid_lines(times, points, true)
+}
+
+// Writes each point's full weight.
+fn fill(times: &[f64], points: usize, weights: &mut [f64])
+    ensures { λ _. ⌜ now (weights .exit) ≡ join (length (now (weights .entry))) (λ i. fullWeight points (now (times .entry)) i ∷ []) ⌝ }
+{
+    for i in 0..weights.len() {
+        weights[i] = full_weight(times, points, i);
+    }
+}
+
+// The full weights of N points, in the slice lent for them. A refused call leaves the slice as it was.
+pub fn full_weights(times: &[f64], points: usize, weights: &mut [f64]) -> Verdict
+    ensures { λ r. ⌜ (r ≡ fullWeights points (now (times .entry)) (now (weights .entry)) .answer) × (now (weights .exit) ≡ fullWeights points (now (times .entry)) (now (weights .entry)) .weights) ⌝ }
+{
+    let verdict = grid_lines(times, points, weights.len() == points);
+    match verdict {
+        Verdict::Pass => {
+            fill(times, points, weights);
+            Verdict::Pass
+        }
+        Verdict::Refused(r) => Verdict::Refused(r),
+    }
+}
+
+// The weight of a point from start to end. An end of N or more gives 11 before that.
+pub fn interval_weight(
+    times: &[f64],
+    points: usize,
+    point: usize,
+    start: usize,
+    end: usize,
+) -> Measured
+    ensures { λ r. ⌜ r ≡ intervalWeightOf points (now (times .entry)) point start end ⌝ }
+{
+    let below = lines::time_below(end, points);
+    let verdict = check_times(times, points).then(below);
+    match verdict {
+        Verdict::Pass => Measured::Of(trapezoid_weight(times, point, start, end)),
+        Verdict::Refused(r) => Measured::Refused(r),
+    }
+}

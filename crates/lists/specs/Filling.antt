@@ -2,9 +2,11 @@
 use mathlib.Core.Path.{_≡_, refl, sym, ap, subst, _∙_}
 use mathlib.Core.List.{List, [], _∷_, _++_, append-assoc, append-nil}
 use Prim.Native.Nat.{ℕ, zero, suc, _+_, _-_, _*_, _≤_, _<_}
-use native.Mathlib.Nat.{le-refl, not-suc-le-zero, le-of-suc-le-suc, sub-zero, suc-sub-suc, zero-sub}
+use native.Mathlib.Nat.{le-refl, not-suc-le-zero, le-of-suc-le-suc, sub-zero, suc-sub-suc, zero-sub, le-of-lt, min-eq-left}
 use native.Mathlib.Omega.{arith}
-use lib.ListN.{length, drop, set, replicate, length-append, length-drop, drop-of-length-le}
+use native.Mathlib.Numerals.{add-one}
+use lib.ListN.{length, getD, take, drop, set, replicate, length-append, length-take, length-drop, drop-of-length-le}
+use lib.Seq.{take-suc}
 
 module _ {A : Type 0} where
   -- d with xs written over its start
@@ -49,3 +51,8 @@ module _ {A : Type 0} where
   pub over-replicate : (n k : ℕ) (a : A) (xs : List A) → length xs ≡ k → over (replicate n a) xs ≡ xs ++ replicate (n - k) a
   unfolding over
   over-replicate n k a xs e = rw (drop-replicate, e)
+
+  -- element i of xs copied after those before it
+  pub over-copy : (d xs : List A) (i : ℕ) (z : A) → i < length xs → i < length d → set (over d (take i xs)) i (getD xs i z) ≡ over d (take (i + 1) xs)
+  over-copy d xs i z h l =
+      over-one d (take i xs) i (getD xs i z) (length-take i xs ∙ min-eq-left (le-of-lt h)) l ∙ ap (over d) (sym (ap (λ (k : ℕ). take k xs) (add-one i) ∙ take-suc xs i z h))

@@ -4,3 +4,4 @@ pub mod Agreement
 pub mod Reading
 pub mod Turns
 pub mod Filling
+pub mod Singles

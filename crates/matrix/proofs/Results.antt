@@ -52,3 +52,7 @@ pub same-columns : (x y : DenseMatrix) (f : Entries) → finiteBlock (pairLines 
 same-columns x y f =
     by-columns (pairLines (sameShape x y) x y) (x .rows) (y .columns) (x .columns) f
     (λ p. sym (eqb-true (x .columns) (y .columns) (both (eqb (x .rows) (y .rows)) (eqb (x .columns) (y .columns)) (pair-fits (sameShape x y) x y p) .1)))
+
+-- questions that passed before the last ones
+pub checked-after : (v w : Verdict) (block : DenseMatrix) → v ≡ Pass → checked w block ≡ checked (v then w) block
+checked-after v w block p = ap (λ (u : Verdict). checked u block) (sym (then-after v w p))

@@ -55,8 +55,10 @@ pair-fits fits x y h =
     let shape = then-pass (pairShape fits (x .rows) (x .columns) (y .rows) (y .columns)) _ h .0 in
     ask-pass fits (by 3) (then-pass _ _ (then-pass _ _ shape .1) .1)
 
+pub shape-fits : (fits : Bool) (rows columns : ℕ) → shapeOf fits rows columns ≡ Pass → fits ≡ true
+unfolding fitting
+shape-fits fits rows columns h = ask-pass fits (by 3) (then-pass _ _ (then-pass _ _ h .1) .1)
+
 pub block-fits : (fits : Bool) (x : DenseMatrix) → blockLines fits x ≡ Pass → fits ≡ true
-unfolding blockLines fitting
-block-fits fits x h =
-    let shape = then-pass (shapeOf fits (x .rows) (x .columns)) _ h .0 in
-    ask-pass fits (by 3) (then-pass _ _ (then-pass _ _ shape .1) .1)
+unfolding blockLines
+block-fits fits x h = shape-fits fits (x .rows) (x .columns) (then-pass (shapeOf fits (x .rows) (x .columns)) _ h .0)

@@ -1,12 +1,12 @@
 -- Document 01, matrix: the outcome of each call. Lines 1, 2, 3 and 7 of what it is given come first, then what the module names.
-use Prim.Native.Nat.{ℕ, _+_, _*_}
+use Prim.Native.Nat.{ℕ, _+_, _-_, _*_}
 use mathlib.Core.Bool.{Bool, true, _&&_}
-use mathlib.Core.List.{List}
+use mathlib.Core.List.{List, _++_}
 use lib.Dec.{eqb}
-use lib.ListN.{length}
+use lib.ListN.{length, replicate}
 use lib.Ieee.{Float}
 use Rattle.complex.specs.declared.Complex.{Complex}
-use Rattle.complex.specs.Numbers.{entryAt}
+use Rattle.complex.specs.Arithmetic.{plusZero}
 use Rattle.refusal.specs.declared.Verdict.{Verdict}
 use Rattle.refusal.specs.declared.Verdict.the-variants.{Pass, Refused}
 use Rattle.refusal.specs.declared.Measured.{Measured}
@@ -56,12 +56,11 @@ square x = eqb (x .rows) (x .columns)
 unfoldable pub finiteBlock : Verdict → ℕ → ℕ → Entries → Checked
 finiteBlock verdict rows columns f = checked (verdict then finiteWork (allFinite rows columns f)) (blockOf rows columns f)
 
--- `from_numbers`: lines 1, 2, 3 and 7
+-- `from_numbers`: lines 1, 2, 3 and 7; the block holds the numbers, and +0 beyond them
 unfoldable pub fromNumbers : ℕ → ℕ → List Float → Checked
 fromNumbers rows columns numbers =
-    checked
-    (shapeOf (eqb (length numbers) (2 * (rows * columns))) rows columns then finiteEntries 0 numbers (length numbers))
-    (blockOf rows columns (λ a b. entryAt numbers (2 * (a * columns + b))))
+    checked (shapeOf (eqb (length numbers) (2 * (rows * columns))) rows columns then finiteEntries 0 numbers (length numbers))
+    (record { rows = rows; columns = columns; values = numbers ++ replicate (512 - length numbers) plusZero })
 
 -- `identity`: lines 1 and 2 of its size
 unfoldable pub identityOf : ℕ → Checked

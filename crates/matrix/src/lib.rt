@@ -4,10 +4,12 @@ mod lines;
 mod measure;
 
 ghost use mathlib.Core.Path.{_≡_};
-ghost use Prim.Native.Nat.{_≤_, _<_};
-ghost use lib.ListN.{length};
+ghost use mathlib.Core.List.{_++_};
+ghost use Prim.Native.Nat.{_-_, _≤_, _<_};
+ghost use lib.ListN.{length, replicate};
+ghost use Rattle.complex.specs.Arithmetic.{plusZero};
 ghost use Rattle.refusal.specs.Verdict.{decide};
-ghost use Rattle.refusal.specs.Lines.{finiteWork};
+ghost use Rattle.refusal.specs.Lines.{finiteEntries, finiteWork};
 ghost use Rattle.matrix.specs.Block.{entriesIn, blockOf, checked, noBlock};
 ghost use Rattle.matrix.specs.Operations.{allFinite};
 ghost use Rattle.matrix.specs.Made.{madeBy, combinedOf};
@@ -20,6 +22,7 @@ use refusal::Decision;
 use refusal::Measured;
 use refusal::Refusal;
 use refusal::Verdict;
+use refusal::lines::finite_entries;
 use refusal::lines::orbital_below;
 use refusal::lines::valid_tolerance;
 
@@ -111,6 +114,30 @@ fn decided(yes: bool) -> Decision
     if yes { Decision::Yes } else { Decision::No }
 }
 
+// The block of numbers that are few enough, if all are finite.
+fn entries_or_7(rows: usize, columns: usize, numbers: &[f64]) -> Checked
+    requires { ⌜ length (now numbers) ≤ 512 ⌝ }
+    ensures { λ r. ⌜ r ≡ checked (finiteEntries 0 (now (numbers .entry)) (length (now (numbers .entry))))
+        (record { rows = rows; columns = columns; values = now (numbers .entry) ++ replicate (512 - length (now (numbers .entry))) plusZero }) ⌝ }
+{
+    let count = numbers.len();
+    let verdict = finite_entries(0, numbers, count);
+    match verdict {
+        Verdict::Pass => {
+            let values = padded(numbers);
+            Checked {
+                verdict: Verdict::Pass,
+                block: DenseMatrix {
+                    rows,
+                    columns,
+                    values,
+                },
+            }
+        }
+        Verdict::Refused(r) => refused(r),
+    }
+}
+
 // What an operation makes of two blocks, rows by inner and below by columns: lines 1, 2, 3, 7, then 10.
 fn combined(
     op: Operation,
@@ -132,7 +159,32 @@ fn combined(
     }
 }
 
+// The numbers, then +0.
+fn padded(numbers: &[f64]) -> [f64; 512]
+    requires { ⌜ length (now numbers) ≤ 512 ⌝ }
+    ensures { λ r. ⌜ r ≡ now (numbers .entry) ++ replicate (512 - length (now (numbers .entry))) plusZero ⌝ }
+{
+    let mut values = [0.0; 512];
+    let count = numbers.len();
+    for i in 0..count {
+        values[i] = numbers[i];
+    }
+    values
+}
+
 impl DenseMatrix {
+    // The block of rows·columns entries, whose numbers stand by rows.
+    pub fn from_numbers(rows: usize, columns: usize, numbers: &[f64]) -> Checked
+        ensures { λ r. ⌜ r ≡ fromNumbers rows columns (now (numbers .entry)) ⌝ }
+    {
+        let count = numbers.len();
+        let shape = lines::numbers_shape(count, rows, columns);
+        match shape {
+            Verdict::Pass => entries_or_7(rows, columns, numbers),
+            Verdict::Refused(r) => refused(r),
+        }
+    }
+
     // The identity matrix of that size.
     pub fn identity(size: usize) -> Checked
         ensures { λ r. ⌜ r ≡ identityOf size ⌝ }

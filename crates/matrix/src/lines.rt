@@ -1,6 +1,7 @@
 // Lines 1, 2, 3 and 7 of the blocks that a call is given (document 01, matrix), line by line and not block by block.
 ghost use mathlib.Core.Path.{_≡_};
-ghost use Prim.Native.Nat.{_≤_, _<_};
+ghost use Prim.Native.Nat.{_*_, _≤_, _<_};
+ghost use lib.Dec.{eqb};
 ghost use lib.ListN.{length};
 ghost use Rattle.matrix.specs.Calls.{shapeOf, pairShape, blockLines, pairLines};
 use refusal::Verdict;
@@ -14,6 +15,17 @@ pub(crate) fn shape(fits: bool, rows: usize, columns: usize) -> Verdict
     ensures { λ r. ⌜ r ≡ shapeOf fits rows columns ⌝ }
 {
     not_empty(rows, columns).then(within_block(rows, columns).then(fitting(fits)))
+}
+
+// Lines 1, 2 and 3 of a block that is to be made of len numbers.
+pub(crate) fn numbers_shape(len: usize, rows: usize, columns: usize) -> Verdict
+    ensures { λ r. ⌜ r ≡ shapeOf (eqb len (2 * (rows * columns))) rows columns ⌝ }
+{
+    let limits = not_empty(rows, columns).then(within_block(rows, columns));
+    match limits {
+        Verdict::Pass => fitting(len == 2 * (rows * columns)),
+        Verdict::Refused(r) => Verdict::Refused(r),
+    }
 }
 
 pub(crate) fn block_lines(fits: bool, rows: usize, columns: usize, values: &[f64]) -> Verdict

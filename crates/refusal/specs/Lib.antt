@@ -4,3 +4,5 @@ pub mod Lines
 pub mod Cases
 pub mod Agreement
 pub mod Search
+pub mod Keeping
+pub mod Measuring

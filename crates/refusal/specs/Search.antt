@@ -25,7 +25,8 @@ pub record Prefix (p : ℕ → Bool) (n r : ℕ) : Type 0 where
   pub ended : r < n → p r ≡ false
 
 module _ (p : ℕ → Bool) where
-  all-no : (n k : ℕ) → k < n → p k ≡ false → allBelow n p ≡ false
+  -- one that is answered no
+  pub all-no : (n k : ℕ) → k < n → p k ≡ false → allBelow n p ≡ false
   all-no n k l h = no (allBelow n p) (λ e. never (sym h ∙ all-each n p e k l))
     where
       no : (b : Bool) → (b ≡ true → b ≡ false) → b ≡ false

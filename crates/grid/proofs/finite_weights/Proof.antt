@@ -1,0 +1,36 @@
+-- `grid::finite_weights` meets its contract: with fewer times than points a weight is a NaN, and else after i turns the first i are tested. Assumes nothing.
+use mathlib.Core.Path.{_≡_, refl}
+use Prim.Native.Nat.{_≤_, _-_}
+use native.Mathlib.Nat.{le-antisymm}
+use native.Mathlib.Omega.{arith}
+use borrow.Author.Needs.{needs}
+use Rattle.lists.specs.Indexed.{allBelow}
+use Rattle.lists.specs.Turns.{all-more}
+use Rattle.complex.specs.Arithmetic.{finite}
+use Rattle.refusal.specs.Lines.{finiteWeights}
+use Rattle.grid.specs.Weights.{fullWeight}
+use Rattle.grid.specs.Past.{few-times}
+use Rattle.grid.proofs.finite_weights.Statement.{statement}
+use Rattle.grid.proofs.finite_weights.Tie as tie
+
+abbrev Inv : tie.InvT-loop
+Inv times points all₀ i₀ all i = (i ≤ points) × (all ≡ allBelow i (λ k. finite (fullWeight points times k)))
+
+abbrev μ : tie.MeasureT-loop
+μ times points all₀ i₀ all i = points - i
+
+pub finite-weights-spec : {M : Type 1} → statement M
+unfolding finiteWeights allBelow
+finite-weights-spec =
+    tie.close
+    (tie.spec Inv μ
+    (λ c κs. search needs)  -- numbered-requires
+    (λ c. rw (few-times (c .before .before .before .args .times .now) (c .before .before .before .args .points) (c .before .if1 .taken)) (c .numbered .ensures))  -- returns
+    (λ c. (search needs, refl))  -- loop-holds
+    (λ c κs. search needs)  -- full-weight-requires
+    (λ c κs. search needs)  -- is-finite-requires
+    (λ c. search needs)  -- add-i
+    (λ c. search needs)  -- loop-less
+    (λ c. (omega arith, rw all-more (cc)))  -- loop-again
+    (λ c κs. search needs)  -- numbered-requires-2
+    (λ c. cc (le-antisymm (c .before .before .loop .inv .0) (c .before .loop-test .left))))  -- returns-2
