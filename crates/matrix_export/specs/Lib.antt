@@ -1,0 +1,2 @@
+-- What the exported chain of products answers.
+pub mod Chain
