@@ -1,6 +1,6 @@
 // The entries of a block that an operation makes, over the numbers of its operands: one loop serves every operation.
 ghost use mathlib.Core.Path.{_≡_};
-ghost use Prim.Native.Nat.{ℕ, _+_, _*_, _≤_, _<_};
+ghost use Prim.Native.Nat.{ℕ, _+_, _*_, _/_, _%_, _≤_, _<_};
 ghost use lib.ListN.{length, set};
 ghost use Rattle.lists.specs.Filling.{over};
 ghost use Rattle.complex.specs.Numbers.{entryAt};
@@ -57,20 +57,22 @@ fn dot(a: &[f64], b: &[f64], inner: usize, columns: usize, i: usize, j: usize) -
 }
 
 // Entry (i, j) of what the operation makes; a has `inner` columns and b has `columns`.
-fn made(op: Operation, a: &[f64], b: &[f64], inner: usize, columns: usize, i: usize, j: usize) -> Complex
+fn made(
+    op: Operation,
+    a: &[f64],
+    b: &[f64],
+    inner: usize,
+    columns: usize,
+    i: usize,
+    j: usize,
+) -> Complex
     requires { ⌜ (i < 16) × (j < 16) × (inner ≤ 16) × (columns ≤ 16) ⌝ }
     requires { ⌜ (512 ≤ length (now a)) × (512 ≤ length (now b)) ⌝ }
     ensures { λ r. ⌜ r ≡ madeBy op inner (entriesIn inner (now (a .entry))) (entriesIn columns (now (b .entry))) i j ⌝ }
 {
     match op {
         Operation::Copy => entry(a, inner, i, j),
-        Operation::Identity => {
-            if i == j {
-                Complex::ONE
-            } else {
-                Complex::ZERO
-            }
-        }
+        Operation::Identity => { if i == j { Complex::ONE } else { Complex::ZERO } }
         Operation::Adjoint => entry(a, inner, j, i).conj(),
         Operation::Product => dot(a, b, inner, columns, i, j),
         Operation::Scale(factor) => entry(a, inner, i, j).times(factor),
@@ -85,6 +87,21 @@ fn made(op: Operation, a: &[f64], b: &[f64], inner: usize, columns: usize, i: us
             x.minus(y)
         }
     }
+}
+
+// The row and the column of the entry after (i, j), by rows: no division in the loop.
+fn next_row(i: usize, j: usize, columns: usize) -> usize
+    requires { ⌜ (i < 16) × (j < columns) × (columns ≤ 16) ⌝ }
+    ensures { λ r. ⌜ r ≡ (i * columns + j + 1) / columns ⌝ }
+{
+    if j + 1 == columns { i + 1 } else { i }
+}
+
+fn next_column(j: usize, columns: usize) -> usize
+    requires { ⌜ (j < columns) × (columns ≤ 16) ⌝ }
+    ensures { λ r. ⌜ r ≡ (j + 1) % columns ⌝ }
+{
+    if j + 1 == columns { 0 } else { j + 1 }
 }
 
 // Writes the operation's rows·columns entries over the start of out, and answers whether all are finite; a has `inner` columns.
@@ -103,11 +120,15 @@ pub(crate) fn fill(
         × (now (out .exit) ≡ over (now (out .entry)) (layOut rows columns (madeBy op inner (entriesIn inner (now (a .entry))) (entriesIn columns (now (b .entry)))))) ⌝ }
 {
     let mut all = true;
+    let mut i = 0;
+    let mut j = 0;
     let count = rows * columns;
     for p in 0..count {
-        let z = made(op, a, b, inner, columns, p / columns, p % columns);
+        let z = made(op, a, b, inner, columns, i, j);
         all = all & z.is_finite();
         put(out, p, z);
+        i = next_row(i, j, columns);
+        j = next_column(j, columns);
     }
     all
 }

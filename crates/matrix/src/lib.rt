@@ -15,7 +15,6 @@ ghost use Rattle.matrix.specs.Operations.{allFinite};
 ghost use Rattle.matrix.specs.Made.{madeBy, combinedOf};
 ghost use Rattle.matrix.specs.Calls.{fromNumbers, identityOf, adjointOf, productOf, scaleOf, addOf, subtractOf};
 ghost use Rattle.matrix.specs.Calls.{traceOf, entryOf, maxDifferenceOf, isHermitian};
-
 use complex::Complex;
 use fill::Operation;
 use refusal::Decision;
@@ -235,7 +234,16 @@ impl DenseMatrix {
         let below = other.rows;
         let a = self.values;
         let b = other.values;
-        combined(Operation::Product, inner == below, self.rows, inner, &a, below, other.columns, &b)
+        combined(
+            Operation::Product,
+            inner == below,
+            self.rows,
+            inner,
+            &a,
+            below,
+            other.columns,
+            &b,
+        )
     }
 
     pub fn add(self, other: DenseMatrix) -> Checked
@@ -244,7 +252,16 @@ impl DenseMatrix {
         let a = self.values;
         let b = other.values;
         let same = (self.rows == other.rows) & (self.columns == other.columns);
-        combined(Operation::Add, same, self.rows, self.columns, &a, other.rows, other.columns, &b)
+        combined(
+            Operation::Add,
+            same,
+            self.rows,
+            self.columns,
+            &a,
+            other.rows,
+            other.columns,
+            &b,
+        )
     }
 
     pub fn subtract(self, other: DenseMatrix) -> Checked
@@ -253,7 +270,16 @@ impl DenseMatrix {
         let a = self.values;
         let b = other.values;
         let same = (self.rows == other.rows) & (self.columns == other.columns);
-        combined(Operation::Subtract, same, self.rows, self.columns, &a, other.rows, other.columns, &b)
+        combined(
+            Operation::Subtract,
+            same,
+            self.rows,
+            self.columns,
+            &a,
+            other.rows,
+            other.columns,
+            &b,
+        )
     }
 
     // The sum of the diagonal, which is not checked and may be infinite.

@@ -35,7 +35,7 @@ returns c =
     let x = c .before .before .before .before .before .before .before .before .before .before .args in
     let p = passed (c .before .before .before) in
     let e : x .self .columns ≡ x .other .columns =
-        eqb-true _ _ (both (eqb (x .self .rows) (x .other .rows)) (eqb (x .self .columns) (x .other .columns)) (pair-fits (sameShape (x .self) (x .other)) (x .self) (x .other) p) .1) in
+    eqb-true _ _ (both (eqb (x .self .rows) (x .other .rows)) (eqb (x .self .columns) (x .other .columns)) (pair-fits (sameShape (x .self) (x .other)) (x .self) (x .other) p) .1) in
     let f : ℕ → Float = λ m. largestNorm (x .self .rows) (x .self .columns) (subtracted (entriesOf (x .self)) (entriesIn m (x .other .values))) in
     ap Of (c .largest-difference .ensures ∙ ap f e) ∙ ap (λ (v : Verdict). measured v (f (x .other .columns))) (sym p)
 
