@@ -1,14 +1,13 @@
 -- Check: what the integers' check of a guess settles. Assumes nothing.
-use mathlib.Core.Path.{_≡_, refl, sym, ap, ap₂, _∙_, subst, subst₂}
+use mathlib.Core.Path.{_≡_, sym, ap, ap₂, _∙_, subst}
 use mathlib.Core.Logic.{inr}
 use Prim.Native.Nat.{ℕ, zero, suc, _+_, _-_, _*_, _/_, _%_, _^_, _≤_, _<_}
-use native.Mathlib.Nat.{le-trans, le-of-eq, le-of-lt, lt-of-lt-of-le, lt-of-le-of-lt, add-comm, add-mul, mul-add, mul-assoc, mul-comm, mul-left-comm, mul-le-mul, mul-le-mul-left, mul-le-mul-right, mul-lt-mul-of-pos-right, div-mul-le-self, div-add-mod', mod-lt, suc-mul, lt-irrefl}
+use native.Mathlib.Nat.{add-le-add, mul-pos, le-div-iff-mul-le, div-lt-iff-lt-mul, div-div-eq-div-mul, le-trans, le-of-eq, le-of-lt, lt-of-lt-of-le, lt-of-le-of-lt, add-comm, add-mul, mul-add, mul-assoc, mul-comm, mul-left-comm, mul-le-mul, mul-le-mul-right, mul-lt-mul-of-pos-right, div-mul-le-self, div-add-mod', mod-lt, suc-mul, lt-irrefl}
 use native.Mathlib.Omega.{arith}
-use lib.Dec.{lit<}
 use lib.Pow.{pow-add, pow-pos}
 use Rattle.norm.specs.Squares.{square-product, square-double, power-of-four, even-power, four-pos}
 use Rattle.norm.specs.Cell.{certain}
-use Rattle.norm.specs.Checked.{Between, Settles}
+use Rattle.norm.specs.Checked.{Between, Covers, Settles}
 use Rattle.norm.specs.Encoding.{bits-of-step, step-in}
 
 -- The sum of squares N that the root is of, and its whole part S in the units of the larger part.
@@ -84,27 +83,102 @@ module _ (qa qb g : ℕ) where
       together : (n u : ℕ) → g + u ≡ shift → (y : ℕ) → y * 2 ^ more * 2 ^ (g + u) ≡ y * 2 ^ (shift + more)
       together n u e y = mul-assoc y (2 ^ more) (2 ^ (g + u)) ∙ ap (λ (x : ℕ). y * x) (sym (pow-add 2 more (g + u)) ∙ ap (λ (x : ℕ). 2 ^ x) (add-comm more (g + u) ∙ ap (λ (x : ℕ). x + more) e))
 
+-- ---- the sum in steps of 2^44
+
+-- a whole part of a quotient
+whole-part : (n d : ℕ) → 0 < d → (n / d * d ≤ n) × (n < (n / d + 1) * d)
+whole-part n d h = (div-mul-le-self n d, div-lt-iff-lt-mul h .0 (next (n / d)))
+  where
+    next : (x : ℕ) → x < x + 1
+    next x = omega arith
+
+even-exponent : (k : ℕ) → 2 ^ (2 * k) ≡ 4 ^ k
+even-exponent k = ap (λ (x : ℕ). 2 ^ x) (double k) ∙ pow-add 2 k k ∙ sym (power-of-four k)
+  where
+    double : (k : ℕ) → 2 * k ≡ k + k
+    double k = omega arith
+
+-- what the steps leave out of each square is less than a step
+pub covers : (qa qb g more : ℕ) → Covers (2 * qa * (2 * qa) / 2 ^ 44 / 2 ^ (2 * more) + 2 * qb * (2 * qb) / 2 ^ 44 / 2 ^ (2 * (g + more))) (2 * qa * (2 * qa) + 4 * qb * (4 * qb) / 2 ^ (2 * g + 2)) more
+covers qa qb g more = (
+  le-trans (le-of-eq (add-mul x y D)) (add-le-add low-x low-y),
+  lt-of-lt-of-le (both high-x high-y) (le-of-eq (sym (add-mul (x + 1) (y + 1) D) ∙ ap (λ (z : ℕ). z * D) (steps x y))),
+)
+  where
+    A : ℕ
+    A = 2 * qa * (2 * qa)
+
+    B : ℕ
+    B = 2 * qb * (2 * qb)
+
+    E : ℕ
+    E = 4 * qb * (4 * qb)
+
+    D : ℕ
+    D = 2 ^ 44 * 4 ^ more
+
+    K : ℕ
+    K = 2 ^ (2 * g + 2)
+
+    P : ℕ
+    P = 2 ^ 44 * 4 ^ (g + more)
+
+    x : ℕ
+    x = A / 2 ^ 44 / 2 ^ (2 * more)
+
+    y : ℕ
+    y = B / 2 ^ 44 / 2 ^ (2 * (g + more))
+
+    at : (n k : ℕ) → n / 2 ^ 44 / 2 ^ (2 * k) ≡ n / (2 ^ 44 * 4 ^ k)
+    at n k = div-div-eq-div-mul n (2 ^ 44) (2 ^ (2 * k)) ∙ ap (λ (z : ℕ). n / (2 ^ 44 * z)) (even-exponent k)
+
+    whole : (n k : ℕ) → (n / 2 ^ 44 / 2 ^ (2 * k) * (2 ^ 44 * 4 ^ k) ≤ n) × (n < (n / 2 ^ 44 / 2 ^ (2 * k) + 1) * (2 ^ 44 * 4 ^ k))
+    whole n k = subst (λ (z : ℕ). (z * (2 ^ 44 * 4 ^ k) ≤ n) × (n < (z + 1) * (2 ^ 44 * 4 ^ k))) (sym (at n k)) (whole-part n (2 ^ 44 * 4 ^ k) (mul-pos (pow-pos 44) (four-pos k)))
+
+    low-x : x * D ≤ A
+    low-x = whole A more .0
+
+    high-x : A < (x + 1) * D
+    high-x = whole A more .1
+
+    four : E ≡ 4 * B
+    four = ap (λ (z : ℕ). z * z) (twice qb) ∙ square-double (2 * qb)
+      where
+        twice : (q : ℕ) → 4 * q ≡ 2 * (2 * q)
+        twice q = omega arith
+
+    scale : D * K ≡ 4 * P
+    scale =
+        ap (λ (z : ℕ). D * z) (even-power g ∙ ap (λ (z : ℕ). 4 * z) (sym (power-of-four g)))
+        ∙ mul-left-comm D 4 (4 ^ g)
+        ∙ ap (λ (z : ℕ). 4 * z) (mul-assoc (2 ^ 44) (4 ^ more) (4 ^ g) ∙ ap (λ (z : ℕ). 2 ^ 44 * z) (mul-comm (4 ^ more) (4 ^ g) ∙ sym (pow-add 4 g more)))
+
+    side : (z : ℕ) → z * D * K ≡ 4 * (z * P)
+    side z = mul-assoc z D K ∙ ap (λ (w : ℕ). z * w) scale ∙ mul-left-comm z 4 P
+
+    fourth : (n d : ℕ) → n ≤ d → 4 * n ≤ 4 * d
+    fourth n d h = omega arith
+
+    fourth-below : (n d : ℕ) → n < d → 4 * n < 4 * d
+    fourth-below n d h = omega arith
+
+    low-y : y * D ≤ E / K
+    low-y = le-div-iff-mul-le (pow-pos (2 * g + 2)) .1 (le-trans (le-of-eq (side y)) (le-trans (fourth (y * P) B (whole B (g + more) .0)) (le-of-eq (sym four))))
+
+    high-y : E / K < (y + 1) * D
+    high-y = div-lt-iff-lt-mul (pow-pos (2 * g + 2)) .1 (lt-of-le-of-lt (le-of-eq four) (lt-of-lt-of-le (fourth-below B ((y + 1) * P) (whole B (g + more) .1)) (le-of-eq (sym (side (y + 1))))))
+
+    both : {a b c d : ℕ} → a < b → c < d → a + c < b + d
+    both h k = omega arith
+
+    steps : (x y : ℕ) → x + 1 + (y + 1) ≡ x + y + 2
+    steps x y = omega arith
+
 -- ---- the words of the check
 
--- the lowest middle, doubled where the step is two units, has at most 56 digits
-pub middle-small : (x h : ℕ) → x < 2 ^ 55 → h ≤ 2 → x * h < 2 ^ 56
-middle-small x h l k = lt-of-le-of-lt (mul-le-mul-left x k) (twice x l)
-  where
-    twice : (x : ℕ) → x < 2 ^ 55 → x * 2 < 2 ^ 56
-    twice x l = omega arith
-
--- a few half steps above it
-pub few : (i h : ℕ) → i ≤ 3 → h ≤ 2 → i * h ≤ 6
-few i h k l = mul-le-mul k l
-
-pub beyond-small : (base p : ℕ) → base < 2 ^ 56 → p ≤ 6 → 4 * p * (base + p) < 2 ^ 64
-beyond-small base p h l = lt-of-le-of-lt (mul-le-mul (four p l) (sum base p h l)) (lit< {m = 24 * (2 ^ 56 + 6)} {n = 2 ^ 64} tt)
-  where
-    four : (p : ℕ) → p ≤ 6 → 4 * p ≤ 24
-    four p l = omega arith
-
-    sum : (base p : ℕ) → base < 2 ^ 56 → p ≤ 6 → base + p ≤ 2 ^ 56 + 6
-    sum base p h l = omega arith
+-- a few steps, each a few
+pub few : (i u : ℕ) → i ≤ 2 → u ≤ 2 ^ 12 → i * u ≤ 2 * 2 ^ 12
+few i u k l = mul-le-mul k l
 
 -- the square of a middle, from the lowest one's
 middle-square : (x p : ℕ) → (x + 2 * p) * (x + 2 * p) ≡ x * x + 4 * p * (x + p)
@@ -115,19 +189,42 @@ middle-square x p =
     regroup : (s m q : ℕ) → s + 2 * m + (2 * m + 4 * q) ≡ s + (4 * m + 4 * q)
     regroup s m q = omega arith
 
--- the i-th middle above the lowest is below the root, and the next above it
-pub passes : (m h i rest sum : ℕ) → 2 ≤ m → (2 * m - 3) * h * ((2 * m - 3) * h) + rest ≡ sum
-    → 4 * (i * h) * ((2 * m - 3) * h + i * h) < rest → rest < 4 * ((i + 1) * h) * ((2 * m - 3) * h + (i + 1) * h) → Between sum (m - 1 + i) h
-passes m h i rest sum l e a b = (
-  subst₂ (λ (x y : ℕ). x < y) (sym (square i (2 * (m - 1 + i) - 1) (low m i l))) e (right a),
-  subst₂ (λ (x y : ℕ). x < y) e (sym (square (i + 1) (2 * (m - 1 + i) + 1) (high m i l))) (right b),
+-- the i-th middle above the lowest, x, is below what t steps hold, and the next is above two steps more
+within : (x i t : ℕ) → i ≤ 2 → x * x / 2 ^ 44 + i * (x / 2 ^ 42) + 4 ≤ t → t + 2 ≤ x * x / 2 ^ 44 + i * (x / 2 ^ 42) + x / 2 ^ 42
+    → ((x + 2 * i) * (x + 2 * i) < t * 2 ^ 44) × ((t + 2) * 2 ^ 44 ≤ (x + 2 * (i + 1)) * (x + 2 * (i + 1)))
+within x i t l a b = (lt-of-le-of-lt (le-of-eq (middle-square x i)) (low i (x * x) x t l a), le-trans (high i (x * x) x t l b) (le-of-eq (sym (middle-square x (i + 1)))))
+  where
+    low : (i s x t : ℕ) → i ≤ 2 → s / 2 ^ 44 + i * (x / 2 ^ 42) + 4 ≤ t → s + 4 * i * (x + i) < t * 2 ^ 44
+    low zero s x t l a = omega arith
+    low (suc zero) s x t l a = omega arith
+    low (suc (suc zero)) s x t l a = omega arith
+    low (suc (suc (suc i))) s x t l a = absurd (no i l)
+      where
+        no : (i : ℕ) → suc (suc (suc i)) ≤ 2 → ⊥
+        no i h = omega arith
+
+    high : (i s x t : ℕ) → i ≤ 2 → t + 2 ≤ s / 2 ^ 44 + i * (x / 2 ^ 42) + x / 2 ^ 42 → (t + 2) * 2 ^ 44 ≤ s + 4 * (i + 1) * (x + (i + 1))
+    high zero s x t l a = omega arith
+    high (suc zero) s x t l a = omega arith
+    high (suc (suc zero)) s x t l a = omega arith
+    high (suc (suc (suc i))) s x t l a = absurd (no i l)
+      where
+        no : (i : ℕ) → suc (suc (suc i)) ≤ 2 → ⊥
+        no i h = omega arith
+
+-- so the root lies between the middles beside the i-th significand
+pub passes : (m i t : ℕ) → 2 ≤ m → i ≤ 2 → let x = 2 * m - 3 in x * x / 2 ^ 44 + i * (x / 2 ^ 42) + 4 ≤ t → t + 2 ≤ x * x / 2 ^ 44 + i * (x / 2 ^ 42) + x / 2 ^ 42
+    → (sum more : ℕ) → Covers t sum more → Between sum (m - 1 + i) (2 ^ more)
+passes m i t l k a b sum more c = (
+  lt-of-le-of-lt (le-of-eq (scaled-square (2 * (m - 1 + i) - 1) (low m i l))) (lt-of-lt-of-le (mul-lt-mul-of-pos-right (w .0) (four-pos more)) (le-trans (le-of-eq (mul-assoc t (2 ^ 44) (4 ^ more))) (c .0))),
+  lt-of-lt-of-le (c .1) (le-trans (le-of-eq (sym (mul-assoc (t + 2) (2 ^ 44) (4 ^ more)))) (le-trans (mul-le-mul-right (4 ^ more) (w .1)) (le-of-eq (sym (scaled-square (2 * (m - 1 + i) + 1) (high m i l)))))),
 )
   where
-    B : ℕ
-    B = (2 * m - 3) * h
+    x : ℕ
+    x = 2 * m - 3
 
-    right : {x y : ℕ} → x < y → B * B + x < B * B + y
-    right h = omega arith
+    w : ((x + 2 * i) * (x + 2 * i) < t * 2 ^ 44) × ((t + 2) * 2 ^ 44 ≤ (x + 2 * (i + 1)) * (x + 2 * (i + 1)))
+    w = within x i t k a b
 
     low : (m i : ℕ) → 2 ≤ m → 2 * (m - 1 + i) - 1 ≡ 2 * m - 3 + 2 * i
     low m i l = omega arith
@@ -135,18 +232,9 @@ passes m h i rest sum l e a b = (
     high : (m i : ℕ) → 2 ≤ m → 2 * (m - 1 + i) + 1 ≡ 2 * m - 3 + 2 * (i + 1)
     high m i l = omega arith
 
-    square : (i x : ℕ) → x ≡ 2 * m - 3 + 2 * i → x * h * (x * h) ≡ B * B + 4 * (i * h) * (B + i * h)
-    square i x e = ap (λ (y : ℕ). y * y) (ap (λ (y : ℕ). y * h) e ∙ add-mul (2 * m - 3) (2 * i) h ∙ ap (λ (y : ℕ). B + y) (mul-assoc 2 i h)) ∙ middle-square B (i * h)
+    scaled-square : (v : ℕ) {y : ℕ} → v ≡ y → v * 2 ^ more * (v * 2 ^ more) ≡ y * y * 4 ^ more
+    scaled-square v {y} e = square-product v (2 ^ more) ∙ ap₂ (λ (p q : ℕ). p * p * q) e (sym (power-of-four more))
 
 -- nothing is claimed where 0 is returned
 pub none : {A : Type 0} → 0 < 0 → A
 none h = absurd (lt-irrefl 0 h)
-
--- half a step is one unit or two
-pub half-step : (more : ℕ) → more ≤ 1 → more + 1 ≡ 2 ^ more
-half-step zero h = refl
-half-step (suc zero) h = refl
-half-step (suc (suc m)) h = absurd (no h)
-  where
-    no : suc (suc m) ≤ 1 → ⊥
-    no h = omega arith

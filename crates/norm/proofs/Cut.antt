@@ -4,9 +4,9 @@ use mathlib.Core.Path.{_≡_, refl, sym, ap, ap₂, _∙_, subst}
 use mathlib.Core.Logic.{_⊎_, inl, inr}
 use mathlib.Core.Bool.{Bool, true, false, not, _&&_, cond}
 use Prim.Native.Nat.{ℕ, suc, _+_, _-_, _*_, _/_, _%_, _^_, _≤_, _<_, compare, Ordering, Ordering·lt, Ordering·eq, Ordering·gt}
-use native.Mathlib.Nat.{le-refl, le-trans, le-of-eq, le-of-lt, lt-of-lt-of-le, lt-of-le-of-lt, lt-of-not-le, lt-irrefl, le-of-suc-le-suc, le-add-right, add-comm, mul-assoc, mul-lt-mul-of-pos-right, lt-of-mul-lt-mul-right, mod-eq-of-lt, add-mul-div-right, mul-add-mod-self-right, div-lt-iff-lt-mul, le-div-iff-mul-le, pow-suc}
+use native.Mathlib.Nat.{le-refl, le-trans, le-of-eq, le-of-lt, lt-of-lt-of-le, lt-of-le-of-lt, lt-of-not-le, lt-irrefl, eq-or-lt-of-le, le-of-suc-le-suc, le-add-right, add-comm, mul-assoc, mul-lt-mul-of-pos-right, lt-of-mul-lt-mul-right, mod-eq-of-lt, add-mul-div-right, mul-add-mod-self-right, div-lt-iff-lt-mul, le-div-iff-mul-le, pow-suc}
 use native.Mathlib.Omega.{arith}
-use lib.Dec.{T, ltb, eqb, lt→ltb, eqb→eq, not-T, lit≤}
+use lib.Dec.{T, ltb, eqb, lt→ltb, eqb→eq, not-T, lit<, lit≤}
 use lib.Arith.{digits-lt, le→nltb}
 use lib.Pow.{pow-add, pow-pos, pow-mono}
 use lib.Count.{leadingZeros, leading-length, leading-top}
@@ -53,6 +53,63 @@ two-words hi lo n h l =
 
     twice : (p hi lo : ℕ) → p ≤ hi → p * 2 * 2 ^ 64 ≤ 2 * (hi * 2 ^ 64 + lo) + 1
     twice p hi lo h = omega arith
+
+-- ---- a rounded significand m and the step, from the significand's leading zeros: above 11 it has no 53rd digit
+
+pub short-significand : (m step : ℕ) → m ≤ 2 ^ 53 → 11 < leadingZeros 64 m → (step ≡ 0) ⊎ (2 ^ 52 ≤ m) → m ≡ step * 2 ^ 52 + m
+short-significand m step l h f = go f
+  where
+    few : (z n : ℕ) → z + n ≡ 64 → 11 < z → n ≤ 52
+    few z n e h = omega arith
+
+    below : m < 2 ^ 52
+    below =
+        let t = leading-length 64 m (lt-of-le-of-lt l (lit< tt)) in
+        lt-of-lt-of-le (t .2) (pow-mono (few (leadingZeros 64 m) (t .0) (t .1) h))
+
+    unit : step ≡ 0 → m ≡ step * 2 ^ 52 + m
+    unit e = omega arith
+
+    go : (step ≡ 0) ⊎ (2 ^ 52 ≤ m) → m ≡ step * 2 ^ 52 + m
+    go (inl e) = unit e
+    go (inr g) = absurd (lt-irrefl m (lt-of-lt-of-le below g))
+
+-- up to 11 it has 53 digits, or it was carried to 2^53 and is shifted to the next step
+pub long-significand : (m step : ℕ) → m ≤ 2 ^ 53 → leadingZeros 64 m ≤ 11 → (step + (11 - leadingZeros 64 m) + 1) * 2 ^ 52 + m / 2 ^ (11 - leadingZeros 64 m) % 2 ^ 52 ≡ step * 2 ^ 52 + m
+long-significand m step l h = go (eq-or-lt-of-le most)
+  where
+    z : ℕ
+    z = leadingZeros 64 m
+
+    t : (n : ℕ) × (leadingZeros 64 m + n ≡ 64) × (m < 2 ^ n) × (2 ^ n ≤ 2 * m + 1)
+    t = leading-length 64 m (lt-of-le-of-lt l (lit< tt))
+
+    most : t .0 ≤ 54
+    most = le-of-suc-le-suc (lt-of-not-le (λ (g : 55 ≤ t .0). no (2 ^ t .0) (pow-mono g) (t .3)))
+      where
+        no : (p : ℕ) → 2 ^ 55 ≤ p → p ≤ 2 * m + 1 → ⊥
+        no p g i = omega arith
+
+    Encodes : ℕ → Type 0
+    Encodes c = (step + c + 1) * 2 ^ 52 + m / 2 ^ c % 2 ^ 52 ≡ step * 2 ^ 52 + m
+
+    full : 2 ^ 53 ≤ 2 * m + 1 → m < 2 ^ 53 → Encodes 0
+    full a b = omega arith
+
+    carried : 2 ^ 54 ≤ 2 * m + 1 → Encodes 1
+    carried a = omega arith
+
+    shifts : (z n : ℕ) → z + n ≡ 64 → z ≤ 11 → 11 - z ≡ n - 53
+    shifts z n e h = omega arith
+
+    all : (z n : ℕ) → z + n ≡ 64 → z ≤ 11 → n < 54 → n ≡ 53
+    all z n e h g = omega arith
+
+    go : (t .0 ≡ 54) ⊎ (t .0 < 54) → Encodes (11 - z)
+    go (inl e) = subst Encodes (sym (shifts z (t .0) (t .1) h ∙ ap (λ (n : ℕ). n - 53) e)) (carried (subst (λ (n : ℕ). 2 ^ n ≤ 2 * m + 1) e (t .3)))
+    go (inr g) =
+        let e : t .0 ≡ 53 = all z (t .0) (t .1) h g in
+        subst Encodes (sym (shifts z (t .0) (t .1) h ∙ ap (λ (n : ℕ). n - 53) e)) (full (subst (λ (n : ℕ). 2 ^ n ≤ 2 * m + 1) e (t .3)) (subst (λ (n : ℕ). m < 2 ^ n) e (t .2)))
 
 -- ---- the digits dropped of a root with z digits
 
@@ -156,6 +213,23 @@ half-at-top j k e = sym (pow-add 2 k j) ∙ ap (λ (x : ℕ). 2 ^ x) (places j k
     places : (j k : ℕ) → j + suc k ≡ 64 → k + j ≡ 63
     places j k e = omega arith
 
+-- ---- what stays is a significand
+
+module _ (hi lo s k : ℕ) (short : hi * 2 ^ 64 + lo < 2 ^ 53 * 2 ^ suc k) (long : (suc k ≡ 1) ⊎ (2 ^ 52 * 2 ^ suc k ≤ hi * 2 ^ 64 + lo)) (unit : (s ≡ 0) ⊎ (2 ^ 53 ≤ hi * 2 ^ 64 + lo)) where
+  abbrev w : ℕ
+  w = hi * 2 ^ 64 + lo
+
+  pub significand : Significand (w / 2 ^ suc k) (k + s)
+  significand = record { small = div-lt-iff-lt-mul (pow-pos (suc k)) .1 short; full = go long unit }
+    where
+      none : suc k ≡ 1 → s ≡ 0 → k + s ≡ 0
+      none a b = omega arith
+
+      go : (suc k ≡ 1) ⊎ (2 ^ 52 * 2 ^ suc k ≤ w) → (s ≡ 0) ⊎ (2 ^ 53 ≤ w) → (k + s ≡ 0) ⊎ (2 ^ 52 ≤ w / 2 ^ suc k)
+      go (inr h) u = inr (le-div-iff-mul-le (pow-pos (suc k)) .1 h)
+      go (inl a) (inl b) = inl (none a b)
+      go (inl a) (inr h) = inr (le-div-iff-mul-le (pow-pos (suc k)) .1 (subst (λ (i : ℕ). 2 ^ 52 * 2 ^ i ≤ w) (sym a) h))
+
 -- ---- the whole rounding, from the root's words
 
 module _ (n hi lo t s k j : ℕ) (e : j + suc k ≡ 64) (value : ((hi * 2 ^ 64 + lo) * (hi * 2 ^ 64 + lo) + t) * 4 ^ s ≡ 4 * n) (little : t ≤ 2 * (hi * 2 ^ 64 + lo)) where
@@ -192,19 +266,8 @@ module _ (n hi lo t s k j : ℕ) (e : j + suc k ≡ 64) (value : ((hi * 2 ^ 64 +
           more n x t s k value little (inl l) ∙ sym (beside-more (y * 2 ^ j) exact (le-of-lt g) (λ (w : y * 2 ^ j ≡ 2 ^ 63). lt-irrefl (2 ^ 63) (subst (λ (a : ℕ). 2 ^ 63 < a) w g)))
 
   module _ (short : x < 2 ^ 53 * 2 ^ suc k) (long : (suc k ≡ 1) ⊎ (2 ^ 52 * 2 ^ suc k ≤ x)) (unit : (s ≡ 0) ⊎ (2 ^ 53 ≤ x)) where
-    pub significand : Significand (x / 2 ^ suc k) (k + s)
-    significand = record { small = div-lt-iff-lt-mul (pow-pos (suc k)) .1 short; full = go long unit }
-      where
-        none : suc k ≡ 1 → s ≡ 0 → k + s ≡ 0
-        none a b = omega arith
-
-        go : (suc k ≡ 1) ⊎ (2 ^ 52 * 2 ^ suc k ≤ x) → (s ≡ 0) ⊎ (2 ^ 53 ≤ x) → (k + s ≡ 0) ⊎ (2 ^ 52 ≤ x / 2 ^ suc k)
-        go (inr h) u = inr (le-div-iff-mul-le (pow-pos (suc k)) .1 h)
-        go (inl a) (inl b) = inl (none a b)
-        go (inl a) (inr h) = inr (le-div-iff-mul-le (pow-pos (suc k)) .1 (subst (λ (i : ℕ). 2 ^ 52 * 2 ^ i ≤ x) (sym a) h))
-
     pub rounded-root : (exact : Bool) → (exact ≡ true → t ≡ 0) → (exact ≡ false → 0 < t)
         → roundedRoot n ≡ units binary64 false (nearest (hi * 2 ^ j % 2 ^ 64 + lo / 2 ^ suc k) (besideHalf (lo * 2 ^ j % 2 ^ 64) exact)) (k + s)
     rounded-root exact z p =
-        rounded-by n x t s k value little significand (besideHalf (x % 2 ^ suc k * 2 ^ j) exact) (middle exact z p)
+        rounded-by n x t s k value little (significand hi lo s k short long unit) (besideHalf (x % 2 ^ suc k * 2 ^ j) exact) (middle exact z p)
         ∙ ap₂ (λ (q m : ℕ). units binary64 false (nearest q (besideHalf m exact)) (k + s)) (sym (kept-digits j (suc k) e hi lo short)) (sym (dropped-digits j (suc k) e hi lo))

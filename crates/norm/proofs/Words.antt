@@ -2,7 +2,7 @@
 use mathlib.Core.Path.{_≡_, refl, sym, ap, ap₂, _∙_, subst}
 use mathlib.Core.Bool.{Bool, true, false}
 use Prim.Native.Nat.{ℕ, suc, _+_, _-_, _*_, _/_, _%_, _^_, _≤_, _<_}
-use native.Mathlib.Nat.{le-of-eq, le-of-lt, lt-of-lt-of-le, lt-of-le-of-lt, lt-of-mul-lt-mul-right, le-add-right, add-comm, add-assoc, mod-lt, mul-comm, mul-assoc, mul-right-comm, add-mul, mul-add, mul-mul-mul-comm, mul-le-mul-left, mul-mod-left, add-mul-div-right, add-zero, div-add-mod'}
+use native.Mathlib.Nat.{le-of-eq, le-of-lt, lt-of-lt-of-le, lt-of-le-of-lt, lt-of-mul-lt-mul-right, le-add-right, add-comm, add-assoc, mod-lt, mul-comm, mul-assoc, mul-right-comm, add-mul, mul-add, mul-mul-mul-comm, mul-le-mul-left, mul-mod-left, add-zero, div-add-mod'}
 use native.Mathlib.Omega.{arith}
 use lib.Dec.{T, leb, ltb, leb→le, le→leb}
 use lib.Arith.{lt-of-le-ne, digits-lt, mod-mul}
@@ -113,12 +113,6 @@ module _ (j d : ℕ) (e : j + d ≡ 64) where
           last : (x c f y : ℕ) → c * 2 ^ 64 + f ≡ y → (x + c) * 2 ^ 64 + f ≡ x * 2 ^ 64 + y
           last x c f y q = omega arith
 
-  -- and back down, by d
-  pub spread-down : (hi lo : ℕ) → hi / 2 ^ d * 2 ^ 64 + (hi * 2 ^ j % 2 ^ 64 + lo / 2 ^ d) ≡ (hi * 2 ^ 64 + lo) / 2 ^ d
-  spread-down hi lo =
-      sym (add-assoc (hi / 2 ^ d * 2 ^ 64) (hi * 2 ^ j % 2 ^ 64) (lo / 2 ^ d)) ∙ ap (λ (x : ℕ). x + lo / 2 ^ d) (leaves hi) ∙ add-comm (hi * 2 ^ j) (lo / 2 ^ d)
-      ∙ sym (ap (λ (x : ℕ). x / 2 ^ d) (ap (λ (x : ℕ). x + lo) (ap (λ (x : ℕ). hi * x) (sym word ∙ mul-comm (2 ^ d) (2 ^ j)) ∙ sym (mul-assoc hi (2 ^ j) (2 ^ d))) ∙ add-comm (hi * 2 ^ j * 2 ^ d) lo) ∙ add-mul-div-right lo (hi * 2 ^ j) (pow-pos d))
-
 -- ---- a sum of three words and two, word by word
 
 pub summed : (high mid low hi lo c0 l0 c1 l1 : ℕ) → c0 * 2 ^ 64 + l0 ≡ low + lo + 0 → c1 * 2 ^ 64 + l1 ≡ mid + hi + c0 → ((high + c1) * 2 ^ 64 + l1) * 2 ^ 64 + l0 ≡ (high * 2 ^ 64 + mid) * 2 ^ 64 + low + (hi * 2 ^ 64 + lo)
@@ -135,11 +129,6 @@ summed high mid low hi lo c0 l0 c1 l1 p q =
 
 pub small-high : (hi lo : ℕ) → hi * 2 ^ 64 + lo < 2 ^ 82 → hi < 2 ^ 62
 small-high hi lo h = omega arith
-
--- ---- a sum of two numbers of two words, with the carry c of the low words
-
-pub summed-two : (ah al bh bl c l : ℕ) → c * 2 ^ 64 + l ≡ al + bl + 0 → (ah + bh + c) * 2 ^ 64 + l ≡ ah * 2 ^ 64 + al + (bh * 2 ^ 64 + bl)
-summed-two ah al bh bl c l e = omega arith
 
 -- a high word of a number below 2^k·2^64
 pub high-below : (hi lo k : ℕ) → hi * 2 ^ 64 + lo < 2 ^ k * 2 ^ 64 → hi < 2 ^ k

@@ -8,6 +8,10 @@ use Rattle.norm.specs.Norm.{roundedRoot}
 abbrev pub Between : ℕ → ℕ → ℕ → Type 0
 Between sum m h = ((2 * m - 1) * h * ((2 * m - 1) * h) < sum) × (sum < (2 * m + 1) * h * ((2 * m + 1) * h))
 
+-- counted in steps of 2^44·4^more, sum has t and less than two more
+abbrev pub Covers : ℕ → ℕ → ℕ → Type 0
+Covers t sum more = (t * (2 ^ 44 * 4 ^ more) ≤ sum) × (sum < (t + 2) * (2 ^ 44 * 4 ^ more))
+
 -- the bits r are the norm's, for significands qa and qb that are gap shifts apart, the larger shifted by `shift`
 pub record Settles (qa qb gap shift r : ℕ) : Type 0 where
   pub most : r ≤ 2047 * 2 ^ 52

@@ -1,14 +1,7 @@
 // A guess at the rounded root by float steps, which integers then check. Where the check fails the digits decide.
-use super::wide::Wide;
-use super::wide::at_most;
-use super::wide::lowered;
-use super::wide::minus;
-use super::wide::square;
-use super::wide::sum_of;
 ghost use mathlib.Core.Path.{_≡_};
-ghost use Prim.Native.Nat.{_+_, _*_, _/_, _^_, _≤_, _<_};
-ghost use Rattle.norm.specs.Checked.{Between, Settles};
-ghost use Rattle.norm.specs.Words.{two};
+ghost use Prim.Native.Nat.{ℕ, _+_, _*_, _/_, _^_, _≤_, _<_};
+ghost use Rattle.norm.specs.Checked.{Between, Covers, Settles};
 
 // This less half of a number's bits makes the bits of a number near its inverse root, within 6 parts in 100.
 const INVERSE_ROOT: u64 = 0x5fe6_4b50_c7b5_37a9;
@@ -46,36 +39,45 @@ fn one_if(b: bool) -> u64
     if b { 1 } else { 0 }
 }
 
-// (base + 2·i·h)² − base²: how far the square of the i-th middle above base lies beyond its own.
-fn beyond(base: u64, h: u64, i: u64) -> u64
-    requires { ⌜ (base < 2 ^ 56) × (h ≤ 2) × (i ≤ 3) ⌝ }
-    ensures { λ r. ⌜ r ≡ 4 * (i * h) * (base + i * h) ⌝ }
+// The whole part of s² / 2^44, by columns of 32 digits as in `square`.
+fn high_square(s: u64) -> u64
+    requires { ⌜ s < 2 ^ 54 ⌝ }
+    ensures { λ r. ⌜ r ≡ s * s / 2 ^ 44 ⌝ }
 {
-    let p = i * h;
-    4 * p * (base + p)
+    let s1 = s >> 32;
+    let s0 = s % 0x1_0000_0000;
+    let cross = s1 * s0 * 2 + (s0 * s0 >> 32);
+    s1 * s1 * 0x10_0000 + (cross >> 12)
 }
 
-// The one of m and its neighbours that is nearest, or 0. The middles of the steps beside them are base, base + 2·h and so on, and
-// rest is what the first one's square leaves of sum. No branch picks the step: it could not be foretold.
-fn settled(sum: Wide, m: u64, h: u64) -> u64
-    requires { ⌜ (2 ≤ m) × (m < 2 ^ 53) × (h ≤ 2) ⌝ }
-    ensures { λ r. ⌜ (0 < r → Between (two sum) r h) ⌝ }
+// The whole part of (2·q)² / 4^k / 2^44.
+fn part_square(q: u64, k: u64) -> u64
+    requires { ⌜ (q < 2 ^ 53) × (k < 28) ⌝ }
+    ensures { λ r. ⌜ r ≡ 2 * q * (2 * q) / 2 ^ 44 / 2 ^ (2 * k) ⌝ }
 {
-    let base = (2 * m - 3) * h;
-    let low = square(base);
-    if at_most(sum, low) {
+    high_square(2 * q) >> (2 * k)
+}
+
+// The one of m and its neighbours that is nearest, or 0. Squares are counted in steps of 2^44, of which the sum has t and less than two
+// more. The middles of the steps beside m and its neighbours are base, base + 2 and so on; their squares lie `apart` or a little more.
+// No branch picks the step: it could not be foretold.
+fn settled(t: u64, m: u64) -> u64
+    requires { ⌜ (2 ^ 52 ≤ m) × (m < 2 ^ 53) ⌝ }
+    ensures { λ r. ⌜ (0 < r → (sum more : ℕ) → Covers t sum more → Between sum r (2 ^ more)) ⌝ }
+{
+    let base = 2 * m - 3;
+    let low = high_square(base);
+    if t < low {
         return 0;
     }
-    let left = minus(sum, low);
-    if left.hi > 0 {
+    let rest = t - low;
+    let apart = base >> 42;
+    let i = one_if(apart < rest) + one_if(2 * apart < rest);
+    let below = i * apart;
+    if rest < below + 4 {
         return 0;
     }
-    let rest = left.lo;
-    let i = one_if(beyond(base, h, 1) < rest) + one_if(beyond(base, h, 2) < rest);
-    if rest <= beyond(base, h, i) {
-        return 0;
-    }
-    if rest >= beyond(base, h, i + 1) {
+    if rest > below + (apart - 2) {
         return 0;
     }
     m - 1 + i
@@ -86,20 +88,6 @@ fn scaled(q: u64, gap: u64) -> f64
     requires { ⌜ gap < 27 ⌝ }
 {
     f64::from_bits((1075 - gap) * 0x10_0000_0000_0000 + q % 0x10_0000_0000_0000)
-}
-
-// The whole part of (2·qa)² + (2·qb)² / 4^gap, the second as (4·qb)² / 2^(2·gap + 2).
-fn sum_above(qa: u64, qb: u64, gap: u64) -> Wide
-    requires { ⌜ (qa < 2 ^ 53) × (qb < 2 ^ 53) × (gap < 27) ⌝ }
-    ensures { λ r. ⌜ two r ≡ 2 * qa * (2 * qa) + 4 * qb * (4 * qb) / 2 ^ (2 * gap + 2) ⌝ }
-{
-    let a = square(2 * qa);
-    let b = lowered(square(4 * qb), 2 * gap + 2);
-    let low = sum_of(a.lo, b.lo, 0);
-    Wide {
-        hi: a.hi + b.hi + low.hi,
-        lo: low.lo,
-    }
 }
 
 // The bits of the norm of the significands qa and qb that are gap shifts apart, the larger shifted by `shift`: 0 where the guess fails.
@@ -121,7 +109,12 @@ pub(crate) fn guessed(qa: u64, qb: u64, gap: u64, shift: u64) -> u64
         return 0;
     }
     let m = bits % 0x10_0000_0000_0000 + 0x10_0000_0000_0000;
-    let q = settled(sum_above(qa, qb, gap), m, more + 1);
+    let a = part_square(qa, more);
+    let b = part_square(qb, gap + more);
+    if a > u64::MAX - b {
+        return 0;
+    }
+    let q = settled(a + b, m);
     if q <= 0x10_0000_0000_0000 {
         return 0;
     }

@@ -45,8 +45,23 @@ fn rounding_up(q: u64, tail: u64, exact: bool) -> u64
     1
 }
 
-// The bits of the norm: s has the root in halves of 2^shift units. The significand's leading digit, and one that rounding carries,
-// raise the exponent's field, up to infinity's. A significand at a step of 2^2046 units is past the largest number.
+// The bits of m steps of 2^step units: "the count of leading zeros gives the exponent" (document 01). It is 11 where the significand m has
+// all 53 digits, 10 where rounding carried it to 2^53, which is 2^52 at the next step, and more where the number is subnormal.
+fn encoded(m: u64, step: u64) -> u64
+    requires { ⌜ (m ≤ 2 ^ 53) × (step < 2046) × ((step ≡ 0) ⊎ (2 ^ 52 ≤ m)) ⌝ }
+    ensures { λ r. ⌜ r ≡ step * 2 ^ 52 + m ⌝ }
+{
+    let zeros = u64::leading_zeros(m) as u64;
+    if zeros > 11 {
+        return m;
+    }
+    let carried = 11 - zeros;
+    let field = step + carried + 1;
+    field * 0x10_0000_0000_0000 + (m >> carried) % 0x10_0000_0000_0000
+}
+
+// The bits of the norm: s has the root in halves of 2^shift units. A carry can raise the exponent's field up to infinity's. A significand
+// at a step of 2^2046 units is past the largest number.
 pub(crate) fn rounded(s: Root, shift: u64) -> u64
     requires { ⌜ (two (s .rest) ≤ 2 * two (s .root)) × (two (s .root) < 2 ^ 81) × (shift ≤ 2045) × ((shift ≡ 0) ⊎ (2 ^ 53 ≤ two (s .root))) ⌝ }
     ensures { λ r. ⌜ (r ≤ 2047 * 2 ^ 52) × ((n : ℕ) → read s * 4 ^ shift ≡ 4 * n → ofBits binary64 r ≡ roundedRoot n) ⌝ }
@@ -60,7 +75,7 @@ pub(crate) fn rounded(s: Root, shift: u64) -> u64
     let more = rounding_up(q, root.lo << up, exact);
     let step = k - 1 + shift;
     if step < 2046 {
-        step * 0x10_0000_0000_0000 + (q + more)
+        encoded(q + more, step)
     } else {
         0x7ff0_0000_0000_0000
     }

@@ -43,13 +43,31 @@ fn by_digits(qa: u64, qb: u64, gap: u64, unit: u64) -> u64
     rounded(root_of(n), unit)
 }
 
-// The bits of the norm of the parts a and b, a the larger. A part 27 or more shifts below changes nothing.
-pub(crate) fn norm_bits(a: u64, b: u64) -> u64
+// The bits of the norm of the parts a and b, a the larger, without a guess. A part 27 or more shifts below changes nothing.
+fn unguessed(a: u64, b: u64) -> u64
     requires { ⌜ (b ≤ a) × (a < 2047 * 2 ^ 52) ⌝ }
     ensures { λ r. ⌜ (r ≤ 2047 * 2 ^ 52) × (ofBits binary64 r ≡ roundedRoot (unitsOf a ^ 2 + unitsOf b ^ 2)) ⌝ }
 {
     if b == 0 {
         return a;
+    }
+    let unit = shift(b);
+    let gap = shift(a) - unit;
+    if gap >= 27 {
+        return a;
+    }
+    let qa = significand(a);
+    let qb = significand(b);
+    by_digits(qa, qb, gap, unit)
+}
+
+// The same, first by a guess where both parts have their leading digit.
+pub(crate) fn norm_bits(a: u64, b: u64) -> u64
+    requires { ⌜ (b ≤ a) × (a < 2047 * 2 ^ 52) ⌝ }
+    ensures { λ r. ⌜ (r ≤ 2047 * 2 ^ 52) × (ofBits binary64 r ≡ roundedRoot (unitsOf a ^ 2 + unitsOf b ^ 2)) ⌝ }
+{
+    if b < 0x10_0000_0000_0000 {
+        return unguessed(a, b);
     }
     let unit = shift(b);
     let gap = shift(a) - unit;

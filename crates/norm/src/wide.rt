@@ -1,6 +1,6 @@
 // Numbers of two and of three words: what the root needs of them, each contract in natural numbers.
 ghost use mathlib.Core.Path.{_≡_};
-ghost use Prim.Native.Nat.{_+_, _-_, _*_, _/_, _^_, _≤_, _<_};
+ghost use Prim.Native.Nat.{_+_, _-_, _*_, _^_, _≤_, _<_};
 ghost use lib.Dec.{leb};
 ghost use Rattle.norm.specs.Words.{two, three};
 
@@ -92,18 +92,6 @@ pub(crate) fn raised(w: Wide, j: u64) -> Three
         high: w.hi >> down,
         mid: (w.hi << j) + (w.lo >> down),
         low: w.lo << j,
-    }
-}
-
-// The whole part of w / 2^j.
-pub(crate) fn lowered(w: Wide, j: u64) -> Wide
-    requires { ⌜ (1 ≤ j) × (j < 64) ⌝ }
-    ensures { λ r. ⌜ two r ≡ two w / 2 ^ j ⌝ }
-{
-    let up = 64 - j;
-    Wide {
-        hi: w.hi >> j,
-        lo: (w.hi << up) + (w.lo >> j),
     }
 }
 

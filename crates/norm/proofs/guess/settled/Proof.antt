@@ -1,50 +1,46 @@
 -- `norm::guess::settled` meets its contract: what is returned has passed the check. Assumes nothing.
-use mathlib.Core.Path.{_≡_, sym, ap₂, _∙_}
-use Prim.Native.Nat.{ℕ, _+_, _-_, _*_, _^_, _<_, _≤_}
-use native.Mathlib.Nat.{add-comm, le-of-lt, le-of-eq, lt-of-le-of-lt, lt-of-lt-of-le}
+use mathlib.Core.Path.{subst}
+use Prim.Native.Nat.{ℕ, _+_, _-_, _*_, _/_, _^_, _≤_}
 use native.Mathlib.Omega.{arith}
 use borrow.Author.Needs.{needs}
-use borrow.Author.Tests.{leb-false}
-use lib.Dec.{lit≤}
-use lib.Pow.{pow-mono}
-use Rattle.norm.specs.Words.{two}
-use Rattle.norm.proofs.Check.{middle-small, passes, none}
+use Rattle.norm.proofs.Check.{few, passes, none}
 use Rattle.norm.proofs.guess.settled.Statement.{statement}
 use Rattle.norm.proofs.guess.settled.Tie as tie
 
-base-small : (c : tie.Start) → (2 * c .args .m - 3) * c .args .h < 2 ^ 56
-base-small c = let l : 2 * c .args .m - 3 < 2 ^ 55 = omega arith in middle-small (2 * c .args .m - 3) (c .args .h) l (c .pre .2)
+-- the step that is picked
+picked : (c : tie.After-one-if2) → c .before .one-if .result + c .one-if2 .result ≤ 2
+picked c = let x = c .one-if2 .ensures in let y = c .before .one-if .ensures in omega (arith, x, y)
 
--- the lowest middle's square is below the sum, and leaves the rest
-under : (c : tie.Else1) → two (c .before .before .square .result) ≤ two (c .before .before .before .args .sum)
-under c = le-of-lt (leb-false _ _ (sym (c .before .at-most .ensures) ∙ c .if1 .left))
+-- how far it lies above the lowest middle's square
+above : (c : tie.After-one-if2) → (c .before .one-if .result + c .one-if2 .result) * ((2 * c .before .before .before .before .args .m - 3) / 2 ^ 42) ≤ 2 * 2 ^ 12
+above c =
+    let s = c .before .before .before .before in
+    let p = s .pre .1 in
+    let u : (2 * s .args .m - 3) / 2 ^ 42 ≤ 2 ^ 12 = omega (arith, p) in
+    few _ _ (picked c) u
 
-rest-is : (c : tie.Else2) →
-    let s = c .before .before .before .before .before .before in
-    let B = (2 * s .args .m - 3) * s .args .h in
-    B * B + c .before .before .minus .result .lo ≡ two (s .args .sum)
-rest-is c =
-    let n = c .before .before in
-    let r = n .minus .result in
-    let q = n .before .before .before in
-    let low : two r ≡ r .lo = one-word (r .hi) (r .lo) (c .if2 .left) in
-    ap₂ (λ (x y : ℕ). x + y) (sym (q .square .ensures)) (sym low) ∙ add-comm (two (q .square .result)) (two r) ∙ n .minus .ensures
-  where
-    one-word : (h l : ℕ) → h ≤ 0 → h * 2 ^ 64 + l ≡ l
-    one-word h l z = omega arith
+from-below : (t l b u : ℕ) → l ≤ t → b + 4 ≤ t - l → l + b + 4 ≤ t
+from-below t l b u h a = omega arith
 
-returns-5 : tie.Need-returns-5
-returns-5 c h =
-    let above = c .before in
-    let below = above .before .before in
-    let o = below .before in
-    let first = o .before .before in
-    let e = first .before .before in
-    let s = e .before .before .before .before .before .before in
-    let i = first .one-if .result + o .one-if2 .result in
-    let rest = e .before .before .minus .result .lo in
-    passes (s .args .m) (s .args .h) i rest (two (s .args .sum)) (s .pre .0) (rest-is e)
-    (lt-of-le-of-lt (le-of-eq (sym (below .beyond3 .ensures))) (above .before .if3 .left)) (lt-of-lt-of-le (c .if4 .left) (le-of-eq (above .beyond4 .ensures)))
+from-above : (t l b u : ℕ) → l ≤ t → t - l ≤ b + (u - 2) → 2 ≤ u → t + 2 ≤ l + b + u
+from-above t l b u h a k = omega arith
+
+returns-4 : tie.Need-returns-4
+returns-4 c h =
+    let o = c .before .before in
+    let e = o .before .before in
+    let q = e .before in
+    let s = q .before in
+    let m = s .args .m in
+    let t = s .args .t in
+    let i = o .before .one-if .result + o .one-if2 .result in
+    let x = 2 * m - 3 in
+    let p = s .pre .0 in
+    let l : 2 ≤ m = omega (arith, p) in
+    let u : 2 ≤ x / 2 ^ 42 = omega (arith, p) in
+    passes m i t l (picked o)
+    (subst (λ (y : ℕ). y + i * (x / 2 ^ 42) + 4 ≤ t) (q .high-square .ensures) (from-below t (q .high-square .result) (i * (x / 2 ^ 42)) (x / 2 ^ 42) (e .if1 .left) (c .before .if2 .left)))
+    (subst (λ (y : ℕ). t + 2 ≤ y + i * (x / 2 ^ 42) + x / 2 ^ 42) (q .high-square .ensures) (from-above t (q .high-square .result) (i * (x / 2 ^ 42)) (x / 2 ^ 42) (e .if1 .left) (c .if3 .left) u))
 
 pub settled-spec : {M : Type 1} → statement M
 settled-spec =
@@ -52,34 +48,18 @@ settled-spec =
     (tie.spec
     (λ c. search needs)
     (λ c. search needs)
-    (λ c. record { fits = lt-of-lt-of-le (base-small c) (pow-mono (lit≤ {m = 56} {n = 64} tt)) })
-    (λ c κs. base-small c)
     (λ c κs. search needs)
     (λ c h. none h)
-    (λ c κs. under c)
-    (λ c h. none h)
-    (λ c κs. let s = c .before .before .before .before .before .before in (base-small s, s .pre .2, omega arith))
     (λ c κs. search needs)
-    (λ c κs. let s = c .before .before .before .before .before .before .before .before in (base-small s, s .pre .2, omega arith))
+    (λ c. search needs)
     (λ c κs. search needs)
-    (λ c. let x = c .one-if2 .ensures in let y = c .before .before .one-if .ensures in omega (arith, x, y))
-    (λ c κs.
-    let s = c .before .before .before .before .before .before .before .before .before .before in
-    let x = c .one-if2 .ensures in
-    let y = c .before .before .one-if .ensures in
-    (base-small s, s .pre .2, omega (arith, x, y)))
+    (λ c. search needs)
+    (λ c. let a = above c in omega (arith, a))
+    (λ c. let a = above c in omega (arith, a))
     (λ c h. none h)
-    (λ c. let x = c .before .before .one-if2 .ensures in let y = c .before .before .before .before .one-if .ensures in omega (arith, x, y))
-    (λ c κs.
-    let s = c .before .before .before .before .before .before .before .before .before .before .before .before in
-    let x = c .before .before .one-if2 .ensures in
-    let y = c .before .before .before .before .one-if .ensures in
-    (base-small s, s .pre .2, omega (arith, x, y)))
+    (λ c. let p = c .before .before .before .before .before .pre .0 in omega (arith, p))
+    (λ c. let a = above (c .before) in let p = c .before .before .before .before .before .pre .1 in omega (arith, a, p))
     (λ c h. none h)
-    (λ c. let p = c .before .before .before .before .before .before .before .before .before .before .before .before .before .before .pre in omega (arith, p .0))
-    (λ c.
-    let p = c .before .before .before .before .before .before .before .before .before .before .before .before .before .before .pre in
-    let x = c .before .before .before .before .one-if2 .ensures in
-    let y = c .before .before .before .before .before .before .one-if .ensures in
-    omega (arith, p .1, x, y))
-    returns-5)
+    (λ c. let p = c .before .before .before .before .before .before .pre .0 in omega (arith, p))
+    (λ c. let a = picked (c .before .before) in let p = c .before .before .before .before .before .before .pre .1 in omega (arith, a, p))
+    returns-4)

@@ -1,11 +1,10 @@
 -- `norm::nearest::rounded` meets its contract, by `Result`: what the words keep is small, and the bits are the rounded root's.
 -- Assumes nothing.
 use Prim.Native.Nat.{ℕ, _+_, _-_, _*_, _/_, _%_, _^_, _<_}
-use native.Mathlib.Nat.{le-refl, lt-of-le-of-lt}
-use lib.Dec.{lit<}
+use native.Mathlib.Nat.{le-refl}
 use native.Mathlib.Omega.{arith}
 use borrow.Author.Needs.{needs}
-use Rattle.norm.proofs.Result.{kept-small, Rounded, within-steps, past-steps}
+use Rattle.norm.proofs.Result.{kept-small, Rounded, most, full, within-steps, past-steps}
 use Rattle.norm.proofs.nearest.rounded.Statement.{statement}
 use Rattle.norm.proofs.nearest.rounded.Tie as tie
 
@@ -21,8 +20,8 @@ small c =
 add-q : tie.Need-add-q
 add-q c = let h = small (c .before .before) in omega (arith, h)
 
-add-result : tie.Need-add-result
-add-result c = let h = small (c .before .before .before .before .before .before .before) in let m = c .before .rounding-up .ensures .1 in omega (arith, h, m)
+add-encoded : tie.Need-add-encoded
+add-encoded c = let h = small (c .before .before .before .before .before .before .before) in let m = c .before .rounding-up .ensures .1 in omega (arith, h, m)
 
 -- what is known at the last test
 at-test : (c : tie.After-rounding-up) →
@@ -34,11 +33,11 @@ at-test c =
     let s = d .before .before .before in
     record { little = s .pre .0; dropped = d .dropped .ensures; unit = s .pre .3; up = c .rounding-up .ensures .0 }
 
-add-result-2 : tie.Need-add-result-2
-add-result-2 c = let h = within-steps (at-test (c .before)) (c .if1 .taken) .0 in record { fits = lt-of-le-of-lt h (lit< {m = 2047 * 2 ^ 52} {n = 2 ^ 64} tt) }
+encoded-requires : tie.Need-encoded-requires
+encoded-requires c κs = let r = at-test (c .before) in (most r, c .if1 .taken, full r)
 
 returns : tie.Need-returns
-returns c = within-steps (at-test (c .before)) (c .if1 .taken)
+returns c = let t = c .before in within-steps (at-test (t .before)) (c .encoded .ensures) (t .if1 .taken)
 
 returns-2 : tie.Need-returns-2
 returns-2 c = (le-refl (2047 * 2 ^ 52), past-steps (at-test (c .before)) (c .if1 .left))
@@ -56,8 +55,7 @@ rounded-spec =
     (λ c κs. search needs)
     (λ c. search needs)
     (λ c. search needs)
-    (λ c. search needs)
-    add-result
-    add-result-2
+    add-encoded
+    encoded-requires
     returns
     returns-2)

@@ -9,7 +9,7 @@ use Rattle.norm.specs.Norm.{roundedRoot}
 use Rattle.norm.specs.Parts.{shiftOf, unitsOf}
 use Rattle.norm.specs.Checked.{Settles}
 use Rattle.norm.specs.Sizes.{shift-mono, shift-le}
-use Rattle.norm.proofs.Whole.{zero-part, far-part, short, Near, sum-scaled, unit-or-full}
+use Rattle.norm.proofs.Whole.{far-part, short, Near, sum-scaled, unit-or-full}
 use Rattle.norm.proofs.parts.norm_bits.Statement.{statement}
 use Rattle.norm.proofs.parts.norm_bits.Tie as tie
 
@@ -29,11 +29,6 @@ gap c = back (c .shift2 .result) (c .before .shift .result) (ordered c) ∙ c .s
 
 largest : (c : tie.After-shift2) → shiftOf (c .before .before .before .args .a) ≤ 2045
 largest c = shift-le (c .before .before .before .args .a) (c .before .before .before .pre .1)
-
-returns : tie.Need-returns
-returns c =
-    let s = c .before in
-    (le-of-lt (s .pre .1), zero-part (s .args .a) (s .args .b) (s .pre .1) (c .if1 .taken))
 
 returns-2 : tie.Need-returns-2
 returns-2 c =
@@ -101,7 +96,8 @@ pub norm-bits-spec : {M : Type 1} → statement M
 norm-bits-spec =
     tie.close
     (tie.spec
-    returns
+    (λ c κs. c .before .pre)
+    (λ c. c .unguessed .ensures)
     (λ c κs. search needs)
     (λ c κs. search needs)
     ordered
