@@ -13,6 +13,9 @@ ghost use Rattle.norm.specs.Checked.{Settles};
 ghost use Rattle.norm.specs.Norm.{roundedRoot};
 ghost use Rattle.norm.specs.Parts.{significandOf, shiftOf, unitsOf};
 
+// A part this many shifts or more below changes nothing.
+const FAR: u64 = 27;
+
 fn significand(a: u64) -> u64
     ensures { λ r. ⌜ r ≡ significandOf a ⌝ }
 {
@@ -43,7 +46,7 @@ fn by_digits(qa: u64, qb: u64, gap: u64, unit: u64) -> u64
     rounded(root_of(n), unit)
 }
 
-// The bits of the norm of the parts a and b, a the larger, without a guess. A part 27 or more shifts below changes nothing.
+// The bits of the norm of the parts a and b, a the larger, without a guess.
 fn unguessed(a: u64, b: u64) -> u64
     requires { ⌜ (b ≤ a) × (a < 2047 * 2 ^ 52) ⌝ }
     ensures { λ r. ⌜ (r ≤ 2047 * 2 ^ 52) × (ofBits binary64 r ≡ roundedRoot (unitsOf a ^ 2 + unitsOf b ^ 2)) ⌝ }
@@ -53,7 +56,7 @@ fn unguessed(a: u64, b: u64) -> u64
     }
     let unit = shift(b);
     let gap = shift(a) - unit;
-    if gap >= 27 {
+    if gap >= FAR {
         return a;
     }
     let qa = significand(a);
@@ -71,7 +74,7 @@ pub(crate) fn norm_bits(a: u64, b: u64) -> u64
     }
     let unit = shift(b);
     let gap = shift(a) - unit;
-    if gap >= 27 {
+    if gap >= FAR {
         return a;
     }
     let qa = significand(a);
