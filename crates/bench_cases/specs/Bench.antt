@@ -21,7 +21,7 @@ use Rattle.two_time.specs.Layout.{readAs}
 use Rattle.two_time.specs.Support.{scaleOf, residual, retarded}
 use Rattle.two_time.specs.Calls.{allLong, sizeLines, operandLines, inputLines, checkSupport}
 use Rattle.dyson.specs.Calls.{defaultTolerance, supportLines, greenFine, dysonVerdict, dysonWithTolerance, dyson}
-use Rattle.dyson.specs.Example.{floats}
+use Rattle.two_time.specs.Example.{floats}
 use Rattle.transient_run.specs.declared.Solved.the-variants.{Accepted}
 use Rattle.transient_run.specs.Calls.{transientRun}
 use Rattle.transient_run.specs.P12 as P12

@@ -23,7 +23,7 @@ use Rattle.matrix.specs.Operations.{largestNorm}
 use Rattle.two_time.specs.Layout.{TwoTime, readAs, layOutAll}
 use Rattle.two_time.specs.Support.{scaleOf, residual, retarded}
 use Rattle.dyson.specs.Calls.{supportLines}
-use Rattle.dyson.specs.Example.{floats}
+use Rattle.two_time.specs.Example.{floats}
 use Rattle.transient_run.specs.Calls.{Run, Outcome, runVerdict, transientRun}
 use Rattle.transient_run.specs.P12 as P12
 use Rattle.causality.specs.Statement.{Solver, of, SameTo, Demand3}

@@ -25,8 +25,8 @@ use Rattle.two_time.specs.Support.{scaleOf, residual, retarded}
 use Rattle.two_time.specs.Calls.{allLong, sizeLines, operandLines, inputLines}
 use Rattle.dyson.specs.Retarded.{solve, retardedGreen, retardedFinite, retardedNumbers, retardedFine}
 use Rattle.dyson.specs.Calls.{Solved, kernelOf, greenOf, supportLines, greenFine, dysonVerdict, dysonWithTolerance, dyson}
-use Rattle.dyson.specs.Example as Example
-use Rattle.dyson.specs.Example.{floats, bits}
+use Rattle.two_time.specs.Example as Example
+use Rattle.two_time.specs.Example.{floats, bits}
 
 abbrev half : Float
 half = Ieee.ofBits binary64 0x3fe0000000000000

@@ -1,6 +1,5 @@
 -- Document 01, Dyson: the kernel and the retarded function, each call's outcome, the recursion as the document writes it, and closed cases.
 pub mod Retarded
 pub mod Calls
-pub mod Example
 pub mod Cases
 pub mod Recursion

@@ -19,13 +19,12 @@ use Rattle.matrix.specs.declared.Checked.{Checked}
 use Rattle.matrix.specs.Block.{layOut, blockOf, checked}
 use Rattle.matrix.specs.Operations.{product, trace, allFinite}
 use Rattle.two_time.specs.Calls.{allLong, sizeLines, operandLines}
+use Rattle.two_time.specs.Example as Example
+use Rattle.two_time.specs.Example.{floats}
 use Rattle.observables.specs.declared.Observed.{Observed}
 use Rattle.observables.specs.declared.Observed.the-variants.{Number, NotReal, Refused as NotObserved}
 use Rattle.observables.specs.Density.{density}
 use Rattle.observables.specs.Calls.{observedNumber, observed, lesserLines, lesserBlockLines, densityMatrix, particleNumber, oneBodyExpectation, bondFlowInto}
-
-abbrev floats : List ℕ → List Float
-floats = map (Ieee.ofBits binary64)
 
 abbrev f : ℕ → Float
 f = Ieee.ofBits binary64
@@ -60,16 +59,7 @@ refused = refl
 -- ---- the run with two orbitals
 
 abbrev run : List Float
-run = floats (
-    0 ∷ 0 ∷ 0 ∷ 0 ∷ 0 ∷ 0 ∷ 0 ∷ 0 ∷
-    0 ∷ 0 ∷ 0 ∷ 0 ∷ 0 ∷ 0 ∷ 0 ∷ 0 ∷
-    0 ∷ 0 ∷ 0 ∷ 0 ∷ 0 ∷ 0 ∷ 0 ∷ 0 ∷
-    0 ∷ 0 ∷ 0 ∷ 0 ∷ 0 ∷ 0 ∷ 0 ∷ 0 ∷
-    0x3ff3fb1000000000 ∷ 0x4020be3400000000 ∷ 0x401b9fd400000000 ∷ 0x4032381600000000 ∷ 0x3fc0b28000000000 ∷ 0x40356e0e00000000 ∷ 0x4026451200000000 ∷ 0x4048202500000000 ∷
-    0x40745241ac000000 ∷ 0xc0428d28e0000000 ∷ 0x40854d202a000000 ∷ 0xc070a16850000000 ∷ 0x408a0d5226000000 ∷ 0x403913fe40000000 ∷ 0x409c655a81000000 ∷ 0xc07a62dd60000000 ∷
-    0 ∷ 0 ∷ 0 ∷ 0 ∷ 0 ∷ 0 ∷ 0 ∷ 0 ∷
-    0xc074ccf6c4000000 ∷ 0x405bd07530000000 ∷ 0xc085b50fd2000000 ∷ 0x407a1a054c000000 ∷ 0xc0885dc256000000 ∷ 0x404bf09000000000 ∷ 0xc09b05034f000000 ∷ 0x4080293da8000000 ∷
-    0x40ae631f2e400000 ∷ 0x40c990991fa00000 ∷ 0x40cf095134880000 ∷ 0x40d978ae6ce40000 ∷ 0x4092241cf5400000 ∷ 0x40ddb0d9efec0000 ∷ 0x40d36b79a3340000 ∷ 0x40efc7962bd40000 ∷ [])
+run = floats Example.lesserBits
 
 abbrev million : Float
 million = f 0x412e_8480_0000_0000

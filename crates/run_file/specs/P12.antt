@@ -18,7 +18,7 @@ use Rattle.two_time.specs.Layout.{readAs}
 use Rattle.two_time.specs.Support.{scaleOf, residual, retarded}
 use Rattle.two_time.specs.Calls.{allLong, sizeLines, operandLines}
 use Rattle.dyson.specs.Calls.{supportLines, defaultTolerance}
-use Rattle.dyson.specs.Example.{floats}
+use Rattle.two_time.specs.Example.{floats}
 use Rattle.transient_run.specs.Calls.{transientRun}
 use Rattle.transient_run.specs.P12 as P12
 use Rattle.observables.specs.Density.{density}

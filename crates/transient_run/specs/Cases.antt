@@ -25,8 +25,8 @@ use Rattle.two_time.specs.Support.{scaleOf, residual, retarded}
 use Rattle.two_time.specs.Calls.{allLong, sizeLines, operandLines, inputLines}
 use Rattle.dyson.specs.Retarded.{solve, retardedGreen, retardedFinite, retardedNumbers, retardedFine}
 use Rattle.dyson.specs.Calls.{supportLines, greenFine}
-use Rattle.dyson.specs.Example as Example
-use Rattle.dyson.specs.Example.{floats, bits}
+use Rattle.two_time.specs.Example as Example
+use Rattle.two_time.specs.Example.{floats, bits}
 use Rattle.transient_run.specs.declared.Solved.the-variants.{Accepted, Refused as NotSolved}
 use Rattle.transient_run.specs.Lesser.{mixed, mixedFinite, lesserGreen, lesserFinite, mixedNumbers, mixedFine, lesserNumbers, lesserFine}
 use Rattle.transient_run.specs.Calls.{Run, Outcome, solved, solvedNumber, runFine, runVerdict, transientRun}

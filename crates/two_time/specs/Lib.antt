@@ -4,6 +4,7 @@ pub mod WeightedSum
 pub mod Convolutions
 pub mod Support
 pub mod Calls
+pub mod Example
 pub mod Cases
 pub mod Reading
 pub mod Agreement
