@@ -5,3 +5,4 @@ pub mod Numbers
 pub mod Cases
 pub mod Agreement
 pub mod Filling
+pub mod Finite

@@ -6,7 +6,8 @@ use native.Mathlib.Nat.{le-refl, not-suc-le-zero, le-of-suc-le-suc, sub-zero, su
 use native.Mathlib.Omega.{arith}
 use native.Mathlib.Numerals.{add-one}
 use lib.ListN.{length, getD, take, drop, set, replicate, length-append, length-take, length-drop, drop-of-length-le}
-use lib.Seq.{take-suc}
+use lib.Seq.{take-suc, take-at, drop-at, drop-drop}
+use borrow.Rule.Slice.PartMut.{putMid}
 
 module _ {A : Type 0} where
   -- d with xs written over its start
@@ -56,3 +57,9 @@ module _ {A : Type 0} where
   pub over-copy : (d xs : List A) (i : ℕ) (z : A) → i < length xs → i < length d → set (over d (take i xs)) i (getD xs i z) ≡ over d (take (i + 1) xs)
   over-copy d xs i z h l =
       over-one d (take i xs) i (getD xs i z) (length-take i xs ∙ min-eq-left (le-of-lt h)) l ∙ ap (over d) (sym (ap (λ (k : ℕ). take k xs) (add-one i) ∙ take-suc xs i z h))
+
+  -- a part written just past what is written
+  pub over-part : (d xs ys : List A) (i k : ℕ) → length xs ≡ i → length ys ≡ k → putMid i k (over d xs) ys ≡ over d (xs ++ ys)
+  unfolding over
+  over-part d xs ys i k ex ey =
+      rw (take-at xs (drop (length xs) d) i ex, drop-at xs (drop (length xs) d) i ex, drop-drop, ex, ← ey, ← ex, ← length-append, append-assoc)

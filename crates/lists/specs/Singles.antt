@@ -1,9 +1,10 @@
 -- A slice that a loop writes over with one element a turn. Assumes nothing.
 use mathlib.Core.Path.{_≡_, refl, sym, _∙_}
 use mathlib.Core.List.{List, [], _∷_}
-use Prim.Native.Nat.{ℕ, _+_, _≤_, _<_}
+use Prim.Native.Nat.{ℕ, zero, suc, _+_, _≤_, _<_}
 use native.Mathlib.Nat.{mul-one, le-antisymm}
-use lib.ListN.{length, set}
+use native.Mathlib.Numerals.{add-one}
+use lib.ListN.{length, set, replicate, replicate-append-replicate}
 use Rattle.lists.specs.Indexed.{join}
 use Rattle.lists.specs.Reading.{length-join}
 use Rattle.lists.specs.Turns.{join-more}
@@ -29,3 +30,9 @@ module _ {A : Type 0} where
     singles-end i le ge e =
         let at : i ≡ length d = le-antisymm le ge in
         e ∙ over-all d (singles i f) (length-singles i f ∙ at) ∙ rw at
+
+  -- n times the same
+  pub singles-same : (n : ℕ) (a : A) → singles n (λ k. a) ≡ replicate n a
+  unfolding join
+  singles-same zero a = refl
+  singles-same (suc n) a = rw (singles-same n a) (replicate-append-replicate n 1 a ∙ rw add-one)

@@ -52,6 +52,11 @@ unfolding _then_
 then-assoc Pass y z = refl
 then-assoc (Refused r) y z = refl
 
+pub then-end : (x : Verdict) → (x then Pass) ≡ x
+unfolding _then_
+then-end Pass = refl
+then-end (Refused r) = refl
+
 -- what follows a verdict that is known
 pub then-after : (x y : Verdict) → x ≡ Pass → (x then y) ≡ y
 unfolding _then_

@@ -14,7 +14,8 @@ use Rattle.lists.specs.Indexed.{allBelow}
 use Rattle.lists.specs.Agreement.{never, all-each, each-all}
 use Rattle.complex.specs.Arithmetic.{finite}
 use Rattle.refusal.specs.declared.Refusal.{Refusal}
-use Rattle.refusal.specs.declared.Verdict.the-variants.{Refused}
+use Rattle.refusal.specs.declared.Verdict.{Verdict}
+use Rattle.refusal.specs.declared.Verdict.the-variants.{Pass, Refused}
 use Rattle.refusal.specs.Verdict.{ask, _then_, askAll}
 use Rattle.refusal.specs.Agreement.{all-asked, ask-yes}
 
@@ -23,6 +24,16 @@ pub record Prefix (p : ℕ → Bool) (n r : ℕ) : Type 0 where
   pub within : r ≤ n
   pub passed : (k : ℕ) → k < r → p k ≡ true
   pub ended : r < n → p r ≡ false
+
+-- the first question that is refused is the answer to all n in order
+pub first-refused : (f : ℕ → Verdict) (x : Refusal) (n r : ℕ) → r < n → ((k : ℕ) → k < r → f k ≡ Pass) → f r ≡ Refused x → askAll n f ≡ Refused x
+unfolding askAll _then_
+first-refused f x zero r l h e = absurd (omega arith)
+first-refused f x (suc n) r l h e =
+    ⊎-elim
+    (λ same. rw (← same, all-asked r f h, e))
+    (λ less. rw (first-refused f x n r less h e))
+    (eq-or-lt-of-le (le-of-suc-le-suc l))
 
 module _ (p : ℕ → Bool) where
   -- one that is answered no
@@ -41,15 +52,9 @@ module _ (p : ℕ → Bool) where
       (λ less. ne-eqb r n (λ e. omega arith) ∙ sym (all-no n r less (s .ended less)))
       (eq-or-lt-of-le (s .within))
 
-  -- the first that is answered no is the answer to all n in order
   first-no : (f : ℕ → Refusal) (n r : ℕ) → r < n → ((k : ℕ) → k < r → p k ≡ true) → p r ≡ false → askAll n (λ i. ask (p i) (f i)) ≡ Refused (f r)
-  unfolding askAll _then_ ask
-  first-no f zero r l h e = absurd (omega arith)
-  first-no f (suc n) r l h e =
-      ⊎-elim
-      (λ same. rw (← same, all-asked r (λ i. ask (p i) (f i)) (λ k m. ask-yes (p k) (f k) (h k m)), e))
-      (λ less. rw (first-no f n r less h e))
-      (eq-or-lt-of-le (le-of-suc-le-suc l))
+  unfolding ask
+  first-no f n r l h e = first-refused (λ i. ask (p i) (f i)) (f r) n r l (λ k m. ask-yes (p k) (f k) (h k m)) (rw e)
 
   pub prefix-asked : (f : ℕ → Refusal) (n r : ℕ) → Prefix p n r → ask (eqb r n) (f r) ≡ askAll n (λ i. ask (p i) (f i))
   unfolding ask

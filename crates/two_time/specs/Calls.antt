@@ -54,6 +54,11 @@ module _ (points orbitals : ℕ) (times left right out : List Float) where
   unfoldable pub causalConvolution : Convolved
   causalConvolution = convolved (causalFine points orbitals times left right) (causalNumbers points orbitals times left right)
 
+-- line 9 of one operand, after lines 1 to 3 of it
+unfoldable pub retardedLine : ℕ → ℕ → ℕ → Float → List Float → Verdict
+retardedLine points orbitals operand tolerance xs =
+    sizeLines points orbitals true (xs ∷ []) then retarded points orbitals operand tolerance (readAs points orbitals xs)
+
 -- `check_retarded_support`: lines 1 to 3, 7, 8 and 9 of one function, operand 0
 unfoldable pub checkSupport : ℕ → ℕ → List Float → Float → Verdict
 checkSupport points orbitals xs tolerance =

@@ -1,9 +1,11 @@
 -- Document 01, "Kept, renewed, left behind": "A two-time function is a lent slice of binary64 numbers: block (t, t') row by row, in a block
 -- entry (a, b) row by row, real part before imaginary."
 use Prim.Native.Nat.{ℕ, _+_, _*_}
-use mathlib.Core.Bool.{Bool}
+use mathlib.Core.Bool.{Bool, cond, _&&_}
 use mathlib.Core.List.{List}
-use lib.Ieee.{Float}
+use lib.Dec.{leb, ltb}
+use lib.ListN.{length}
+use lib.Ieee.{Float, nan}
 use Rattle.lists.specs.Indexed.{join, allBelow}
 use Rattle.complex.specs.declared.Complex.{Complex}
 use Rattle.complex.specs.Numbers.{entryAt}
@@ -21,9 +23,18 @@ place stride orbitals t u a b = 2 * (((t * stride + u) * orbitals + a) * orbital
 abbrev pub readAs : ℕ → ℕ → List Float → TwoTime
 readAs stride orbitals xs t u a b = entryAt xs (place stride orbitals t u a b)
 
+-- within the limits of line 2, (t, u) is a place of a function with that stride and (a, b) an entry of its blocks
+unfoldable pub isPlace : ℕ → ℕ → ℕ → ℕ → ℕ → ℕ → Bool
+isPlace stride orbitals t u a b = (leb stride 256 && leb orbitals 16) && ((ltb t stride && ltb u stride) && (ltb a orbitals && ltb b orbitals))
+
 -- "a function has 2·N·N·n·n numbers"
 abbrev pub lengthOf : ℕ → ℕ → ℕ
 lengthOf points orbitals = 2 * points * points * orbitals * orbitals
+
+-- an entry of a list that holds a function; a NaN where there is none
+unfoldable pub readWithin : ℕ → ℕ → List Float → ℕ → ℕ → ℕ → ℕ → Complex
+readWithin stride orbitals xs t u a b =
+    cond (isPlace stride orbitals t u a b && leb (lengthOf stride orbitals) (length xs)) (readAs stride orbitals xs t u a b) (record { re = nan; im = nan })
 
 -- a two-time function laid out as such a list
 unfoldable pub layOutAll : ℕ → ℕ → TwoTime → List Float

@@ -19,7 +19,9 @@ scaleOf points orbitals x = larger (largestIn points points (λ t u. largestNorm
 unfoldable pub residual : ℕ → ℕ → TwoTime → ℕ → ℕ → Float
 residual points orbitals x t u = div (largestNorm orbitals orbitals (x t u)) (scaleOf points orbitals x)
 
--- line 9 of one operand
+-- line 9 of one operand at one place, and in all
+abbrev pub retardedPlace : ℕ → ℕ → ℕ → Float → TwoTime → ℕ → ℕ → Verdict
+retardedPlace points orbitals operand tolerance x t u = cond (ltb t u) (retardedAt operand t u tolerance (residual points orbitals x t u)) Pass
+
 unfoldable pub retarded : ℕ → ℕ → ℕ → Float → TwoTime → Verdict
-retarded points orbitals operand tolerance x =
-    askAll points (λ t. askAll points (λ u. cond (ltb t u) (retardedAt operand t u tolerance (residual points orbitals x t u)) Pass))
+retarded points orbitals operand tolerance x = askAll points (λ t. askAll points (retardedPlace points orbitals operand tolerance x t))

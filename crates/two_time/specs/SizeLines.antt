@@ -1,0 +1,100 @@
+-- Lines 1 to 3 as the code asks them, with N and n cut to their limits, and what it says that they pass. Assumes nothing.
+use mathlib.Core.Path.{_≡_, refl, sym, _∙_}
+use mathlib.Core.Bool.{Bool, true, false, _&&_}
+use mathlib.Core.List.{List, [], _∷_}
+use Prim.Native.Nat.{ℕ, _≤_, min}
+use native.Mathlib.Nat.{min-eq-left}
+use lib.Dec.{leb, eqb}
+use lib.ListN.{length}
+use lib.Ieee.{Float}
+use borrow.Author.Tests.{leb-true, eqb-true}
+use Rattle.lists.specs.Agreement.{both}
+use Rattle.refusal.specs.declared.Verdict.{Verdict}
+use Rattle.refusal.specs.declared.Verdict.the-variants.{Pass}
+use Rattle.refusal.specs.Verdict.{by, _then_}
+use Rattle.refusal.specs.Lines.{largeEnough, withinLimits, fitting}
+use Rattle.refusal.specs.Agreement.{ask-pass, then-pass, then-agree}
+use Rattle.two_time.specs.Layout.{lengthOf}
+use Rattle.two_time.specs.Calls.{allLong, sizeLines}
+
+-- two tests of orders that both hold
+orders : (a b c d : ℕ) → leb a b && leb c d ≡ true → (a ≤ b) × (c ≤ d)
+orders a b c d e = let tests = both (leb a b) (leb c d) e in (leb-true a b (tests .0), leb-true c d (tests .1))
+
+module _ (points orbitals : ℕ) where
+  large : largeEnough points orbitals ≡ Pass → (2 ≤ points) × (1 ≤ orbitals)
+  unfolding largeEnough
+  large e = orders 2 points 1 orbitals (ask-pass (leb 2 points && leb 1 orbitals) (by 1) e)
+
+  limited : withinLimits points orbitals ≡ Pass → (points ≤ 256) × (orbitals ≤ 16)
+  unfolding withinLimits
+  limited e = orders points 256 orbitals 16 (ask-pass (leb points 256 && leb orbitals 16) (by 2) e)
+
+-- what it says that lines 1 to 3 pass
+pub record SizesPassed (points orbitals : ℕ) (fits : Bool) (slices : List (List Float)) : Type 0 where
+  pub points-least : 2 ≤ points
+  pub orbitals-least : 1 ≤ orbitals
+  pub points-most : points ≤ 256
+  pub orbitals-most : orbitals ≤ 16
+  pub others : fits ≡ true
+  pub long : allLong (lengthOf points orbitals) slices ≡ true
+
+module _ (points orbitals : ℕ) (fits : Bool) (slices : List (List Float)) where
+  -- where line 2 passes N and n are not cut, and where it does not line 3 is not reached
+  pub sizes-lines : (largeEnough points orbitals then withinLimits points orbitals then fitting (fits && allLong (lengthOf (min points 256) (min orbitals 16)) slices))
+      ≡ sizeLines points orbitals fits slices
+  unfolding sizeLines
+  sizes-lines =
+      then-agree _ _ _ _ refl (λ l. then-agree _ _ _ _ refl (λ e. let most = limited points orbitals e in rw (min-eq-left (most .0), min-eq-left (most .1))))
+
+  pub sizes-passed : sizeLines points orbitals fits slices ≡ Pass → SizesPassed points orbitals fits slices
+  unfolding sizeLines fitting
+  sizes-passed e =
+      let first = then-pass _ _ e in
+      let second = then-pass _ _ (first .1) in
+      let least = large points orbitals (first .0) in
+      let most = limited points orbitals (second .0) in
+      let all = both fits (allLong (lengthOf points orbitals) slices) (ask-pass _ (by 3) (second .1)) in
+      record {
+        points-least = least .0;
+        orbitals-least = least .1;
+        points-most = most .0;
+        orbitals-most = most .1;
+        others = all .0;
+        long = all .1;
+      }
+
+-- one slice, and the first of several
+long-one : (count : ℕ) (xs : List Float) → allLong count (xs ∷ []) ≡ eqb (length xs) count
+unfolding allLong
+long-one count xs = one (eqb (length xs) count)
+  where
+    one : (b : Bool) → b && true ≡ b
+    one true = refl
+    one false = refl
+
+pub long-first : (count : ℕ) (xs : List Float) (rest : List (List Float)) → allLong count (xs ∷ rest) ≡ true → (length xs ≡ count) × (allLong count rest ≡ true)
+unfolding allLong
+long-first count xs rest e = let tests = both (eqb (length xs) count) (allLong count rest) e in (eqb-true (length xs) count (tests .0), tests .1)
+
+-- tests of single slices, as the code makes them, are the test of all: the last, and one before others
+module _ (points orbitals : ℕ) where
+  abbrev count : ℕ
+  count = lengthOf (min points 256) (min orbitals 16)
+
+  pub fits-last : (xs : List Float) (b : Bool) → b ≡ eqb (length xs) count → b ≡ allLong count (xs ∷ [])
+  fits-last xs b e = e ∙ sym (long-one count xs)
+
+  pub fits-more : (xs : List Float) (rest : List (List Float)) (b all : Bool) → b ≡ eqb (length xs) count → all ≡ allLong count rest → b && all ≡ allLong count (xs ∷ rest)
+  unfolding allLong
+  fits-more xs rest b all e h = rw (e, h)
+
+  -- and with them lines 1 to 3 are asked
+  pub sizes-asked : (slices : List (List Float)) (fits all : Bool) (v : Verdict) → all ≡ allLong count slices
+      → v ≡ (largeEnough points orbitals then withinLimits points orbitals then fitting (fits && all)) → v ≡ sizeLines points orbitals fits slices
+  sizes-asked slices fits all v h e = e ∙ rw h (sizes-lines points orbitals fits slices)
+
+-- lines 1 to 3 of one function, with nothing lent beside it
+pub sizes-one : {fits : Bool} {v : Verdict} (points orbitals : ℕ) (xs : List Float) → fits ≡ eqb (length xs) (lengthOf (min points 256) (min orbitals 16))
+    → v ≡ (largeEnough points orbitals then withinLimits points orbitals then fitting fits) → v ≡ sizeLines points orbitals true (xs ∷ [])
+sizes-one {fits} {v} points orbitals xs f e = sizes-asked points orbitals (xs ∷ []) true fits v (fits-last points orbitals xs fits f) e

@@ -1,0 +1,108 @@
+// Where an entry of a two-time function stands in its slice (document 01, "Kept, renewed, left behind"). A row of blocks has
+// `stride` of them.
+ghost use mathlib.Core.Path.{_≡_};
+ghost use Prim.Native.Nat.{_+_, _*_, _<_, _≤_, min};
+ghost use lib.ListN.{length, replicate, set};
+ghost use Rattle.complex.specs.Arithmetic.{plusZero};
+ghost use Rattle.two_time.specs.Layout.{place, isPlace, readAs, readWithin, lengthOf};
+ghost use Rattle.two_time.specs.Places.{Placed};
+use complex::Complex;
+
+pub(crate) fn least(x: usize, y: usize) -> usize
+    ensures { λ r. ⌜ r ≡ min x y ⌝ }
+{
+    if x < y { x } else { y }
+}
+
+// How many numbers a function has, 2·N·N·n·n. N and n are cut to their limits, so that the product fits.
+pub fn function_length(points: usize, orbitals: usize) -> usize
+    ensures { λ r. ⌜ r ≡ lengthOf (min points 256) (min orbitals 16) ⌝ }
+{
+    let most_points = least(points, 256);
+    let most_orbitals = least(orbitals, 16);
+    2 * most_points * most_points * most_orbitals * most_orbitals
+}
+
+// Where the real part of entry (a, b) of block (t, u) stands.
+pub(crate) fn place(stride: usize, orbitals: usize, t: usize, u: usize, a: usize, b: usize) -> usize
+    requires { ⌜ Placed stride orbitals t u a b ⌝ }
+    ensures { λ r. ⌜ (r ≡ place stride orbitals t u a b) × (r + 1 < lengthOf stride orbitals) ⌝ }
+{
+    2 * (((t * stride + u) * orbitals + a) * orbitals + b)
+}
+
+// Entry (a, b) of block (t, u).
+pub(crate) fn entry(
+    xs: &[f64],
+    stride: usize,
+    orbitals: usize,
+    t: usize,
+    u: usize,
+    a: usize,
+    b: usize,
+) -> Complex
+    requires { ⌜ Placed stride orbitals t u a b ⌝ }
+    requires { ⌜ lengthOf stride orbitals ≤ length (now xs) ⌝ }
+    ensures { λ r. ⌜ r ≡ readAs stride orbitals (now (xs .entry)) t u a b ⌝ }
+{
+    let at = place(stride, orbitals, t, u, a, b);
+    Complex {
+        re: xs[at],
+        im: xs[at + 1],
+    }
+}
+
+// Whether (t, u) is a place and (a, b) an entry there, within the limits of N and n.
+pub(crate) fn is_place(
+    stride: usize,
+    orbitals: usize,
+    t: usize,
+    u: usize,
+    a: usize,
+    b: usize,
+) -> bool
+    ensures { λ r. ⌜ r ≡ isPlace stride orbitals t u a b ⌝ }
+{
+    let limits = (stride <= 256) & (orbitals <= 16);
+    limits & (((t < stride) & (u < stride)) & ((a < orbitals) & (b < orbitals)))
+}
+
+// Entry (a, b) of block (t, u), and NaN parts where there is none.
+pub fn read(
+    xs: &[f64],
+    stride: usize,
+    orbitals: usize,
+    t: usize,
+    u: usize,
+    a: usize,
+    b: usize,
+) -> Complex
+    ensures { λ r. ⌜ r ≡ readWithin stride orbitals (now (xs .entry)) t u a b ⌝ }
+{
+    let room = function_length(stride, orbitals) <= xs.len();
+    if is_place(stride, orbitals, t, u, a, b) & room {
+        return entry(xs, stride, orbitals, t, u, a, b);
+    }
+    Complex {
+        re: 0.0 / 0.0,
+        im: 0.0 / 0.0,
+    }
+}
+
+// Writes z as the p-th complex number.
+pub(crate) fn put(xs: &mut [f64], p: usize, z: Complex)
+    requires { ⌜ 2 * p + 1 < length (now xs) ⌝ }
+    ensures { λ _. ⌜ now (xs .exit) ≡ set (set (now (xs .entry)) (2 * p) (z .re)) (2 * p + 1) (z .im) ⌝ }
+{
+    xs[2 * p] = z.re;
+    xs[2 * p + 1] = z.im;
+}
+
+// Leaves +0 throughout.
+pub fn clear(xs: &mut [f64])
+    ensures { λ _. ⌜ now (xs .exit) ≡ replicate (length (now (xs .entry))) plusZero ⌝ }
+{
+    for i in 0..xs.len() {
+        xs[i] = 0.0;
+    }
+}

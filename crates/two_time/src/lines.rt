@@ -1,0 +1,37 @@
+// The lines that every call on two-time functions asks of what it is lent (document 01, "Questions in order").
+ghost use mathlib.Core.Path.{_≡_};
+ghost use Prim.Native.Nat.{min};
+ghost use lib.Dec.{eqb};
+ghost use lib.ListN.{length};
+ghost use Rattle.refusal.specs.Verdict.{_then_};
+ghost use Rattle.refusal.specs.Lines.{largeEnough, withinLimits, fitting, finiteEntries};
+ghost use Rattle.two_time.specs.Layout.{lengthOf};
+use crate::layout::function_length;
+use refusal::Verdict;
+use refusal::lines::finite_entries;
+use refusal::lines::fitting;
+use refusal::lines::large_enough;
+use refusal::lines::within_limits;
+
+// Whether a slice has a function's length. Where N or n is above its limit the answer says nothing, and line 2 comes first.
+pub fn has_length(points: usize, orbitals: usize, xs: &[f64]) -> bool
+    ensures { λ r. ⌜ r ≡ eqb (length (now (xs .entry))) (lengthOf (min points 256) (min orbitals 16)) ⌝ }
+{
+    xs.len() == function_length(points, orbitals)
+}
+
+// 1, 2 and 3: `fits` says whether each lent slice has its length.
+pub fn sizes(points: usize, orbitals: usize, fits: bool) -> Verdict
+    ensures { λ r. ⌜ r ≡ (largeEnough points orbitals then withinLimits points orbitals then fitting fits) ⌝ }
+{
+    let limits = within_limits(points, orbitals);
+    large_enough(points, orbitals).then(limits.then(fitting(fits)))
+}
+
+// 7, of the operand of that number.
+pub fn operand(number: usize, xs: &[f64]) -> Verdict
+    ensures { λ r. ⌜ r ≡ finiteEntries number (now (xs .entry)) (length (now (xs .entry))) ⌝ }
+{
+    let count = xs.len();
+    finite_entries(number, xs, count)
+}

@@ -1,0 +1,340 @@
+// The one sum over times (document 01, convolutions): product, then scale, then add, s ascending. It serves every sum of the solver.
+ghost use mathlib.Core.Path.{_≡_};
+ghost use mathlib.Core.Bool.{true};
+ghost use Prim.Native.Nat.{_+_, _*_, _<_, _≤_};
+ghost use lib.ListN.{length};
+ghost use Rattle.complex.specs.Arithmetic.{czero};
+ghost use Rattle.matrix.specs.Block.{layOut};
+ghost use Rattle.matrix.specs.Operations.{product};
+ghost use Rattle.two_time.specs.Layout.{readAs, lengthOf, layOutAll};
+ghost use Rattle.two_time.specs.WeightedSum.{weightedSum};
+ghost use Rattle.two_time.specs.Sums.{weightBy, rightBy, termsBy, checkedSum, sumOrOverflow, summationAt, madeBy, blockFine, fineBy};
+ghost use Rattle.two_time.specs.Outcome.{summed};
+ghost use Rattle.two_time.specs.Places.{Placed};
+use crate::layout::clear;
+use crate::layout::entry;
+use crate::layout::function_length;
+use crate::layout::is_place;
+use crate::layout::least;
+use crate::layout::put;
+use crate::lines::has_length;
+use crate::lines::sizes;
+use complex::Complex;
+use grid::full_weight;
+use grid::trapezoid_weight;
+use refusal::Refusal;
+use refusal::Verdict;
+
+// An entry of a block that is made during the work, or that it, or a block on the way to it, is not finite (number 10).
+pub enum CheckedEntry {
+    Finite(Complex),
+    Overflow,
+}
+
+// The weights of a sum.
+pub enum Weights {
+    // Those of all points of a grid of that many.
+    Full(usize),
+    // Those of the interval from the first to the second.
+    Interval(usize, usize),
+}
+
+// The right factor at (s, t').
+pub enum Factor {
+    // The block (s, t') as it is stored.
+    Stored,
+    // The adjoint of the stored block (t', s).
+    Adjoint,
+}
+
+// What is summed at one place: over s = from, from + 1, .., `count` of them.
+pub struct Summation {
+    pub weights: Weights,
+    pub factor: Factor,
+    pub from: usize,
+    pub count: usize,
+}
+
+// What is summed at every place (t, t').
+pub enum Sums {
+    // All s, by full weights.
+    Full,
+    // s from t' to t, by the weights of that interval; nothing where t < t'.
+    Causal,
+    // s from 0 to t' over left(t,s) and the adjoint of right(t',s), by the weights of that interval.
+    Mixed,
+    // s from 0 to t, by the weights of that interval.
+    Lesser,
+}
+
+// The weight of point s.
+fn weight(weights: Weights, times: &[f64], s: usize) -> f64
+    ensures { λ r. ⌜ r ≡ weightBy weights (now (times .entry)) s ⌝ }
+{
+    match weights {
+        Weights::Full(points) => full_weight(times, points, s),
+        Weights::Interval(start, end) => trapezoid_weight(times, s, start, end),
+    }
+}
+
+// Entry (k, b) of the right factor at (s, u).
+fn right_entry(
+    factor: Factor,
+    xs: &[f64],
+    stride: usize,
+    orbitals: usize,
+    s: usize,
+    u: usize,
+    k: usize,
+    b: usize,
+) -> Complex
+    requires { ⌜ Placed stride orbitals s u k b ⌝ }
+    requires { ⌜ lengthOf stride orbitals ≤ length (now xs) ⌝ }
+    ensures { λ r. ⌜ r ≡ rightBy factor (readAs stride orbitals (now (xs .entry))) s u k b ⌝ }
+{
+    match factor {
+        Factor::Stored => entry(xs, stride, orbitals, s, u, k, b),
+        Factor::Adjoint => entry(xs, stride, orbitals, u, s, b, k).conj(),
+    }
+}
+
+// Entry (a, b) of the product of left(t,s) and the right factor at (s, u).
+fn product_entry(
+    factor: Factor,
+    left: &[f64],
+    right: &[f64],
+    stride: usize,
+    orbitals: usize,
+    t: usize,
+    s: usize,
+    u: usize,
+    a: usize,
+    b: usize,
+) -> Complex
+    requires { ⌜ Placed stride orbitals t s a b ⌝ }
+    requires { ⌜ Placed stride orbitals s u a b ⌝ }
+    requires { ⌜ lengthOf stride orbitals ≤ length (now left) ⌝ }
+    requires { ⌜ lengthOf stride orbitals ≤ length (now right) ⌝ }
+    ensures { λ r. ⌜ r ≡ product orbitals (readAs stride orbitals (now (left .entry)) t s) (rightBy factor (readAs stride orbitals (now (right .entry))) s u) a b ⌝ }
+{
+    let mut sum = Complex::ZERO;
+    for k in 0..orbitals {
+        let x = entry(left, stride, orbitals, t, s, a, k);
+        let y = right_entry(factor, right, stride, orbitals, s, u, k, b);
+        sum = sum.plus(x.times(y));
+    }
+    sum
+}
+
+// Entry (a, b) of the sum at (t, u) that begins with `first`. What is not finite leaves no later sum finite, so one test at the
+// end serves.
+fn sum_entry(
+    sum: Summation,
+    times: &[f64],
+    left: &[f64],
+    right: &[f64],
+    stride: usize,
+    orbitals: usize,
+    t: usize,
+    u: usize,
+    a: usize,
+    b: usize,
+    first: Complex,
+) -> CheckedEntry
+    requires { ⌜ Placed stride orbitals t u a b ⌝ }
+    requires { ⌜ sum .from + sum .count ≤ stride ⌝ }
+    requires { ⌜ lengthOf stride orbitals ≤ length (now left) ⌝ }
+    requires { ⌜ lengthOf stride orbitals ≤ length (now right) ⌝ }
+    ensures { λ r. ⌜ r ≡ checkedSum orbitals (termsBy sum stride orbitals (now (times .entry)) (now (left .entry)) (now (right .entry)) t u first) a b ⌝ }
+{
+    let weights = sum.weights;
+    let factor = sum.factor;
+    let from = sum.from;
+    let count = sum.count;
+    let mut total = first;
+    for k in 0..count {
+        let s = from + k;
+        let p = product_entry(factor, left, right, stride, orbitals, t, s, u, a, b);
+        let w = weight(weights, times, s);
+        total = total.plus(p.times(Complex { re: w, im: 0.0 }));
+    }
+    if (count == 0) | total.is_finite() {
+        CheckedEntry::Finite(total)
+    } else {
+        CheckedEntry::Overflow
+    }
+}
+
+// Entry (a, b) of the sum at (t, u) that begins with `first`. Where a place of it lies outside the slices the answer is Overflow.
+pub fn weighted_product_sum(
+    sum: Summation,
+    times: &[f64],
+    left: &[f64],
+    right: &[f64],
+    stride: usize,
+    orbitals: usize,
+    t: usize,
+    u: usize,
+    a: usize,
+    b: usize,
+    first: Complex,
+) -> CheckedEntry
+    ensures { λ r. ⌜ r ≡ sumOrOverflow sum stride orbitals (now (times .entry)) (now (left .entry)) (now (right .entry)) t u a b first ⌝ }
+{
+    let length = function_length(stride, orbitals);
+    let placed = is_place(stride, orbitals, t, u, a, b);
+    let room = (length <= left.len()) & (length <= right.len());
+    let span = least(sum.from, 257) + least(sum.count, 257) <= stride;
+    if !(placed & (room & span)) {
+        return CheckedEntry::Overflow;
+    }
+    sum_entry(sum, times, left, right, stride, orbitals, t, u, a, b, first)
+}
+
+// What is summed at (t, u).
+fn summation_at(sums: Sums, points: usize, t: usize, u: usize) -> Summation
+    requires { ⌜ (t < points) × (u < points) × (points ≤ 256) ⌝ }
+    ensures { λ r. ⌜ r ≡ summationAt sums points t u ⌝ }
+{
+    match sums {
+        Sums::Full => Summation {
+            weights: Weights::Full(points),
+            factor: Factor::Stored,
+            from: 0,
+            count: points,
+        },
+        Sums::Causal => Summation {
+            weights: Weights::Interval(u, t),
+            factor: Factor::Stored,
+            from: u,
+            count: if t < u { 0 } else { t - u + 1 },
+        },
+        Sums::Mixed => Summation {
+            weights: Weights::Interval(0, u),
+            factor: Factor::Adjoint,
+            from: 0,
+            count: u + 1,
+        },
+        Sums::Lesser => Summation {
+            weights: Weights::Interval(0, t),
+            factor: Factor::Stored,
+            from: 0,
+            count: t + 1,
+        },
+    }
+}
+
+// Writes the block at (t, u), and answers whether all of it is finite; at the first entry that is not the work ends.
+fn block(
+    sum: Summation,
+    times: &[f64],
+    left: &[f64],
+    right: &[f64],
+    stride: usize,
+    orbitals: usize,
+    t: usize,
+    u: usize,
+    out: &mut [f64],
+) -> bool
+    requires { ⌜ (t < stride) × (u < stride) × (stride ≤ 256) × (0 < orbitals) × (orbitals ≤ 16) ⌝ }
+    requires { ⌜ sum .from + sum .count ≤ stride ⌝ }
+    requires { ⌜ lengthOf stride orbitals ≤ length (now left) ⌝ }
+    requires { ⌜ lengthOf stride orbitals ≤ length (now right) ⌝ }
+    requires { ⌜ length (now out) ≡ 2 * (orbitals * orbitals) ⌝ }
+    ensures { λ r. ⌜ (r ≡ blockFine sum stride orbitals (now (times .entry)) (now (left .entry)) (now (right .entry)) t u)
+        × (r ≡ true → now (out .exit) ≡ layOut orbitals orbitals (weightedSum orbitals (termsBy sum stride orbitals (now (times .entry)) (now (left .entry)) (now (right .entry)) t u czero))) ⌝ }
+{
+    let count = orbitals * orbitals;
+    for m in 0..count {
+        let a = m / orbitals;
+        let b = m % orbitals;
+        let made = sum_entry(
+            sum,
+            times,
+            left,
+            right,
+            stride,
+            orbitals,
+            t,
+            u,
+            a,
+            b,
+            Complex::ZERO,
+        );
+        let CheckedEntry::Finite(z) = made else {
+            return false;
+        };
+        put(out, m, z);
+    }
+    true
+}
+
+// Writes the sums at all places, rows first, and answers whether all are finite.
+fn fill(
+    sums: Sums,
+    times: &[f64],
+    left: &[f64],
+    right: &[f64],
+    points: usize,
+    orbitals: usize,
+    out: &mut [f64],
+) -> bool
+    requires { ⌜ (0 < points) × (points ≤ 256) × (0 < orbitals) × (orbitals ≤ 16) ⌝ }
+    requires { ⌜ lengthOf points orbitals ≤ length (now left) ⌝ }
+    requires { ⌜ lengthOf points orbitals ≤ length (now right) ⌝ }
+    requires { ⌜ length (now out) ≡ lengthOf points orbitals ⌝ }
+    ensures { λ r. ⌜ (r ≡ fineBy sums points orbitals (now (times .entry)) (now (left .entry)) (now (right .entry)))
+        × (r ≡ true → now (out .exit) ≡ layOutAll points orbitals (madeBy sums points orbitals (now (times .entry)) (now (left .entry)) (now (right .entry)))) ⌝ }
+{
+    let width = 2 * (orbitals * orbitals);
+    let count = points * points;
+    for p in 0..count {
+        let t = p / points;
+        let u = p % points;
+        let start = p * width;
+        let end = start + width;
+        let sum = summation_at(sums, points, t, u);
+        let fine = block(
+            sum,
+            times,
+            left,
+            right,
+            points,
+            orbitals,
+            t,
+            u,
+            &mut out[start..end],
+        );
+        if !fine {
+            return false;
+        }
+    }
+    true
+}
+
+// The sums at all places, laid out in the slice lent for them: lines 1 to 3, then 10, which leaves +0 throughout.
+pub fn weighted_sums(
+    sums: Sums,
+    times: &[f64],
+    left: &[f64],
+    right: &[f64],
+    points: usize,
+    orbitals: usize,
+    out: &mut [f64],
+) -> Verdict
+    ensures { λ r. ⌜ (r ≡ summed sums points orbitals (now (times .entry)) (now (left .entry)) (now (right .entry)) (now (out .entry)) .answer)
+        × (now (out .exit) ≡ summed sums points orbitals (now (times .entry)) (now (left .entry)) (now (right .entry)) (now (out .entry)) .out) ⌝ }
+{
+    let left_fits = has_length(points, orbitals, left);
+    let right_fits = has_length(points, orbitals, right);
+    let out_fits = has_length(points, orbitals, out);
+    let verdict = sizes(points, orbitals, left_fits & (right_fits & out_fits));
+    let Verdict::Pass = verdict else {
+        return verdict;
+    };
+    if fill(sums, times, left, right, points, orbitals, out) {
+        return Verdict::Pass;
+    }
+    clear(out);
+    Verdict::Refused(Refusal::by(10))
+}
