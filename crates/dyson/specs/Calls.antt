@@ -1,6 +1,6 @@
 -- Document 01, Dyson: the outcome of `retarded_dyson_with_tolerance` and `retarded_dyson`.
 use Prim.Native.Nat.{ℕ}
-use mathlib.Core.Bool.{Bool, _&&_}
+use mathlib.Core.Bool.{Bool, true, _&&_}
 use mathlib.Core.List.{List, [], _∷_}
 use lib.Ieee.{Float, binary64, ofBits}
 use Rattle.refusal.specs.declared.Verdict.{Verdict}
@@ -9,7 +9,7 @@ use Rattle.refusal.specs.Lines.{validTolerance, finiteWork}
 use Rattle.two_time.specs.Layout.{TwoTime, readAs}
 use Rattle.two_time.specs.Convolutions.{causalNumbers, causalFine}
 use Rattle.two_time.specs.Support.{retarded}
-use Rattle.two_time.specs.Calls.{inputLines}
+use Rattle.two_time.specs.Calls.{sizeLines, inputLines, retardedLine}
 use Rattle.dyson.specs.Retarded.{retardedNumbers, retardedFine}
 
 -- the answer; the retarded function's slice and the kernel's scratch afterwards
@@ -27,6 +27,11 @@ unfoldable pub supportLines : ℕ → ℕ → Float → TwoTime → TwoTime → 
 supportLines points orbitals tolerance free selfEnergy =
     validTolerance tolerance then retarded points orbitals 0 tolerance free then retarded points orbitals 1 tolerance selfEnergy
 
+-- the same of the lists, each asked lines 1 to 3 again
+unfoldable pub supportAsked : ℕ → ℕ → Float → List Float → List Float → Verdict
+supportAsked points orbitals tolerance free selfEnergy =
+    validTolerance tolerance then retardedLine points orbitals 0 tolerance free then retardedLine points orbitals 1 tolerance selfEnergy
+
 -- "K is the causal convolution of both", G is made of it, and every block of the two is finite or 10
 module _ (points orbitals : ℕ) (times free selfEnergy : List Float) where
   abbrev pub kernelOf : List Float
@@ -37,6 +42,16 @@ module _ (points orbitals : ℕ) (times free selfEnergy : List Float) where
 
   unfoldable pub greenFine : Bool
   greenFine = causalFine points orbitals times free selfEnergy && retardedFine points orbitals times free kernelOf
+
+-- K and G alone: lines 1 to 3, then 10
+unfoldable pub solvedRetarded : ℕ → ℕ → List Float → List Float → List Float → List Float → List Float → Solved
+solvedRetarded points orbitals times free selfEnergy retarded kernel =
+    let verdict = sizeLines points orbitals true (free ∷ selfEnergy ∷ retarded ∷ kernel ∷ []) then finiteWork (greenFine points orbitals times free selfEnergy) in
+    record {
+      answer = verdict;
+      retarded = afterwards verdict (greenOf points orbitals times free selfEnergy) retarded;
+      kernel = afterwards verdict (kernelOf points orbitals times free selfEnergy) kernel;
+    }
 
 -- `retarded_dyson_with_tolerance`: lines 1 to 7, then 8, 9 for free, 9 for self-energy, 10
 unfoldable pub dysonVerdict : ℕ → ℕ → Float → List Float → List Float → List Float → List Float → List Float → Verdict

@@ -3,3 +3,7 @@ pub mod Retarded
 pub mod Calls
 pub mod Cases
 pub mod Recursion
+pub mod Places
+pub mod Forward
+pub mod Outcome
+pub mod Asking

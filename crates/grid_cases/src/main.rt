@@ -1,105 +1,49 @@
 // Runs each call of the grid on small cases (document 01, grid), one line to a case: its index, then each answer, a
 // refusal by its number, operand, first, second and part, and a number by its bits.
-use libc::STDOUT_FILENO;
-use refusal::Measured;
-use refusal::Refusal;
-use refusal::Verdict;
 
 const LARGEST: f64 = 1.7976931348623157e308;
 
 // The largest index that there is.
 const MOST: usize = 18446744073709551615;
 
-fn text(bytes: &[u8]) {
-    io::write_all(STDOUT_FILENO, bytes);
-}
-
-fn print_whole(n: usize) {
-    text(b" ");
-    io::print_decimal(STDOUT_FILENO, n as u64);
-}
-
-// A NaN's bits are free, so it has none.
-fn print_number(x: f64) {
-    if x != x {
-        text(b" nan");
-        return;
-    }
-    text(b" ");
-    io::print_hex(STDOUT_FILENO, f64::to_bits(x), 16);
-}
-
-fn print_refusal(r: Refusal) {
-    text(b" refused ");
-    io::print_decimal(STDOUT_FILENO, r.number as u64);
-    print_whole(r.operand);
-    print_whole(r.first);
-    print_whole(r.second);
-    print_number(r.part);
-}
-
-fn print_verdict(v: Verdict) {
-    match v {
-        Verdict::Pass => text(b" accepted"),
-        Verdict::Refused(r) => print_refusal(r),
-    }
-}
-
-fn print_measured(m: Measured) {
-    match m {
-        Measured::Of(x) => print_number(x),
-        Measured::Refused(r) => print_refusal(r),
-    }
-}
-
-fn begin(index: u64) {
-    io::print_decimal(STDOUT_FILENO, index);
-}
-
-fn end() {
-    text(b"\n");
-}
-
 fn check(index: u64, times: &[f64], points: usize) {
-    begin(index);
-    print_verdict(grid::check_times(times, points));
-    end();
+    show::begin(index);
+    show::verdict(grid::check_times(times, points));
+    show::end();
 }
 
 fn time_lines(index: u64, times: &[f64], points: usize) {
-    begin(index);
-    print_verdict(grid::time_lines(times, points));
-    end();
+    show::begin(index);
+    show::verdict(grid::time_lines(times, points));
+    show::end();
 }
 
 fn half_step(index: u64, times: &[f64], later: usize, earlier: usize) {
-    begin(index);
-    print_number(grid::half_step(times, later, earlier));
-    end();
+    show::begin(index);
+    show::number(grid::half_step(times, later, earlier));
+    show::end();
 }
 
 fn full_weight(index: u64, times: &[f64], points: usize, at: usize) {
-    begin(index);
-    print_number(grid::full_weight(times, points, at));
-    end();
+    show::begin(index);
+    show::number(grid::full_weight(times, points, at));
+    show::end();
 }
 
 // The answer, and what the slice holds afterwards.
 fn full_weights(index: u64, times: &[f64], points: usize, weights: &mut [f64]) {
-    begin(index);
-    print_verdict(grid::full_weights(times, points, weights));
-    for i in 0..weights.len() {
-        print_number(weights[i]);
-    }
-    end();
+    show::begin(index);
+    show::verdict(grid::full_weights(times, points, weights));
+    show::numbers(weights);
+    show::end();
 }
 
 // The weight of a point by the call, and by the weight that asks no question.
 fn interval(index: u64, times: &[f64], points: usize, point: usize, start: usize, stop: usize) {
-    begin(index);
-    print_measured(grid::interval_weight(times, points, point, start, stop));
-    print_number(grid::trapezoid_weight(times, point, start, stop));
-    end();
+    show::begin(index);
+    show::measured(grid::interval_weight(times, points, point, start, stop));
+    show::number(grid::trapezoid_weight(times, point, start, stop));
+    show::end();
 }
 
 // Every point, start and end below 5.

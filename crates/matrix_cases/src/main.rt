@@ -3,14 +3,10 @@
 // numbers and whether all beyond them are +0. Each block that a call is given holds NaNs beyond its entries.
 ghost use Prim.Native.Nat.{_≤_};
 use complex::Complex;
-use libc::STDOUT_FILENO;
 use matrix::Checked;
 use matrix::DenseMatrix;
 use matrix::Value;
-use refusal::Decision;
 use refusal::Measured;
-use refusal::Refusal;
-use refusal::Verdict;
 
 const LARGEST: f64 = 1.7976931348623157e308;
 
@@ -22,15 +18,6 @@ const HUGE: usize = 9223372036854775808;
 // The largest index that there is.
 const MOST: usize = 18446744073709551615;
 
-fn text(bytes: &[u8]) {
-    io::write_all(STDOUT_FILENO, bytes);
-}
-
-fn print_whole(n: usize) {
-    text(b" ");
-    io::print_decimal(STDOUT_FILENO, n as u64);
-}
-
 fn upper(letter: u8) -> u8 {
     if letter > 96 { letter - 32 } else { letter }
 }
@@ -40,7 +27,7 @@ fn print_upper(digits: &[u8; 16]) {
     for i in 0..16 {
         letters[i] = upper(digits[i]);
     }
-    text(&letters);
+    show::text(&letters);
 }
 
 fn print_bits(bits: u64) {
@@ -52,27 +39,11 @@ fn print_bits(bits: u64) {
 // A NaN's bits are free, so it has none.
 fn print_number(x: f64) {
     if x != x {
-        text(b" nan");
+        show::text(b" nan");
         return;
     }
-    text(b" ");
+    show::text(b" ");
     print_bits(f64::to_bits(x));
-}
-
-fn print_refusal(r: Refusal) {
-    text(b" refused ");
-    io::print_decimal(STDOUT_FILENO, r.number as u64);
-    print_whole(r.operand);
-    print_whole(r.first);
-    print_whole(r.second);
-    print_number(r.part);
-}
-
-fn print_verdict(v: Verdict) {
-    match v {
-        Verdict::Pass => text(b" accepted"),
-        Verdict::Refused(r) => print_refusal(r),
-    }
 }
 
 fn print_value(v: Value) {
@@ -81,31 +52,15 @@ fn print_value(v: Value) {
             print_number(z.re);
             print_number(z.im);
         }
-        Value::Refused(r) => print_refusal(r),
+        Value::Refused(r) => show::refused(r),
     }
 }
 
 fn print_measured(m: Measured) {
     match m {
         Measured::Of(x) => print_number(x),
-        Measured::Refused(r) => print_refusal(r),
+        Measured::Refused(r) => show::refused(r),
     }
-}
-
-fn print_decision(d: Decision) {
-    match d {
-        Decision::Yes => text(b" yes"),
-        Decision::No => text(b" no"),
-        Decision::Refused(r) => print_refusal(r),
-    }
-}
-
-fn begin(index: u64) {
-    io::print_decimal(STDOUT_FILENO, index);
-}
-
-fn end() {
-    text(b"\n");
 }
 
 // The number there, and a NaN past the end.
@@ -139,9 +94,9 @@ fn zeros_from(numbers: &[f64], begin: usize) -> bool {
 
 fn print_rest(numbers: &[f64], begin: usize) {
     if zeros_from(numbers, begin) {
-        text(b" zeros");
+        show::text(b" zeros");
     } else {
-        text(b" others");
+        show::text(b" others");
     }
 }
 
@@ -157,21 +112,21 @@ fn count_of(rows: usize, columns: usize) -> usize {
 }
 
 fn print_block(block: DenseMatrix) {
-    print_whole(block.rows);
-    print_whole(block.columns);
+    show::whole(block.rows);
+    show::whole(block.columns);
     let count = count_of(block.rows, block.columns);
     let numbers = block.values;
     print_first(&numbers, count);
     print_rest(&numbers, count);
 }
 
-fn show(index: u64, made: Checked) {
+fn print_made(index: u64, made: Checked) {
     let verdict = made.verdict;
     let block = made.block;
-    begin(index);
-    print_verdict(verdict);
+    show::begin(index);
+    show::verdict(verdict);
     print_block(block);
-    end();
+    show::end();
 }
 
 fn up_to_512(n: usize) -> usize
@@ -195,19 +150,19 @@ fn block(rows: usize, columns: usize, numbers: &[f64]) -> DenseMatrix {
 }
 
 fn from(index: u64, rows: usize, columns: usize, numbers: &[f64]) {
-    show(index, DenseMatrix::from_numbers(rows, columns, numbers));
+    print_made(index, DenseMatrix::from_numbers(rows, columns, numbers));
 }
 
 fn identity(index: u64, size: usize) {
-    show(index, DenseMatrix::identity(size));
+    print_made(index, DenseMatrix::identity(size));
 }
 
 fn adjoint(index: u64, rows: usize, columns: usize, numbers: &[f64]) {
-    show(index, block(rows, columns, numbers).adjoint());
+    print_made(index, block(rows, columns, numbers).adjoint());
 }
 
 fn scale(index: u64, rows: usize, columns: usize, numbers: &[f64], re: f64, im: f64) {
-    show(
+    print_made(
         index,
         block(rows, columns, numbers).scale(Complex::new(re, im)),
     );
@@ -222,14 +177,14 @@ fn multiply(
     columns: usize,
     b: &[f64],
 ) {
-    show(
+    print_made(
         index,
         block(rows, inner, a).multiply(block(below, columns, b)),
     );
 }
 
 fn add(index: u64, rows: usize, inner: usize, a: &[f64], below: usize, columns: usize, b: &[f64]) {
-    show(index, block(rows, inner, a).add(block(below, columns, b)));
+    print_made(index, block(rows, inner, a).add(block(below, columns, b)));
 }
 
 fn subtract(
@@ -241,22 +196,22 @@ fn subtract(
     columns: usize,
     b: &[f64],
 ) {
-    show(
+    print_made(
         index,
         block(rows, inner, a).subtract(block(below, columns, b)),
     );
 }
 
 fn trace(index: u64, rows: usize, columns: usize, numbers: &[f64]) {
-    begin(index);
+    show::begin(index);
     print_value(block(rows, columns, numbers).trace());
-    end();
+    show::end();
 }
 
 fn get(index: u64, rows: usize, columns: usize, numbers: &[f64], row: usize, column: usize) {
-    begin(index);
+    show::begin(index);
     print_value(block(rows, columns, numbers).get(row, column));
-    end();
+    show::end();
 }
 
 fn difference(
@@ -268,15 +223,15 @@ fn difference(
     columns: usize,
     b: &[f64],
 ) {
-    begin(index);
+    show::begin(index);
     print_measured(block(rows, inner, a).max_difference(block(below, columns, b)));
-    end();
+    show::end();
 }
 
 fn hermitian(index: u64, rows: usize, columns: usize, numbers: &[f64], tolerance: f64) {
-    begin(index);
-    print_decision(block(rows, columns, numbers).is_hermitian(tolerance));
-    end();
+    show::begin(index);
+    show::decision(block(rows, columns, numbers).is_hermitian(tolerance));
+    show::end();
 }
 
 // Numbers between -1/2 and 1/2, each made from the one before.
@@ -292,7 +247,7 @@ fn formula(numbers: &mut [f64]) {
 fn identity_times(index: u64, size: usize, rows: usize, columns: usize, numbers: &[f64]) {
     let made = DenseMatrix::identity(size);
     let left = made.block;
-    show(index, left.multiply(block(rows, columns, numbers)));
+    print_made(index, left.multiply(block(rows, columns, numbers)));
 }
 
 // The adjoint of a block, which is square, plus the block.
@@ -304,9 +259,9 @@ fn adjoint_plus(rows: usize, numbers: &[f64]) -> DenseMatrix {
 }
 
 fn adjoint_plus_hermitian(index: u64, rows: usize, numbers: &[f64], tolerance: f64) {
-    begin(index);
-    print_decision(adjoint_plus(rows, numbers).is_hermitian(tolerance));
-    end();
+    show::begin(index);
+    show::decision(adjoint_plus(rows, numbers).is_hermitian(tolerance));
+    show::end();
 }
 
 fn from_ordinary() {

@@ -11,6 +11,7 @@ pub mod Cases
 pub mod Reading
 pub mod Agreement
 pub mod Places
+pub mod Walking
 pub mod OneTest
 pub mod Filling
 pub mod Intervals

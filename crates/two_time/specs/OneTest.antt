@@ -18,6 +18,7 @@ use Rattle.refusal.specs.Search.{all-no}
 use Rattle.two_time.specs.declared.sums.CheckedEntry.{CheckedEntry}
 use Rattle.two_time.specs.declared.sums.CheckedEntry.the-variants.{Finite, Overflow}
 use Rattle.two_time.specs.WeightedSum.{Terms, productAt, termAt, partialSum, weightedSum, finiteSum}
+use Rattle.two_time.specs.Agreement.{AgreeTerms, weighted-agree}
 use Rattle.two_time.specs.Sums.{checkedSum}
 
 last-false : (p q : Bool) → p && (q && false) ≡ false
@@ -104,3 +105,10 @@ module _ (n : ℕ) (x : Terms) (a b : ℕ) where
   pub of-overflow : Overflow ≡ checkedSum n x a b → finiteSum n x a b ≡ false
   unfolding checkedSum
   of-overflow h = over-told (finiteSum n x a b) h
+
+-- two sums whose terms agree have the same answer
+pub checked-agree : (n : ℕ) (x y : Terms) → AgreeTerms n x y → (a b : ℕ) → a < n → b < n → checkedSum n x a b ≡ checkedSum n y a b
+unfolding checkedSum
+checked-agree n x y h a b ha hb =
+    let values : weightedSum n x a b ≡ weightedSum n y a b = weighted-agree n x y h a b ha hb in
+    rw (one-test n x a b, one-test n y a b, values, h .count)

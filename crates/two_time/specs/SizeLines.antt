@@ -7,11 +7,11 @@ use native.Mathlib.Nat.{min-eq-left}
 use lib.Dec.{leb, eqb}
 use lib.ListN.{length}
 use lib.Ieee.{Float}
-use borrow.Author.Tests.{leb-true, eqb-true}
+use borrow.Author.Tests.{leb-true, eqb-true, le-leb, eq-eqb}
 use Rattle.lists.specs.Agreement.{both}
 use Rattle.refusal.specs.declared.Verdict.{Verdict}
 use Rattle.refusal.specs.declared.Verdict.the-variants.{Pass}
-use Rattle.refusal.specs.Verdict.{by, _then_}
+use Rattle.refusal.specs.Verdict.{by, ask, _then_}
 use Rattle.refusal.specs.Lines.{largeEnough, withinLimits, fitting}
 use Rattle.refusal.specs.Agreement.{ask-pass, then-pass, then-agree}
 use Rattle.two_time.specs.Layout.{lengthOf}
@@ -98,3 +98,17 @@ module _ (points orbitals : ℕ) where
 pub sizes-one : {fits : Bool} {v : Verdict} (points orbitals : ℕ) (xs : List Float) → fits ≡ eqb (length xs) (lengthOf (min points 256) (min orbitals 16))
     → v ≡ (largeEnough points orbitals then withinLimits points orbitals then fitting fits) → v ≡ sizeLines points orbitals true (xs ∷ [])
 sizes-one {fits} {v} points orbitals xs f e = sizes-asked points orbitals (xs ∷ []) true fits v (fits-last points orbitals xs fits f) e
+
+-- back: sizes within the limits, and slices of their length, pass
+pub long-also : (count : ℕ) (xs : List Float) (rest : List (List Float)) → length xs ≡ count → allLong count rest ≡ true → allLong count (xs ∷ rest) ≡ true
+unfolding allLong
+long-also count xs rest e h = rw (eq-eqb (length xs) count e, h)
+
+pub long-none : (count : ℕ) → allLong count [] ≡ true
+unfolding allLong
+long-none count = refl
+
+pub sizes-pass : {points orbitals : ℕ} {fits : Bool} {others : List (List Float)} (slices : List (List Float))
+    → SizesPassed points orbitals fits others → allLong (lengthOf points orbitals) slices ≡ true → sizeLines points orbitals true slices ≡ Pass
+unfolding sizeLines largeEnough withinLimits fitting ask _then_
+sizes-pass slices z long = rw (le-leb _ _ (z .points-least), le-leb _ _ (z .orbitals-least), le-leb _ _ (z .points-most), le-leb _ _ (z .orbitals-most), long)

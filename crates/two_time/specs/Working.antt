@@ -13,7 +13,7 @@ use Rattle.refusal.specs.declared.Verdict.{Verdict}
 use Rattle.refusal.specs.declared.Verdict.the-variants.{Pass, Refused}
 use Rattle.refusal.specs.Verdict.{by, ask, _then_, afterwards}
 use Rattle.refusal.specs.Lines.{largeEnough, withinLimits, fitting, finiteTimes, risingTimes, finiteWeights, finiteEntries, finiteWork}
-use Rattle.refusal.specs.Agreement.{then-pass, then-refused, then-end}
+use Rattle.refusal.specs.Agreement.{ask-pass, not-pass, then-pass, then-refused, then-end}
 use Rattle.refusal.specs.Keeping.{Keeping, passed, ask-keeping, then-keeping, all-keeping, keeping-slice}
 use Rattle.grid.specs.Calls.{timeLines}
 use Rattle.two_time.specs.Calls.{sizeLines, operandLines, inputLines}
@@ -39,6 +39,27 @@ module _ (answer v : Verdict) (asked : answer ≡ v) (made before : List Float) 
       let q : v ≡ Refused r = sym asked ∙ p in
       let same : (v then later) ≡ v = then-refused v later r q ∙ sym q in
       record { answered = asked ∙ sym same; holds = sym (ap (λ (w : Verdict). afterwards w made before) same ∙ keeping-slice k r made before q) }
+
+-- what the outcome of such a call says, once its lines pass: all was finite and made, or it was 10
+module _ (answer v : Verdict) (fine : Bool) (made before after : List Float) (passed : v ≡ Pass)
+    (answered : answer ≡ (v then finiteWork fine)) (holds : after ≡ afterwards (v then finiteWork fine) made before) where
+  work : (v then finiteWork fine) ≡ finiteWork fine
+  unfolding _then_
+  work = rw passed
+
+  pub work-passed : answer ≡ Pass → (fine ≡ true) × (after ≡ made)
+  unfolding finiteWork afterwards
+  work-passed p =
+      let all = sym (answered ∙ work) ∙ p in
+      (ask-pass fine (by 10) all, holds ∙ rw (work, all))
+
+  pub work-refused : (r : Refusal) → answer ≡ Refused r → (fine ≡ false) × (answer ≡ Refused (by 10)) × (after ≡ replicate (length before) plusZero)
+  unfolding finiteWork ask afterwards _then_
+  work-refused r p = by-flag fine refl
+    where
+      by-flag : (f : Bool) → fine ≡ f → (fine ≡ false) × (answer ≡ Refused (by 10)) × (after ≡ replicate (length before) plusZero)
+      by-flag true e = not-pass r (sym p ∙ answered ∙ rw (passed, e))
+      by-flag false e = (e, answered ∙ rw (passed, e), holds ∙ rw (passed, e))
 
 -- ---- the lines before the work never refuse by 10
 

@@ -11,11 +11,13 @@ ghost use Rattle.two_time.specs.WeightedSum.{weightedSum};
 ghost use Rattle.two_time.specs.Sums.{weightBy, rightBy, termsBy, checkedSum, sumOrOverflow, summationAt, madeBy, blockFine, fineBy};
 ghost use Rattle.two_time.specs.Outcome.{summed};
 ghost use Rattle.two_time.specs.Places.{Placed};
+ghost use Rattle.two_time.specs.Walking.{rightPlace, rightStep, rightNumber};
+ghost use Rattle.complex.specs.Numbers.{entryAt};
 use crate::layout::clear;
-use crate::layout::entry;
 use crate::layout::function_length;
 use crate::layout::is_place;
 use crate::layout::least;
+use crate::layout::place;
 use crate::layout::put;
 use crate::lines::has_length;
 use crate::lines::sizes;
@@ -77,28 +79,52 @@ fn weight(weights: Weights, times: &[f64], s: usize) -> f64
     }
 }
 
-// Entry (k, b) of the right factor at (s, u).
-fn right_entry(
+// Where entry (0, b) of the right factor at (s, u) stands.
+fn right_place(
     factor: Factor,
-    xs: &[f64],
     stride: usize,
     orbitals: usize,
     s: usize,
     u: usize,
-    k: usize,
     b: usize,
-) -> Complex
-    requires { ⌜ Placed stride orbitals s u k b ⌝ }
-    requires { ⌜ lengthOf stride orbitals ≤ length (now xs) ⌝ }
-    ensures { λ r. ⌜ r ≡ rightBy factor (readAs stride orbitals (now (xs .entry))) s u k b ⌝ }
+) -> usize
+    requires { ⌜ Placed stride orbitals s u 0 b ⌝ }
+    ensures { λ r. ⌜ r ≡ rightPlace factor stride orbitals s u 0 b ⌝ }
 {
     match factor {
-        Factor::Stored => entry(xs, stride, orbitals, s, u, k, b),
-        Factor::Adjoint => entry(xs, stride, orbitals, u, s, b, k).conj(),
+        Factor::Stored => place(stride, orbitals, s, u, 0, b),
+        Factor::Adjoint => place(stride, orbitals, u, s, b, 0),
     }
 }
 
-// Entry (a, b) of the product of left(t,s) and the right factor at (s, u).
+// How far entry (k + 1, b) of the right factor stands from entry (k, b).
+fn right_step(factor: Factor, orbitals: usize) -> usize
+    requires { ⌜ orbitals ≤ 16 ⌝ }
+    ensures { λ r. ⌜ r ≡ rightStep factor orbitals ⌝ }
+{
+    match factor {
+        Factor::Stored => 2 * orbitals,
+        Factor::Adjoint => 2,
+    }
+}
+
+// The number at a place, as the factor has it.
+fn right_number(factor: Factor, xs: &[f64], at: usize) -> Complex
+    requires { ⌜ at + 1 < length (now xs) ⌝ }
+    ensures { λ r. ⌜ r ≡ rightNumber factor (entryAt (now (xs .entry)) at) ⌝ }
+{
+    let z = Complex {
+        re: xs[at],
+        im: xs[at + 1],
+    };
+    match factor {
+        Factor::Stored => z,
+        Factor::Adjoint => z.conj(),
+    }
+}
+
+// Entry (a, b) of the product of left(t,s) and the right factor at (s, u): both places go on by a step, with no product of indices
+// in the loop.
 fn product_entry(
     factor: Factor,
     left: &[f64],
@@ -117,11 +143,19 @@ fn product_entry(
     requires { ⌜ lengthOf stride orbitals ≤ length (now right) ⌝ }
     ensures { λ r. ⌜ r ≡ product orbitals (readAs stride orbitals (now (left .entry)) t s) (rightBy factor (readAs stride orbitals (now (right .entry))) s u) a b ⌝ }
 {
+    let mut i = place(stride, orbitals, t, s, a, 0);
+    let mut j = right_place(factor, stride, orbitals, s, u, b);
+    let step = right_step(factor, orbitals);
     let mut sum = Complex::ZERO;
     for k in 0..orbitals {
-        let x = entry(left, stride, orbitals, t, s, a, k);
-        let y = right_entry(factor, right, stride, orbitals, s, u, k, b);
+        let x = Complex {
+            re: left[i],
+            im: left[i + 1],
+        };
+        let y = right_number(factor, right, j);
         sum = sum.plus(x.times(y));
+        i += 2;
+        j += step;
     }
     sum
 }

@@ -1,20 +1,24 @@
--- `two_time::sums::product_entry` meets its contract: after k turns the sum has the first k terms of the product's entry. Assumes nothing.
-use mathlib.Core.Path.{_≡_, refl, sym, ap, _∙_}
+-- `two_time::sums::product_entry` meets its contract: before turn k both places are those of term k, and the sum has the first k terms.
+-- Assumes nothing.
+use mathlib.Core.Path.{_≡_, refl, sym, ap, ap₂, _∙_}
 use mathlib.Core.List.{List}
-use Prim.Native.Nat.{ℕ, _+_, _-_, _≤_}
+use Prim.Native.Nat.{ℕ, _+_, _-_, _≤_, _<_}
 use native.Mathlib.Nat.{le-antisymm}
 use native.Mathlib.Omega.{arith}
 use lib.Ieee.{Float}
+use denote.Ref.{now}
 use borrow.Author.Needs.{needs}
 use Rattle.complex.specs.declared.Complex.{Complex}
-use Rattle.complex.specs.Arithmetic.{czero, cmul}
+use Rattle.complex.specs.Arithmetic.{czero, cadd, cmul}
+use Rattle.complex.specs.Numbers.{entryAt}
 use Rattle.complex.specs.Sum.{sumFrom}
 use Rattle.complex.specs.Agreement.{sum-more, sum-none}
 use Rattle.matrix.specs.Operations.{product}
 use Rattle.two_time.specs.declared.sums.Factor.{Factor}
-use Rattle.two_time.specs.Layout.{readAs}
+use Rattle.two_time.specs.Layout.{place, readAs, lengthOf}
 use Rattle.two_time.specs.Sums.{rightBy}
-use Rattle.two_time.specs.Places.{Placed}
+use Rattle.two_time.specs.Places.{Placed, Within, within, Sized, sized}
+use Rattle.two_time.specs.Walking.{rightPlace, rightStep, rightNumber, right-read, left-next, right-next, right-inside, step-most}
 use Rattle.two_time.proofs.sums.product_entry.Statement.{statement}
 use Rattle.two_time.proofs.sums.product_entry.Tie as tie
 
@@ -23,10 +27,61 @@ abbrev term : Factor → List Float → List Float → ℕ → ℕ → ℕ → �
 term factor left right stride n t s u a b k = cmul (readAs stride n left t s a k) (rightBy factor (readAs stride n right) s u k b)
 
 abbrev Inv-loop : tie.InvT-loop
-Inv-loop factor left right stride n t s u a b sum₀ k₀ sum k = (k ≤ n) × (sum ≡ sumFrom czero (term factor left right stride n t s u a b) 0 k)
+Inv-loop factor left right stride n t s u a b i₀ j₀ step sum₀ k₀ i j sum k =
+    (k ≤ n) × (sum ≡ sumFrom czero (term factor left right stride n t s u a b) 0 k)
+    × (i ≡ place stride n t s a k) × (j ≡ rightPlace factor stride n s u k b)
 
 abbrev μ-loop : tie.MeasureT-loop
-μ-loop factor left right stride n t s u a b sum₀ k₀ sum k = n - k
+μ-loop factor left right stride n t s u a b i₀ j₀ step sum₀ k₀ i j sum k = n - k
+
+abbrev start : tie.At-loop Inv-loop μ-loop → tie.Start Inv-loop μ-loop
+start c = c .before .before .before .before .before .before
+
+-- the places of turn k lie in the functions
+record Turn (c : tie.In-loop Inv-loop μ-loop) : Type 0 where
+  left : c .before .loop .i + 1 < lengthOf (start (c .before) .args .stride) (start (c .before) .args .orbitals)
+  right : c .before .loop .j + 1 < lengthOf (start (c .before) .args .stride) (start (c .before) .args .orbitals)
+  all : lengthOf (start (c .before) .args .stride) (start (c .before) .args .orbitals) ≤ 33554432
+  step : c .before .before .right-step .result ≤ 32
+
+turn : (c : tie.In-loop Inv-loop μ-loop) → Turn c
+turn c =
+    let l = c .before in
+    let x = start l .args in
+    let p = start l .pre .0 in
+    let q = start l .pre .1 .0 in
+    let k = c .loop-test .taken in
+    let here : Placed (x .stride) (x .orbitals) (x .t) (x .s) (x .a) (l .loop .k) =
+    record { first = p .first; second = p .second; row = p .row; column = k; stride-most = p .stride-most; orbitals-most = p .orbitals-most } in
+    let there : Placed (x .stride) (x .orbitals) (x .s) (x .u) (l .loop .k) (x .b) =
+    record { first = q .first; second = q .second; row = k; column = q .column; stride-most = q .stride-most; orbitals-most = q .orbitals-most } in
+    record {
+      left = omega (arith, l .loop .inv .2, within here .inside);
+      right = omega (arith, l .loop .inv .3, right-inside (x .factor) there);
+      all = sized _ _ (p .stride-most) (p .orbitals-most) .all;
+      step = omega (arith, l .before .right-step .ensures, step-most (x .factor) (x .orbitals) (p .orbitals-most));
+    }
+
+right-place-requires : tie.Need-right-place-requires Inv-loop μ-loop
+right-place-requires c κs =
+    let q = c .before .before .before .pre .1 .0 in
+    record { first = q .first; second = q .second; row = omega (arith, q .row); column = q .column; stride-most = q .stride-most; orbitals-most = q .orbitals-most }
+
+loop-again : tie.Need-loop-again Inv-loop μ-loop
+loop-again c =
+    let r = c .before .before in
+    let t = r .before .before .before in
+    let l = t .before in
+    let x = start l .args in
+    let k = l .loop .k in
+    let i = l .loop .inv in
+    let y : r .right-number .result ≡ rightBy (x .factor) (readAs (x .stride) (x .orbitals) (now (x .right))) (x .s) (x .u) k (x .b) =
+    r .right-number .ensures ∙ ap (λ (j : ℕ). rightNumber (x .factor) (entryAt (now (x .right)) j)) (i .3) ∙ right-read (x .factor) (x .stride) (x .orbitals) (now (x .right)) (x .s) (x .u) k (x .b) in (
+      omega arith,
+      c .plus .ensures ∙ ap₂ cadd (i .1) (c .before .times .ensures ∙ ap₂ cmul (ap (entryAt (now (x .left))) (i .2)) y) ∙ sym (sum-more czero _ k),
+      ap (λ (m : ℕ). m + 2) (i .2) ∙ left-next (x .stride) (x .orbitals) (x .t) (x .s) (x .a) k,
+      ap₂ (λ (m s : ℕ). m + s) (i .3) (l .before .right-step .ensures) ∙ right-next (x .factor) (x .stride) (x .orbitals) (x .s) (x .u) k (x .b),
+    )
 
 pub product-entry-spec : {M : Type 1} → statement M
 unfolding product
@@ -35,12 +90,21 @@ product-entry-spec =
     (tie.spec
     Inv-loop
     μ-loop
-    (λ c. (omega arith, sym (sum-none czero _ 0)))  -- loop-holds
-    (λ c κs. search needs)  -- entry-requires
-    (λ c κs. search needs)  -- right-entry-requires
+    (λ c κs. let p = c .before .before .pre .0 in record { first = p .first; second = p .second; row = p .row; column = omega (arith, p .column); stride-most = p .stride-most; orbitals-most = p .orbitals-most })  -- place-requires
+    right-place-requires
+    (λ c κs. c .before .before .before .before .pre .0 .orbitals-most)  -- right-step-requires
+    (λ c. (omega arith, sym (sum-none czero _ 0), c .before .before .place .ensures .0, c .before .right-place .ensures))  -- loop-holds
+    (λ c. let t = turn c in omega arith)  -- mul-t19
+    (λ c. let t = turn (c .before) in omega (arith, start (c .before .before) .pre .1 .1 .0))  -- shared-slice-read-t21
+    (λ c. let t = turn (c .before) in omega arith)  -- add-t22
+    (λ c. let t = turn (c .before) in omega arith)  -- mul-t23
+    (λ c. let t = turn (c .before .before) in omega (arith, start (c .before .before .before) .pre .1 .1 .0))  -- shared-slice-read-t25
+    (λ c κs. let t = turn (c .before .before) in omega (arith, start (c .before .before .before) .pre .1 .1 .1))  -- right-number-requires
     (λ c κs. search needs)  -- times-requires
     (λ c κs. search needs)  -- plus-requires
+    (λ c. let t = turn (c .before .before .before .before .before) in omega arith)  -- add-i
+    (λ c. let t = turn (c .before .before .before .before .before) in omega arith)  -- add-j
     (λ c. search needs)  -- add-k
     (λ c. search needs)  -- loop-less
-    (λ c. (omega arith, rw sum-more (cc)))  -- loop-again
+    loop-again
     (λ c. cc (le-antisymm (c .before .loop .inv .0) (c .loop-test .left))))  -- returns

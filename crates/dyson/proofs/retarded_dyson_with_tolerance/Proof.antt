@@ -1,0 +1,90 @@
+-- `dyson::retarded_dyson_with_tolerance` meets its contract: refused it leaves the slices, and where lines 1 to 9 pass the work decides.
+-- Assumes nothing.
+use mathlib.Core.Path.{_≡_, sym, ap, _∙_}
+use mathlib.Core.List.{List, [], _∷_}
+use lib.Dec.{eqb}
+use lib.ListN.{length}
+use denote.Ref.{now}
+use borrow.Author.Needs.{needs}
+use Rattle.refusal.specs.declared.Verdict.{Verdict}
+use Rattle.refusal.specs.Verdict.{_then_}
+use Rattle.two_time.specs.SizeLines.{sizes-asked, fits-last, fits-more}
+use Rattle.two_time.specs.Working.{kept, operands-last, operands-more, inputs-asked}
+use Rattle.dyson.specs.Calls.{Solved, kernelOf, greenOf, dysonWithTolerance}
+use Rattle.dyson.specs.Asking.{lines, lines-asked, lines-keeping, verdict-lines, same-outcome}
+use Rattle.dyson.proofs.retarded_dyson_with_tolerance.Statement.{statement}
+use Rattle.dyson.proofs.retarded_dyson_with_tolerance.Tie as tie
+
+abbrev lengths : tie.After-then3 → tie.After-has-length4
+lengths c = c .before .before .before .before .before .before .before
+
+abbrev start : tie.After-then3 → tie.Start
+start c = lengths c .before .before .before .before .before .before .before .before .before .before .before
+
+-- the verdict is that of lines 1 to 9
+asked : (c : tie.After-then4) → let x = start (c .before .before) .args in
+    c .then4 .result ≡ lines (x .points) (x .orbitals) (x .tolerance) (now (x .times)) (now (x .free)) (now (x .self-energy)) (now (x .green)) (now (x .kernel))
+asked c =
+    let i = c .before .before in
+    let x = start i .args in
+    let h = lengths i in
+    let grid = i .before .before in
+    let sizes = grid .before in
+    let entries = sizes .before in
+    lines-asked (x .points) (x .orbitals) (x .tolerance) (now (x .times)) (now (x .free)) (now (x .self-energy)) (now (x .green)) (now (x .kernel)) (i .then3 .result) (c .before .support-lines .result) _
+    (inputs-asked (x .points) (x .orbitals) (now (x .times)) (now (x .free) ∷ now (x .self-energy) ∷ []) (now (x .green) ∷ now (x .kernel) ∷ []) (sizes .sizes .result) (grid .time-lines .result) (entries .then .result) _
+    (sizes-asked (x .points) (x .orbitals) (now (x .free) ∷ now (x .self-energy) ∷ now (x .green) ∷ now (x .kernel) ∷ []) (eqb (length (now (x .times))) (x .points)) _ _
+    (fits-more _ _ _ _ _ _ (h .before .before .before .before .before .has-length .ensures) (fits-more _ _ _ _ _ _ (h .before .before .before .before .has-length2 .ensures)
+    (fits-more _ _ _ _ _ _ (h .before .before .has-length3 .ensures) (fits-last _ _ _ _ (h .has-length4 .ensures)))))
+    (sizes .sizes .ensures))
+    (grid .time-lines .ensures)
+    (operands-more 0 (now (x .free)) (now (x .self-energy) ∷ []) _ _ _ (entries .before .before .operand .ensures) (operands-last 1 (now (x .self-energy)) _ (entries .before .operand2 .ensures)) (entries .then .ensures))
+    (i .then3 .ensures ∙ ap (λ (v : Verdict). sizes .sizes .result then v) (i .before .then2 .ensures)))
+    (c .before .support-lines .ensures)
+    (c .then4 .ensures)
+
+returns : tie.Need-returns
+unfolding dysonWithTolerance
+returns c =
+    let s = c .before .before in
+    let x = start (s .before .before) .args in
+    let keeping = lines-keeping (x .points) (x .orbitals) (x .tolerance) (now (x .times)) (now (x .free)) (now (x .self-energy)) (now (x .green)) (now (x .kernel)) in
+    let g = kept _ _ (asked s) (greenOf (x .points) (x .orbitals) (now (x .times)) (now (x .free)) (now (x .self-energy))) (now (x .green)) keeping _ (c .enum-told2 .given .1) _ in
+    let k = kept _ _ (asked s) (kernelOf (x .points) (x .orbitals) (now (x .times)) (now (x .free)) (now (x .self-energy))) (now (x .kernel)) keeping _ (c .enum-told2 .given .1) _ in
+    rw verdict-lines (g .answered, g .holds, k .holds)
+
+returns-2 : tie.Need-returns-2
+returns-2 c =
+    let w = c .before .before .before .before in
+    let e = w .before .before .before in
+    let s = e .before .before in
+    let x = start (s .before .before) .args in
+    let same = same-outcome (x .points) (x .orbitals) (x .tolerance) (now (x .times)) (now (x .free)) (now (x .self-energy)) (now (x .green)) (now (x .kernel)) (sym (asked s) ∙ e .enum-told .given .1) in
+    (w .solve-retarded .ensures .0 ∙ ap (λ (o : Solved). o .answer) same, w .solve-retarded .ensures .1 ∙ ap (λ (o : Solved). o .retarded) same, w .solve-retarded .ensures .2 ∙ ap (λ (o : Solved). o .kernel) same)
+
+pub retarded-dyson-with-tolerance-spec : {M : Type 1} → statement M
+retarded-dyson-with-tolerance-spec =
+    tie.close
+    (tie.spec
+    (λ c κs. search needs)  -- has-length-requires
+    (λ c κs. search needs)  -- has-length-requires-2
+    (λ c κs. search needs)  -- has-length-requires-3
+    (λ c κs. search needs)  -- has-length-requires-4
+    (λ c κs. search needs)  -- operand-requires
+    (λ c κs. search needs)  -- operand-requires-2
+    (λ c κs. search needs)  -- then-requires
+    (λ c κs. search needs)  -- sizes-requires
+    (λ c κs. search needs)  -- time-lines-requires
+    (λ c κs. search needs)  -- then-requires-2
+    (λ c κs. search needs)  -- then-requires-3
+    (λ c κs. search needs)  -- support-lines-requires
+    (λ c κs. search needs)  -- then-requires-4
+    (λ c. search needs)  -- enum-told
+    (λ c. search needs)  -- enum-told-2
+    (λ c. search needs)  -- same-length
+    (λ c. search needs)  -- same-length-2
+    returns
+    (λ c κs. search needs)  -- solve-retarded-requires
+    (λ c. search needs)  -- same-length-3
+    (λ c. search needs)  -- same-length-4
+    returns-2)

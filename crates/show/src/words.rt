@@ -1,0 +1,57 @@
+// Words of standard input: 16 hexadecimal digits each, and one byte after them, a space or a line feed.
+ghost use mathlib.Core.Path.{_≡_};
+ghost use Prim.Native.Nat.{_<_};
+ghost use lib.Ieee.{binary64, ofBits};
+use libc::STDIN_FILENO;
+
+pub enum Word {
+    Of(u64),
+    End,
+}
+
+// The value of a hexadecimal digit, and 0 for any other byte.
+fn digit(b: u8) -> u64
+    ensures { λ r. ⌜ r < 16 ⌝ }
+{
+    if b < b'0' {
+        return 0;
+    }
+    if b <= b'9' {
+        return (b - b'0') as u64;
+    }
+    if b < b'a' {
+        return 0;
+    }
+    if b <= b'f' {
+        return (b - b'a') as u64 + 10;
+    }
+    0
+}
+
+fn value(bytes: &[u8; 17]) -> u64 {
+    let mut n = 0u64;
+    for i in 0..16 {
+        n = (n % 0x1000_0000_0000_0000) * 16 + digit(bytes[i]);
+    }
+    n
+}
+
+// The next word, where one is left.
+pub fn next() -> Word {
+    let mut bytes = [0u8; 17];
+    let n = io::read_full(STDIN_FILENO, &mut bytes);
+    if n < 17 {
+        return Word::End;
+    }
+    Word::Of(value(&bytes))
+}
+
+// The number of a pattern; `from_bits` is undefined at a NaN's.
+pub fn number(bits: u64) -> f64
+    ensures { λ r. ⌜ r ≡ ofBits binary64 bits ⌝ }
+{
+    if bits % 0x8000_0000_0000_0000 > 0x7ff0_0000_0000_0000 {
+        return 0.0 / 0.0;
+    }
+    f64::from_bits(bits)
+}
