@@ -17,9 +17,9 @@ use Rattle.two_time.specs.Layout.{readAs, lengthOf}
 use Rattle.two_time.specs.Convolutions.{causalFine}
 use Rattle.two_time.specs.Support.{retarded}
 use Rattle.two_time.specs.Calls.{allLong, sizeLines, inputLines, retardedLine}
-use Rattle.two_time.specs.Outcome.{summed}
+use Rattle.two_time.specs.Outcome.{summed, sums-passed, sums-refused}
 use Rattle.two_time.specs.Intervals.{causal-numbers, causal-fine}
-use Rattle.two_time.specs.SizeLines.{SizesPassed, sizes-passed, sizes-pass, long-first, long-also, long-none}
+use Rattle.two_time.specs.SizeLines.{SizesPassed, sizes-passed, sizes-pass, long-first}
 use Rattle.two_time.specs.Working as Working
 use Rattle.two_time.specs.Working.{work-passed, work-refused, sizes-keeping}
 use Rattle.dyson.specs.Retarded.{retardedFine}
@@ -50,16 +50,6 @@ module _ (points n : ℕ) (times free selfEnergy retarded kernel : List Float) w
       pub sizes : SizesPassed points n true slices
       sizes = sizes-passed points n true slices (sym asked ∙ p)
 
-      -- the sizes that the convolution asks
-      convolution-sizes : sizeLines points n true (free ∷ selfEnergy ∷ kernel ∷ []) ≡ Pass
-      convolution-sizes =
-          let count = lengthOf points n in
-          let f = long-first count free _ (sizes .long) in
-          let s = long-first count selfEnergy _ (f .1) in
-          let g = long-first count retarded _ (s .1) in
-          let k = long-first count kernel _ (g .1) in
-          sizes-pass _ sizes (long-also count free _ (f .0) (long-also count selfEnergy _ (s .0) (long-also count kernel _ (k .0) (long-none count))))
-
       pub overflowed : greenFine points n times free selfEnergy ≡ false → Left (Refused (by 10)) (replicate (length retarded) plusZero) (replicate (length kernel) plusZero)
       unfolding solvedRetarded
       overflowed not-fine =
@@ -68,18 +58,28 @@ module _ (points n : ℕ) (times free selfEnergy retarded kernel : List Float) w
           record { answered = a .answered; green = a .holds; scratch = b .holds }
 
       module _ (w : Verdict) (k : List Float) (answered : w ≡ summed Causal points n times free selfEnergy kernel .answer) (holds : k ≡ summed Causal points n times free selfEnergy kernel .out) where
+        abbrev count : ℕ
+        count = lengthOf points n
+
+        -- the slices that the convolution is lent have their length
+        lengths : (length free ≡ count) × (length selfEnergy ≡ count) × (length kernel ≡ count)
+        lengths =
+            let f = long-first count free _ (sizes .long) in
+            let s = long-first count selfEnergy _ (f .1) in
+            let g = long-first count retarded _ (s .1) in
+            (f .0, s .0, long-first count kernel _ (g .1) .0)
+
         -- K was made
         pub kernel-made : w ≡ Pass → (causalFine points n times free selfEnergy ≡ true) × (k ≡ kernelOf points n times free selfEnergy)
-        unfolding summed
         kernel-made q =
-            let made = work-passed w _ _ _ kernel k convolution-sizes answered holds q in
+            let made = sums-passed Causal points n times free selfEnergy kernel sizes (lengths .0) (lengths .1) (lengths .2) w k answered holds q in
             (sym (causal-fine points n times free selfEnergy) ∙ made .0, made .1 ∙ causal-numbers points n times free selfEnergy)
 
         -- or was not finite
         pub kernel-overflows : (r : Refusal) → w ≡ Refused r → Left w (replicate (length retarded) plusZero) k
-        unfolding summed solvedRetarded greenFine
+        unfolding solvedRetarded greenFine
         kernel-overflows r q =
-            let told = work-refused w _ _ _ kernel k convolution-sizes answered holds r q in
+            let told = sums-refused Causal points n times free selfEnergy kernel sizes (lengths .0) (lengths .1) (lengths .2) w k answered holds r q in
             let kernel-not : causalFine points n times free selfEnergy ≡ false = sym (causal-fine points n times free selfEnergy) ∙ told .0 in
             let not-fine : greenFine points n times free selfEnergy ≡ false = rw kernel-not in
             let o = overflowed not-fine in
@@ -98,3 +98,21 @@ module _ (points n : ℕ) (times free selfEnergy retarded kernel : List Float) w
           → Left (Refused (by 10)) (replicate (length retarded) plusZero) (replicate (length kernel) plusZero)
       unfolding greenFine
       green-overflows c g = overflowed (rw (c, g))
+
+-- what the outcome says where the slices have their length
+module _ (points n : ℕ) (times free selfEnergy retarded kernel : List Float) {fits : Bool} {others : List (List Float)} (z : SizesPassed points n fits others)
+    (long : allLong (lengthOf points n) (free ∷ selfEnergy ∷ retarded ∷ kernel ∷ []) ≡ true)
+    (answer : Verdict) (green' kernel' : List Float) (told : Left points n times free selfEnergy retarded kernel answer green' kernel') where
+  sizes-told : sizeLines points n true (free ∷ selfEnergy ∷ retarded ∷ kernel ∷ []) ≡ Pass
+  sizes-told = sizes-pass _ z long
+
+  pub solved-passed : answer ≡ Pass → (greenFine points n times free selfEnergy ≡ true) × (green' ≡ greenOf points n times free selfEnergy) × (kernel' ≡ kernelOf points n times free selfEnergy)
+  unfolding solvedRetarded
+  solved-passed p =
+      let g = work-passed answer _ _ _ retarded green' sizes-told (told .answered) (told .green) p in
+      let k = work-passed answer _ _ _ kernel kernel' sizes-told (told .answered) (told .scratch) p in
+      (g .0, g .1, k .1)
+
+  pub solved-refused : (r : Refusal) → answer ≡ Refused r → greenFine points n times free selfEnergy ≡ false
+  unfolding solvedRetarded
+  solved-refused r p = work-refused answer _ _ _ retarded green' sizes-told (told .answered) (told .green) r p .0

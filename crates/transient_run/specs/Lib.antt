@@ -3,3 +3,5 @@ pub mod Lesser
 pub mod Calls
 pub mod Cases
 pub mod P12
+pub mod Work
+pub mod Asking

@@ -1,7 +1,15 @@
 // The transient run of a device that starts empty (document 01, transient): the meaning of the call is in specs/.
 ghost use mathlib.Core.Path.{_≡_};
+ghost use mathlib.Core.Bool.{true};
+ghost use mathlib.Core.List.{List, [], _∷_};
+ghost use Prim.Native.Nat.{min};
+ghost use lib.Ieee.{Float};
+ghost use Rattle.refusal.specs.declared.Verdict.the-variants.{Pass};
+ghost use Rattle.two_time.specs.Layout.{lengthOf};
+ghost use Rattle.two_time.specs.Calls.{allLong, sizeLines};
 ghost use Rattle.transient_run.specs.Calls.{transientRun};
-ghost use Rattle.transient_run.specs.Work.{solvedLesser};
+ghost use Rattle.transient_run.specs.Work.{workFine, workGreen, workLesser, workKernel, workMixed};
+ghost use Rattle.transient_run.specs.Asking.{runLines, runOf};
 use dyson::solve_retarded;
 use dyson::support_lines;
 use grid::time_lines;
@@ -20,20 +28,141 @@ pub enum Solved {
     Refused(Refusal),
 }
 
-// Whether four slices have a function's length.
-fn four_fit(
+// Whether the outputs and the scratch have a function's length.
+fn lent_fit(
+    green: &[f64],
+    lesser: &[f64],
+    kernel: &[f64],
+    mixed: &[f64],
     points: usize,
     orbitals: usize,
-    a: &[f64],
-    b: &[f64],
-    c: &[f64],
-    d: &[f64],
 ) -> bool
-    ensures { λ r. ⌜ r ≡ fourLong points orbitals (now (a .entry)) (now (b .entry)) (now (c .entry)) (now (d .entry)) ⌝ }
+    ensures { λ r. ⌜ r ≡ allLong (lengthOf (min points 256) (min orbitals 16)) (now (green .entry) ∷ now (lesser .entry) ∷ now (kernel .entry) ∷ now (mixed .entry) ∷ []) ⌝ }
 {
-    let a_fits = has_length(points, orbitals, a);
-    let b_fits = has_length(points, orbitals, b);
-    let c_fits = has_length(points, orbitals, c);
-    let d_fits = has_length(points, orbitals, d);
-    a_fits & (b_fits & (c_fits & d_fits))
+    let green_fits = has_length(points, orbitals, green);
+    let lesser_fits = has_length(points, orbitals, lesser);
+    let kernel_fits = has_length(points, orbitals, kernel);
+    let mixed_fits = has_length(points, orbitals, mixed);
+    green_fits & (lesser_fits & (kernel_fits & mixed_fits))
+}
+
+// Lines 1 to 9, where `lent` says whether the outputs and the scratch have their length.
+fn lines(
+    times: &[f64],
+    free: &[f64],
+    sigma: &[f64],
+    source: &[f64],
+    points: usize,
+    orbitals: usize,
+    tolerance: f64,
+    lent: bool,
+) -> Verdict
+    ensures { λ r. ⌜ ((slices : List (List Float)) → lent ≡ allLong (lengthOf (min points 256) (min orbitals 16)) slices
+        → r ≡ runLines points orbitals tolerance (now (times .entry)) (now (free .entry)) (now (sigma .entry)) (now (source .entry)) slices) ⌝ }
+{
+    let free_fits = has_length(points, orbitals, free);
+    let sigma_fits = has_length(points, orbitals, sigma);
+    let source_fits = has_length(points, orbitals, source);
+    let long = free_fits & (sigma_fits & (source_fits & lent));
+    let later = operand(1, sigma).then(operand(2, source));
+    let entries = operand(0, free).then(later);
+    let inputs = sizes(points, orbitals, (times.len() == points) & long).then(time_lines(
+        times,
+        points,
+    ).then(entries));
+    inputs.then(support_lines(free, sigma, points, orbitals, tolerance))
+}
+
+// K and G^R, then X, then G^<, and whether all that is made for them is finite; at the first that is not the work ends.
+fn work(
+    times: &[f64],
+    free: &[f64],
+    sigma: &[f64],
+    source: &[f64],
+    points: usize,
+    orbitals: usize,
+    green: &mut [f64],
+    lesser: &mut [f64],
+    kernel: &mut [f64],
+    mixed: &mut [f64],
+) -> bool
+    requires { ⌜ sizeLines points orbitals true (now free ∷ now sigma ∷ now source ∷ now green ∷ now lesser ∷ now kernel ∷ now mixed ∷ []) ≡ Pass ⌝ }
+    ensures { λ r. ⌜ (r ≡ workFine points orbitals (now (times .entry)) (now (free .entry)) (now (sigma .entry)) (now (source .entry)))
+        × (r ≡ true → (now (green .exit) ≡ workGreen points orbitals (now (times .entry)) (now (free .entry)) (now (sigma .entry)) (now (source .entry)))
+        × (now (lesser .exit) ≡ workLesser points orbitals (now (times .entry)) (now (free .entry)) (now (sigma .entry)) (now (source .entry)))
+        × (now (kernel .exit) ≡ workKernel points orbitals (now (times .entry)) (now (free .entry)) (now (sigma .entry)) (now (source .entry)))
+        × (now (mixed .exit) ≡ workMixed points orbitals (now (times .entry)) (now (free .entry)) (now (sigma .entry)) (now (source .entry)))) ⌝ }
+{
+    let solved = solve_retarded(times, free, sigma, points, orbitals, green, kernel);
+    let Verdict::Pass = solved else {
+        return false;
+    };
+    let first = weighted_sums(Sums::Mixed, times, source, green, points, orbitals, mixed);
+    let Verdict::Pass = first else {
+        return false;
+    };
+    let second = weighted_sums(Sums::Lesser, times, green, mixed, points, orbitals, lesser);
+    let Verdict::Pass = second else {
+        return false;
+    };
+    true
+}
+
+// The transient run of free, the retarded self-energy sigma and the lesser self-energy source: G^R and G^< in the outputs, K and
+// X in the scratch. G^A is never stored: its blocks are read as adjoints of G^R's. N(N+1)(2N+1)/6 − N products of blocks for K and
+// G^R and N·N·(N+1) for X and G^<.
+pub fn transient_run(
+    times: &[f64],
+    free: &[f64],
+    sigma: &[f64],
+    source: &[f64],
+    points: usize,
+    orbitals: usize,
+    tolerance: f64,
+    green: &mut [f64],
+    lesser: &mut [f64],
+    kernel: &mut [f64],
+    mixed: &mut [f64],
+) -> Solved
+    ensures { λ r. ⌜ (r ≡ transientRun (runOf points orbitals tolerance (now (times .entry)) (now (free .entry)) (now (sigma .entry)) (now (source .entry)) (now (green .entry)) (now (lesser .entry)) (now (kernel .entry)) (now (mixed .entry))) .answer)
+        × (now (green .exit) ≡ transientRun (runOf points orbitals tolerance (now (times .entry)) (now (free .entry)) (now (sigma .entry)) (now (source .entry)) (now (green .entry)) (now (lesser .entry)) (now (kernel .entry)) (now (mixed .entry))) .retarded)
+        × (now (lesser .exit) ≡ transientRun (runOf points orbitals tolerance (now (times .entry)) (now (free .entry)) (now (sigma .entry)) (now (source .entry)) (now (green .entry)) (now (lesser .entry)) (now (kernel .entry)) (now (mixed .entry))) .lesser)
+        × (now (kernel .exit) ≡ transientRun (runOf points orbitals tolerance (now (times .entry)) (now (free .entry)) (now (sigma .entry)) (now (source .entry)) (now (green .entry)) (now (lesser .entry)) (now (kernel .entry)) (now (mixed .entry))) .kernel)
+        × (now (mixed .exit) ≡ transientRun (runOf points orbitals tolerance (now (times .entry)) (now (free .entry)) (now (sigma .entry)) (now (source .entry)) (now (green .entry)) (now (lesser .entry)) (now (kernel .entry)) (now (mixed .entry))) .mixed) ⌝ }
+{
+    let lent = lent_fit(green, lesser, kernel, mixed, points, orbitals);
+    let verdict = lines(
+        times,
+        free,
+        sigma,
+        source,
+        points,
+        orbitals,
+        tolerance,
+        lent,
+    );
+    match verdict {
+        Verdict::Refused(r) => Solved::Refused(r),
+        Verdict::Pass => {
+            if work(
+                times,
+                free,
+                sigma,
+                source,
+                points,
+                orbitals,
+                green,
+                lesser,
+                kernel,
+                mixed,
+            ) {
+                return Solved::Accepted;
+            }
+            clear(green);
+            clear(lesser);
+            clear(kernel);
+            clear(mixed);
+            Solved::Refused(Refusal::by(10))
+        }
+    }
 }

@@ -26,7 +26,7 @@ module _ (points orbitals : ℕ) where
   unfolding largeEnough
   large e = orders 2 points 1 orbitals (ask-pass (leb 2 points && leb 1 orbitals) (by 1) e)
 
-  limited : withinLimits points orbitals ≡ Pass → (points ≤ 256) × (orbitals ≤ 16)
+  pub limited : withinLimits points orbitals ≡ Pass → (points ≤ 256) × (orbitals ≤ 16)
   unfolding withinLimits
   limited e = orders points 256 orbitals 16 (ask-pass (leb points 256 && leb orbitals 16) (by 2) e)
 

@@ -52,7 +52,7 @@ returns-2 c =
     let s = sized w in
     let x = start s .args in
     let k = kernel-overflows (x .points) (x .orbitals) (now (x .times)) (now (x .free)) (now (x .self-energy)) (now (x .green)) (now (x .kernel)) _ (asked s) (w .before .before .enum-told .given .1)
-        _ _ (w .weighted-sums .ensures .0) (w .weighted-sums .ensures .1) _ (told .enum-told4 .given .1) in
+    _ _ (w .weighted-sums .ensures .0) (w .weighted-sums .ensures .1) _ (told .enum-told4 .given .1) in
     (k .answered, clear .clear .ensures ∙ k .green, k .scratch)
 
 -- after K was made
@@ -80,9 +80,9 @@ returns-3 c =
     let s = sized w in
     let x = start s .args in
     let made = kernel-made (x .points) (x .orbitals) (now (x .times)) (now (x .free)) (now (x .self-energy)) (now (x .green)) (now (x .kernel)) _ (asked s) (w .before .before .enum-told .given .1)
-        _ _ (w .weighted-sums .ensures .0) (w .weighted-sums .ensures .1) (told .enum-told3 .given .1) in
+    _ _ (w .weighted-sums .ensures .0) (w .weighted-sums .ensures .1) (told .enum-told3 .given .1) in
     let k = accepted (x .points) (x .orbitals) (now (x .times)) (now (x .free)) (now (x .self-energy)) (now (x .green)) (now (x .kernel)) _ (asked s) (w .before .before .enum-told .given .1)
-        (made .0) (sym (f .forward .ensures .0 ∙ ap (retardedFine (x .points) (x .orbitals) (now (x .times)) (now (x .free))) (made .1)) ∙ c .if1 .taken) in
+    (made .0) (sym (f .forward .ensures .0 ∙ ap (retardedFine (x .points) (x .orbitals) (now (x .times)) (now (x .free))) (made .1)) ∙ c .if1 .taken) in
     (k .answered, f .forward .ensures .1 (c .if1 .taken) ∙ ap (retardedNumbers (x .points) (x .orbitals) (now (x .times)) (now (x .free))) (made .1) ∙ k .green, made .1 ∙ k .scratch)
 
 returns-4 : tie.Need-returns-4
@@ -96,12 +96,13 @@ returns-4 c =
     let s = sized w in
     let x = start s .args in
     let made = kernel-made (x .points) (x .orbitals) (now (x .times)) (now (x .free)) (now (x .self-energy)) (now (x .green)) (now (x .kernel)) _ (asked s) (w .before .before .enum-told .given .1)
-        _ _ (w .weighted-sums .ensures .0) (w .weighted-sums .ensures .1) (told .enum-told3 .given .1) in
+    _ _ (w .weighted-sums .ensures .0) (w .weighted-sums .ensures .1) (told .enum-told3 .given .1) in
     let k = green-overflows (x .points) (x .orbitals) (now (x .times)) (now (x .free)) (now (x .self-energy)) (now (x .green)) (now (x .kernel)) _ (asked s) (w .before .before .enum-told .given .1)
-        (made .0) (sym (f .forward .ensures .0 ∙ ap (retardedFine (x .points) (x .orbitals) (now (x .times)) (now (x .free))) (made .1)) ∙ test .if1 .left) in
-    (ap Refused (c .by .ensures) ∙ k .answered,
-    first .clear2 .ensures ∙ ap (λ (m : ℕ). replicate m plusZero) (f .forward .kept .1 .1 .1 .1 .1 .0) ∙ k .green,
-    second .clear3 .ensures ∙ ap (λ (m : ℕ). replicate m plusZero) (w .weighted-sums .kept .1 .1 .1 .1 .1 .1 .0) ∙ k .scratch)
+    (made .0) (sym (f .forward .ensures .0 ∙ ap (retardedFine (x .points) (x .orbitals) (now (x .times)) (now (x .free))) (made .1)) ∙ test .if1 .left) in (
+      ap Refused (c .by .ensures) ∙ k .answered,
+      first .clear2 .ensures ∙ ap (λ (m : ℕ). replicate m plusZero) (f .forward .kept .1 .1 .1 .1 .1 .0) ∙ k .green,
+      second .clear3 .ensures ∙ ap (λ (m : ℕ). replicate m plusZero) (w .weighted-sums .kept .1 .1 .1 .1 .1 .1 .0) ∙ k .scratch,
+    )
 
 pub solve-retarded-spec : {M : Type 1} → statement M
 solve-retarded-spec =

@@ -1,0 +1,19 @@
+-- `observables::answer::real_checked` meets its contract: it asks 8, then 14. Assumes nothing.
+use mathlib.Core.Path.{refl, _∙_}
+use borrow.Author.Needs.{needs}
+use Rattle.observables.specs.Answering.{observed-yes, observed-no}
+use Rattle.observables.proofs.answer.real_checked.Statement.{statement}
+use Rattle.observables.proofs.answer.real_checked.Tie as tie
+
+pub real-checked-spec : {M : Type 1} → statement M
+real-checked-spec =
+    tie.close
+    (tie.spec
+    (λ c κs. search needs)  -- real-within-requires
+    (λ c κs. search needs)  -- valid-tolerance-requires
+    (λ c κs. search needs)  -- then-requires
+    (λ c. search needs)  -- enum-known-verdict
+    (λ c κs. search needs)  -- refused-requires
+    (λ c. c .refused .ensures ∙ observed-no _ _ (cc))  -- returns
+    (λ c. search needs)  -- enum-told
+    (λ c. observed-yes (cc) refl))  -- returns-2

@@ -1,0 +1,45 @@
+-- `observables::product::entry` meets its contract: after k turns the sum has the first k terms of the product's entry. Assumes nothing.
+use mathlib.Core.Path.{_≡_, sym}
+use mathlib.Core.List.{List}
+use Prim.Native.Nat.{ℕ, _-_, _≤_}
+use native.Mathlib.Nat.{le-antisymm}
+use native.Mathlib.Omega.{arith}
+use lib.Ieee.{Float}
+use borrow.Author.Needs.{needs}
+use Rattle.complex.specs.declared.Complex.{Complex}
+use Rattle.complex.specs.Arithmetic.{czero, cmul}
+use Rattle.complex.specs.Sum.{sumFrom}
+use Rattle.complex.specs.Agreement.{sum-more, sum-none}
+use Rattle.matrix.specs.Block.{entriesIn}
+use Rattle.matrix.specs.Operations.{product}
+use Rattle.two_time.specs.Layout.{readAs}
+use Rattle.observables.specs.Density.{density}
+use Rattle.observables.proofs.product.entry.Statement.{statement}
+use Rattle.observables.proofs.product.entry.Tie as tie
+
+-- term k
+abbrev term : List Float → List Float → ℕ → ℕ → ℕ → ℕ → ℕ → ℕ → Complex
+term values lesser points orbitals time a b k = cmul (entriesIn orbitals values a k) (density (readAs points orbitals lesser) time k b)
+
+abbrev Inv-loop : tie.InvT-loop
+Inv-loop values lesser points orbitals time a b sum₀ k₀ sum k = (k ≤ orbitals) × (sum ≡ sumFrom czero (term values lesser points orbitals time a b) 0 k)
+
+abbrev μ-loop : tie.MeasureT-loop
+μ-loop values lesser points orbitals time a b sum₀ k₀ sum k = orbitals - k
+
+pub entry-spec : {M : Type 1} → statement M
+unfolding product
+entry-spec =
+    tie.close
+    (tie.spec
+    Inv-loop
+    μ-loop
+    (λ c. (omega arith, sym (sum-none czero _ 0)))  -- loop-holds
+    (λ c κs. let h = c .before .before .before .before .pre in (omega arith, omega arith, h .0 .orbitals-most, h .1 .2))  -- observable-entry-requires
+    (λ c κs. let h = c .before .before .before .before .before .pre in (h .0, (omega arith, omega arith)))  -- entry-requires
+    (λ c κs. search needs)  -- times-requires
+    (λ c κs. search needs)  -- plus-requires
+    (λ c. search needs)  -- add-k
+    (λ c. search needs)  -- loop-less
+    (λ c. (omega arith, rw sum-more (cc)))  -- loop-again
+    (λ c. cc (le-antisymm (c .before .loop .inv .0) (c .loop-test .left))))  -- returns

@@ -1,0 +1,37 @@
+-- `observables::product::trace` meets its contract: after a turns the sum has the first a entries of the diagonal. Assumes nothing.
+use mathlib.Core.Path.{_≡_, sym}
+use Prim.Native.Nat.{_-_, _≤_}
+use native.Mathlib.Nat.{le-antisymm}
+use native.Mathlib.Omega.{arith}
+use borrow.Author.Needs.{needs}
+use Rattle.complex.specs.Arithmetic.{czero}
+use Rattle.complex.specs.Sum.{sumFrom}
+use Rattle.complex.specs.Agreement.{sum-more, sum-none}
+use Rattle.matrix.specs.Block.{entriesIn}
+use Rattle.matrix.specs.Operations.{product, trace}
+use Rattle.two_time.specs.Layout.{readAs}
+use Rattle.observables.specs.Density.{density}
+use Rattle.observables.proofs.product.trace.Statement.{statement}
+use Rattle.observables.proofs.product.trace.Tie as tie
+
+abbrev Inv-loop : tie.InvT-loop
+Inv-loop values lesser points orbitals time sum₀ a₀ sum a =
+    (a ≤ orbitals) × (sum ≡ sumFrom czero (λ k. product orbitals (entriesIn orbitals values) (density (readAs points orbitals lesser) time) k k) 0 a)
+
+abbrev μ-loop : tie.MeasureT-loop
+μ-loop values lesser points orbitals time sum₀ a₀ sum a = orbitals - a
+
+pub trace-spec : {M : Type 1} → statement M
+unfolding trace
+trace-spec =
+    tie.close
+    (tie.spec
+    Inv-loop
+    μ-loop
+    (λ c. (omega arith, sym (sum-none czero _ 0)))  -- loop-holds
+    (λ c κs. let h = c .before .before .before .before .pre in (h .0, (c .loop-test .taken, c .loop-test .taken, h .1)))  -- entry-requires
+    (λ c κs. search needs)  -- plus-requires
+    (λ c. search needs)  -- add-a
+    (λ c. search needs)  -- loop-less
+    (λ c. (omega arith, rw sum-more (cc)))  -- loop-again
+    (λ c. cc (le-antisymm (c .before .loop .inv .0) (c .loop-test .left))))  -- returns

@@ -1,0 +1,91 @@
+// The product of a one-body matrix, lent as the numbers of its block, and the density matrix, entry by entry.
+ghost use mathlib.Core.Path.{_≡_};
+ghost use Prim.Native.Nat.{_≤_, _<_};
+ghost use lib.ListN.{length};
+ghost use Rattle.matrix.specs.Block.{entriesIn};
+ghost use Rattle.matrix.specs.Operations.{product, trace, allFinite};
+ghost use Rattle.two_time.specs.Layout.{readAs};
+ghost use Rattle.observables.specs.Density.{density};
+ghost use Rattle.observables.specs.Lent.{Lent};
+use crate::density;
+use complex::Complex;
+use two_time::layout::read;
+
+// Entry (a, b) of the matrix, whose block is read as a two-time function of one time.
+fn observable_entry(values: &[f64], orbitals: usize, a: usize, b: usize) -> Complex
+    requires { ⌜ (a < orbitals) × (b < orbitals) × (orbitals ≤ 16) × (512 ≤ length (now values)) ⌝ }
+    ensures { λ r. ⌜ r ≡ entriesIn orbitals (now (values .entry)) a b ⌝ }
+{
+    read(values, 1, orbitals, 0, 0, a, b)
+}
+
+// Entry (a, b) of the product.
+fn entry(
+    values: &[f64],
+    lesser: &[f64],
+    points: usize,
+    orbitals: usize,
+    time: usize,
+    a: usize,
+    b: usize,
+) -> Complex
+    requires { ⌜ Lent points orbitals (now lesser) time ⌝ }
+    requires { ⌜ (a < orbitals) × (b < orbitals) × (512 ≤ length (now values)) ⌝ }
+    ensures { λ r. ⌜ r ≡ product orbitals (entriesIn orbitals (now (values .entry))) (density (readAs points orbitals (now (lesser .entry))) time) a b ⌝ }
+{
+    let mut sum = Complex::ZERO;
+    for k in 0..orbitals {
+        let x = observable_entry(values, orbitals, a, k);
+        let rho = density::entry(lesser, points, orbitals, time, k, b);
+        sum = sum.plus(x.times(rho));
+    }
+    sum
+}
+
+// Whether all entries of the product are finite.
+pub(crate) fn is_finite(
+    values: &[f64],
+    lesser: &[f64],
+    points: usize,
+    orbitals: usize,
+    time: usize,
+) -> bool
+    requires { ⌜ Lent points orbitals (now lesser) time ⌝ }
+    requires { ⌜ 512 ≤ length (now values) ⌝ }
+    ensures { λ r. ⌜ r ≡ allFinite orbitals orbitals (product orbitals (entriesIn orbitals (now (values .entry))) (density (readAs points orbitals (now (lesser .entry))) time)) ⌝ }
+{
+    let mut all = true;
+    let count = orbitals * orbitals;
+    for p in 0..count {
+        let z = entry(
+            values,
+            lesser,
+            points,
+            orbitals,
+            time,
+            p / orbitals,
+            p % orbitals,
+        );
+        all = all & z.is_finite();
+    }
+    all
+}
+
+// The sum of the product's diagonal.
+pub(crate) fn trace(
+    values: &[f64],
+    lesser: &[f64],
+    points: usize,
+    orbitals: usize,
+    time: usize,
+) -> Complex
+    requires { ⌜ Lent points orbitals (now lesser) time ⌝ }
+    requires { ⌜ 512 ≤ length (now values) ⌝ }
+    ensures { λ r. ⌜ r ≡ trace orbitals (product orbitals (entriesIn orbitals (now (values .entry))) (density (readAs points orbitals (now (lesser .entry))) time)) ⌝ }
+{
+    let mut sum = Complex::ZERO;
+    for a in 0..orbitals {
+        sum = sum.plus(entry(values, lesser, points, orbitals, time, a, a));
+    }
+    sum
+}

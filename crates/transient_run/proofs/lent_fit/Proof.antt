@@ -1,0 +1,15 @@
+-- `transient_run::lent_fit` meets its contract. Assumes nothing.
+use borrow.Author.Needs.{needs}
+use Rattle.two_time.specs.SizeLines.{fits-last, fits-more}
+use Rattle.transient_run.proofs.lent_fit.Statement.{statement}
+use Rattle.transient_run.proofs.lent_fit.Tie as tie
+
+pub lent-fit-spec : {M : Type 1} → statement M
+lent-fit-spec =
+    tie.close
+    (tie.spec
+    (λ c κs. search needs)  -- has-length-requires
+    (λ c κs. search needs)  -- has-length-requires-2
+    (λ c κs. search needs)  -- has-length-requires-3
+    (λ c κs. search needs)  -- has-length-requires-4
+    (λ c. fits-more _ _ _ _ _ _ (c .before .before .before .has-length .ensures) (fits-more _ _ _ _ _ _ (c .before .before .has-length2 .ensures) (fits-more _ _ _ _ _ _ (c .before .has-length3 .ensures) (fits-last _ _ _ _ (c .has-length4 .ensures))))))  -- returns

@@ -1,0 +1,128 @@
+-- `transient_run::work` meets its contract: each step's answer says whether what it makes is finite. Assumes nothing.
+use mathlib.Core.Path.{_≡_, refl, sym, ap, _∙_}
+use mathlib.Core.Bool.{Bool, true, false}
+use mathlib.Core.List.{List, [], _∷_}
+use Prim.Native.Nat.{ℕ}
+use lib.Ieee.{Float}
+use lib.ListN.{length}
+use denote.Ref.{now}
+use borrow.Author.Needs.{needs}
+use Rattle.lists.specs.Agreement.{never}
+use Rattle.two_time.specs.Layout.{lengthOf}
+use Rattle.two_time.specs.SizeLines.{SizesPassed, sizes-passed, long-first}
+use Rattle.dyson.specs.Outcome.{Left}
+use Rattle.transient_run.specs.Work.{green-passed, green-refused, mixed-passed, mixed-refused, lesser-passed, lesser-refused}
+use Rattle.transient_run.proofs.work.Statement.{statement}
+use Rattle.transient_run.proofs.work.Tie as tie
+
+-- the slices have their length
+record Lent (s : tie.Start) : Type 0 where
+  sizes : SizesPassed (s .args .points) (s .args .orbitals) true (now (s .args .free) ∷ now (s .args .sigma) ∷ now (s .args .source) ∷ now (s .args .green) ∷ now (s .args .lesser) ∷ now (s .args .kernel) ∷ now (s .args .mixed) ∷ [])
+  free : length (now (s .args .free)) ≡ lengthOf (s .args .points) (s .args .orbitals)
+  sigma : length (now (s .args .sigma)) ≡ lengthOf (s .args .points) (s .args .orbitals)
+  source : length (now (s .args .source)) ≡ lengthOf (s .args .points) (s .args .orbitals)
+  green : length (now (s .args .green)) ≡ lengthOf (s .args .points) (s .args .orbitals)
+  lesser : length (now (s .args .lesser)) ≡ lengthOf (s .args .points) (s .args .orbitals)
+  kernel : length (now (s .args .kernel)) ≡ lengthOf (s .args .points) (s .args .orbitals)
+  mixed : length (now (s .args .mixed)) ≡ lengthOf (s .args .points) (s .args .orbitals)
+
+lent : (s : tie.Start) → Lent s
+lent s =
+    let x = s .args in
+    let count = lengthOf (x .points) (x .orbitals) in
+    let z = sizes-passed (x .points) (x .orbitals) true (now (x .free) ∷ now (x .sigma) ∷ now (x .source) ∷ now (x .green) ∷ now (x .lesser) ∷ now (x .kernel) ∷ now (x .mixed) ∷ []) (s .pre) in
+    let f = long-first count (now (x .free)) _ (z .long) in
+    let e = long-first count (now (x .sigma)) _ (f .1) in
+    let o = long-first count (now (x .source)) _ (e .1) in
+    let g = long-first count (now (x .green)) _ (o .1) in
+    let l = long-first count (now (x .lesser)) _ (g .1) in
+    let k = long-first count (now (x .kernel)) _ (l .1) in
+    let m = long-first count (now (x .mixed)) _ (k .1) in
+    record { sizes = z; free = f .0; sigma = e .0; source = o .0; green = g .0; lesser = l .0; kernel = k .0; mixed = m .0 }
+
+abbrev start : tie.After-solve-retarded → tie.Start
+start c = c .before .before .before .before .before .before .before .before .before .before .before
+
+abbrev solved : tie.After-enum-told → tie.After-solve-retarded
+solved c = c .before .before .before .before .before .before
+
+returns : tie.Need-returns
+returns c =
+    let s = c .before .before .before .before .before .before in
+    let x = start s .args in
+    let l = lent (start s) in
+    let e = s .solve-retarded .ensures in
+    (sym (green-refused (x .points) (x .orbitals) (now (x .times)) (now (x .free)) (now (x .sigma)) (now (x .source)) (l .sizes) (l .free) (l .sigma) (l .source) (now (x .green)) (now (x .kernel)) (l .green) (l .kernel) _ _ _ (record { answered = e .0; green = e .1; scratch = e .2 }) _ (c .enum-told2 .given .1)), λ h. never h)
+
+returns-2 : tie.Need-returns-2
+returns-2 c =
+    let m = c .before .before .before .before in
+    let e1 = m .before .before .before in
+    let s = solved e1 in
+    let x = start s .args in
+    let l = lent (start s) in
+    let e = s .solve-retarded .ensures in
+    let g = green-passed (x .points) (x .orbitals) (now (x .times)) (now (x .free)) (now (x .sigma)) (now (x .source)) (l .sizes) (l .free) (l .sigma) (l .source) (now (x .green)) (now (x .kernel)) (l .green) (l .kernel) _ _ _ (record { answered = e .0; green = e .1; scratch = e .2 }) (e1 .enum-told .given .1) in
+    (sym (mixed-refused (x .points) (x .orbitals) (now (x .times)) (now (x .free)) (now (x .sigma)) (now (x .source)) (l .sizes) (l .free) (l .sigma) (l .source) (g .0) _ (g .1) (s .solve-retarded .kept .1 .1 .1 .1 .1 .0 ∙ l .green) (now (x .mixed)) (l .mixed) _ _ (m .weighted-sums .ensures .0) (m .weighted-sums .ensures .1) _ (c .enum-told4 .given .1)), λ h. never h)
+
+returns-3 : tie.Need-returns-3
+returns-3 c =
+    let w = c .before .before .before .before in
+    let e3 = w .before .before .before .before in
+    let m = e3 .before .before .before .before in
+    let e1 = m .before .before .before in
+    let s = solved e1 in
+    let x = start s .args in
+    let l = lent (start s) in
+    let e = s .solve-retarded .ensures in
+    let g = green-passed (x .points) (x .orbitals) (now (x .times)) (now (x .free)) (now (x .sigma)) (now (x .source)) (l .sizes) (l .free) (l .sigma) (l .source) (now (x .green)) (now (x .kernel)) (l .green) (l .kernel) _ _ _ (record { answered = e .0; green = e .1; scratch = e .2 }) (e1 .enum-told .given .1) in
+    let long = s .solve-retarded .kept .1 .1 .1 .1 .1 .0 ∙ l .green in
+    let k = mixed-passed (x .points) (x .orbitals) (now (x .times)) (now (x .free)) (now (x .sigma)) (now (x .source)) (l .sizes) (l .free) (l .sigma) (l .source) (g .0) _ (g .1) long (now (x .mixed)) (l .mixed) _ _ (m .weighted-sums .ensures .0) (m .weighted-sums .ensures .1) (e3 .enum-told3 .given .1) in
+    (sym (lesser-refused (x .points) (x .orbitals) (now (x .times)) (now (x .free)) (now (x .sigma)) (now (x .source)) (l .sizes) (l .free) (l .sigma) (l .source) (g .0) _ (g .1) long (k .0) _ (k .1) (m .weighted-sums .kept .1 .1 .1 .1 .1 .1 .0 ∙ l .mixed) (now (x .lesser)) (l .lesser) _ _ (w .weighted-sums2 .ensures .0) (w .weighted-sums2 .ensures .1) _ (c .enum-told6 .given .1)), λ h. never h)
+
+returns-4 : tie.Need-returns-4
+returns-4 c =
+    let w = c .before .before .before .before in
+    let e3 = w .before .before .before .before in
+    let m = e3 .before .before .before .before in
+    let e1 = m .before .before .before in
+    let s = solved e1 in
+    let x = start s .args in
+    let l = lent (start s) in
+    let e = s .solve-retarded .ensures in
+    let g = green-passed (x .points) (x .orbitals) (now (x .times)) (now (x .free)) (now (x .sigma)) (now (x .source)) (l .sizes) (l .free) (l .sigma) (l .source) (now (x .green)) (now (x .kernel)) (l .green) (l .kernel) _ _ _ (record { answered = e .0; green = e .1; scratch = e .2 }) (e1 .enum-told .given .1) in
+    let long = s .solve-retarded .kept .1 .1 .1 .1 .1 .0 ∙ l .green in
+    let k = mixed-passed (x .points) (x .orbitals) (now (x .times)) (now (x .free)) (now (x .sigma)) (now (x .source)) (l .sizes) (l .free) (l .sigma) (l .source) (g .0) _ (g .1) long (now (x .mixed)) (l .mixed) _ _ (m .weighted-sums .ensures .0) (m .weighted-sums .ensures .1) (e3 .enum-told3 .given .1) in
+    let o = lesser-passed (x .points) (x .orbitals) (now (x .times)) (now (x .free)) (now (x .sigma)) (now (x .source)) (l .sizes) (l .free) (l .sigma) (l .source) (g .0) _ (g .1) long (k .0) _ (k .1) (m .weighted-sums .kept .1 .1 .1 .1 .1 .1 .0 ∙ l .mixed) (now (x .lesser)) (l .lesser) _ _ (w .weighted-sums2 .ensures .0) (w .weighted-sums2 .ensures .1) (c .enum-told5 .given .1) in
+    (sym (o .0), λ h. (g .1, o .1, g .2, k .1))
+
+pub work-spec : {M : Type 1} → statement M
+work-spec =
+    tie.close
+    (tie.spec
+    (λ c κs. search needs)  -- solve-retarded-requires
+    (λ c. search needs)  -- enum-told
+    (λ c. search needs)  -- enum-told-2
+    (λ c. search needs)  -- same-length
+    (λ c. search needs)  -- same-length-2
+    returns
+    (λ c κs. search needs)  -- weighted-sums-requires
+    (λ c. search needs)  -- enum-told-3
+    (λ c. search needs)  -- enum-told-4
+    (λ c. search needs)  -- same-length-3
+    (λ c. search needs)  -- same-length-4
+    (λ c. search needs)  -- same-length-5
+    returns-2
+    (λ c κs. search needs)  -- weighted-sums-requires-2
+    (λ c. search needs)  -- enum-told-5
+    (λ c. search needs)  -- enum-told-6
+    (λ c. search needs)  -- same-length-6
+    (λ c. search needs)  -- same-length-7
+    (λ c. search needs)  -- same-length-8
+    (λ c. search needs)  -- same-length-9
+    returns-3
+    (λ c. search needs)  -- same-length-10
+    (λ c. search needs)  -- same-length-11
+    (λ c. search needs)  -- same-length-12
+    (λ c. search needs)  -- same-length-13
+    returns-4)

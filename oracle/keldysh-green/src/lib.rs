@@ -1,0 +1,26 @@
+//! The port's keldysh-green.
+mod error {
+    include!(concat!(env!("PORT"), "/src--keldysh-green--src--error.rs.txt"));
+}
+mod grid {
+    include!(concat!(env!("PORT"), "/src--keldysh-green--src--grid.rs.txt"));
+}
+mod keldysh {
+    include!(concat!(env!("PORT"), "/src--keldysh-green--src--keldysh.rs.txt"));
+}
+mod matrix_ops {
+    include!(concat!(env!("PORT"), "/src--keldysh-green--src--matrix_ops.rs.txt"));
+}
+mod observables {
+    include!(concat!(env!("PORT"), "/src--keldysh-green--src--observables.rs.txt"));
+}
+
+pub use cluster_green::{Complex64, DenseMatrix};
+pub use error::KeldyshError;
+pub use grid::RealTimeGrid;
+pub use keldysh::{
+    causal_volterra_convolution, langreth_product, retarded_dyson, retarded_dyson_with_tolerance, time_convolution, ConsistencyReport,
+    KeldyshGreen, TwoTimeMatrix,
+};
+pub use observables::{bond_flow_into, density_matrix, one_body_expectation, particle_number};
+pub type Result<T> = std::result::Result<T, KeldyshError>;
