@@ -28,7 +28,7 @@ use Rattle.causality.specs.Stages.{LowerTo, RowsTo, SquareTo, causal-sta
 use Rattle.causality.specs.Solvers.{laid, told, solverOf, ReadsNoLater, meets}
 
 -- G^R and G^< of a run as functions of places
-abbrev green : Run → TwoTime
+abbrev pub green : Run → TwoTime
 green r = retardedGreen (r .orbitals) (r .times) (of r (r .free)) (of r (kernelOfRun r))
 
 abbrev lesser : Run → TwoTime
@@ -49,7 +49,7 @@ module _ (k : ℕ) (r r₀ : Run) (hk : k < r .points) (hk' : k < r₀ .points) 
       t u (omega arith) (omega arith) (omega arith) (omega arith)
       (causal-stage n k (r .times) (r' .times) (same .times) (of r (r .free)) (of r' (r' .free)) (of r (r .selfEnergy)) (of r' (r' .selfEnergy)) (same .free) (same .selfEnergy) t u ht hu)
 
-  greens : RowsTo n k (green r) (green r')
+  pub greens : RowsTo n k (green r) (green r')
   greens =
       retarded-stage n k (r .times) (r' .times) (same .times) (of r (r .free)) (of r' (r' .free)) (of r (kernelOfRun r)) (of r' (kernelOfRun r')) (same .free) kernels
 
