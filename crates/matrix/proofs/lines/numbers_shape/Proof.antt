@@ -1,5 +1,5 @@
 -- `matrix::lines::numbers_shape` meets its contract: past lines 1 and 2 the entries are few, and line 3 is asked. Assumes nothing.
-use mathlib.Core.Path.{_≡_, sym, _∙_}
+use mathlib.Core.Path.{_≡_, sym, ap₂, _∙_}
 use Prim.Native.Nat.{_*_, _≤_}
 use native.Mathlib.Omega.{arith}
 use borrow.Author.Needs.{needs}
@@ -13,7 +13,7 @@ use Rattle.matrix.proofs.lines.numbers_shape.Statement.{statement}
 use Rattle.matrix.proofs.lines.numbers_shape.Tie as tie
 
 asked : (c : tie.After-then) → let x = c .before .before .before .args in c .then .result ≡ (notEmpty (x .rows) (x .columns) then withinBlock (x .rows) (x .columns))
-asked c = cc
+asked c = c .then .ensures ∙ ap₂ _then_ (c .before .before .not-empty .ensures) (c .before .within-block .ensures)
 
 passed : (c : tie.After-enum-told) → let x = c .before .before .before .before .before .args in (notEmpty (x .rows) (x .columns) then withinBlock (x .rows) (x .columns)) ≡ Pass
 passed c = sym (asked (c .before .before)) ∙ c .enum-told .given .1
