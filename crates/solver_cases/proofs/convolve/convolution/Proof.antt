@@ -1,9 +1,9 @@
--- `solver_cases::convolution` is safe and ends: each slice has at most its array's length. Assumes nothing.
+-- `solver_cases::convolve::convolution` is safe and ends: each slice has at most its array's length. Assumes nothing.
 use mathlib.Core.Path.{sym}
 use lib.Seq.{length-take-le}
 use borrow.Author.Needs.{needs}
-use Rattle.solver_cases.proofs.convolution.Statement.{statement}
-use Rattle.solver_cases.proofs.convolution.Tie as tie
+use Rattle.solver_cases.proofs.convolve.convolution.Statement.{statement}
+use Rattle.solver_cases.proofs.convolve.convolution.Tie as tie
 
 pub convolution-spec : {M : Type 1} → statement M
 convolution-spec =

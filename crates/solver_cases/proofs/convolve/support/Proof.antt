@@ -1,9 +1,9 @@
--- `solver_cases::support` is safe and ends: the slice has at most the array's length. Assumes nothing.
+-- `solver_cases::convolve::support` is safe and ends: the slice has at most the array's length. Assumes nothing.
 use mathlib.Core.Path.{sym}
 use lib.Seq.{length-take-le}
 use borrow.Author.Needs.{needs}
-use Rattle.solver_cases.proofs.support.Statement.{statement}
-use Rattle.solver_cases.proofs.support.Tie as tie
+use Rattle.solver_cases.proofs.convolve.support.Statement.{statement}
+use Rattle.solver_cases.proofs.convolve.support.Tie as tie
 
 pub support-spec : {M : Type 1} → statement M
 support-spec =

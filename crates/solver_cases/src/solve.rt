@@ -1,0 +1,212 @@
+// Functions 3 to 5: the Dyson equation and the transient run.
+use crate::slices::MOST;
+use crate::slices::slice;
+use dyson::retarded_dyson;
+use dyson::retarded_dyson_with_tolerance;
+use refusal::Verdict;
+use transient_run::Solved;
+use transient_run::transient_run;
+
+fn solved(
+    given: bool,
+    times: &[f64],
+    free: &[f64],
+    sigma: &[f64],
+    points: usize,
+    orbitals: usize,
+    tolerance: f64,
+    green: &mut [f64],
+    kernel: &mut [f64],
+) -> Verdict {
+    if given {
+        return retarded_dyson_with_tolerance(
+            times,
+            free,
+            sigma,
+            points,
+            orbitals,
+            tolerance,
+            green,
+            kernel,
+        );
+    }
+    retarded_dyson(times, free, sigma, points, orbitals, green, kernel)
+}
+
+fn print_dyson(
+    index: u64,
+    given: bool,
+    times: &[f64],
+    free: &[f64],
+    sigma: &[f64],
+    points: usize,
+    orbitals: usize,
+    tolerance: f64,
+    green: &mut [f64],
+    kernel: &mut [f64],
+) {
+    show::begin(index);
+    show::verdict(solved(
+        given,
+        times,
+        free,
+        sigma,
+        points,
+        orbitals,
+        tolerance,
+        green,
+        kernel,
+    ));
+    show::numbers(green);
+    show::numbers(kernel);
+    show::end();
+}
+
+// The Dyson equation, with the tolerance if it is given: times, free, self-energy, then G and K.
+pub(crate) fn dyson(
+    index: u64,
+    given: bool,
+    points: usize,
+    orbitals: usize,
+    tolerance: f64,
+) -> bool {
+    let mut times = [0.0; 1024];
+    let t = slice(&mut times);
+    if t > MOST {
+        return false;
+    }
+    let mut free = [0.0; 1024];
+    let f = slice(&mut free);
+    if f > MOST {
+        return false;
+    }
+    let mut sigma = [0.0; 1024];
+    let s = slice(&mut sigma);
+    if s > MOST {
+        return false;
+    }
+    let mut green = [0.0; 1024];
+    let g = slice(&mut green);
+    if g > MOST {
+        return false;
+    }
+    let mut kernel = [0.0; 1024];
+    let k = slice(&mut kernel);
+    if k > MOST {
+        return false;
+    }
+    print_dyson(
+        index,
+        given,
+        &times[..t],
+        &free[..f],
+        &sigma[..s],
+        points,
+        orbitals,
+        tolerance,
+        &mut green[..g],
+        &mut kernel[..k],
+    );
+    true
+}
+
+fn print_answer(answer: Solved) {
+    match answer {
+        Solved::Accepted => show::text(b" accepted"),
+        Solved::Refused(r) => show::refused(r),
+    }
+}
+
+fn print_transient(
+    index: u64,
+    times: &[f64],
+    free: &[f64],
+    sigma: &[f64],
+    source: &[f64],
+    points: usize,
+    orbitals: usize,
+    tolerance: f64,
+    green: &mut [f64],
+    lesser: &mut [f64],
+    kernel: &mut [f64],
+    mixed: &mut [f64],
+) {
+    show::begin(index);
+    print_answer(transient_run(
+        times,
+        free,
+        sigma,
+        source,
+        points,
+        orbitals,
+        tolerance,
+        green,
+        lesser,
+        kernel,
+        mixed,
+    ));
+    show::numbers(green);
+    show::numbers(lesser);
+    show::numbers(kernel);
+    show::numbers(mixed);
+    show::end();
+}
+
+// The transient run: times, free, both self-energies, then G^R, G^<, K and X.
+pub(crate) fn transient(index: u64, points: usize, orbitals: usize, tolerance: f64) -> bool {
+    let mut times = [0.0; 1024];
+    let t = slice(&mut times);
+    if t > MOST {
+        return false;
+    }
+    let mut free = [0.0; 1024];
+    let f = slice(&mut free);
+    if f > MOST {
+        return false;
+    }
+    let mut sigma = [0.0; 1024];
+    let s = slice(&mut sigma);
+    if s > MOST {
+        return false;
+    }
+    let mut source = [0.0; 1024];
+    let e = slice(&mut source);
+    if e > MOST {
+        return false;
+    }
+    let mut green = [0.0; 1024];
+    let g = slice(&mut green);
+    if g > MOST {
+        return false;
+    }
+    let mut lesser = [0.0; 1024];
+    let l = slice(&mut lesser);
+    if l > MOST {
+        return false;
+    }
+    let mut kernel = [0.0; 1024];
+    let k = slice(&mut kernel);
+    if k > MOST {
+        return false;
+    }
+    let mut mixed = [0.0; 1024];
+    let x = slice(&mut mixed);
+    if x > MOST {
+        return false;
+    }
+    print_transient(
+        index,
+        &times[..t],
+        &free[..f],
+        &sigma[..s],
+        &source[..e],
+        points,
+        orbitals,
+        tolerance,
+        &mut green[..g],
+        &mut lesser[..l],
+        &mut kernel[..k],
+        &mut mixed[..x],
+    );
+    true
+}
