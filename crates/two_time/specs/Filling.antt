@@ -10,7 +10,6 @@ use Rattle.lists.specs.Indexed.{join, allBelow, allIn}
 use Rattle.lists.specs.Turns.{join-flat, all-flat}
 use Rattle.lists.specs.Reading.{length-join}
 use Rattle.lists.specs.Filling.{over, over-all}
-use Rattle.complex.specs.Numbers.{pair}
 use Rattle.complex.specs.Filling.{cells, length-cells}
 use Rattle.matrix.specs.Block.{Entries, layOut}
 use Rattle.refusal.specs.Search.{all-no}
@@ -28,14 +27,6 @@ module _ (n : ℕ) where
   pub length-block : (f : Entries) → length (layOut n n f) ≡ 2 * (n * n)
   unfolding layOut
   length-block f = length-join n (2 * n) (λ a. cells n (f a)) (λ a ha. length-cells n (f a)) ∙ mul-left-comm n 2 n
-
-  -- a block that is written entry by entry
-  pub block-laid : (f : Entries) (d out : List Float) (k : ℕ) → k ≡ n * n → length d ≡ 2 * (n * n) → out ≡ over d (cells k (λ m. f (m / n) (m % n))) → out ≡ layOut n n f
-  unfolding layOut
-  block-laid f d out k e long h =
-      h ∙ ap (λ (m : ℕ). over d (cells m (λ j. f (j / n) (j % n)))) e
-      ∙ over-all d (cells (n * n) (λ j. f (j / n) (j % n))) (length-cells (n * n) (λ j. f (j / n) (j % n)) ∙ sym long)
-      ∙ join-flat n n (λ i j. pair (f i j))
 
   module _ (points : ℕ) (f : TwoTime) where
     -- block q, by rows

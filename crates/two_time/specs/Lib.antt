@@ -19,5 +19,7 @@ pub mod Reaching
 pub mod SizeLines
 pub mod Working
 pub mod FlatPlaces
+pub mod Rows
+pub mod RowSums
 pub mod AskingSupport
 pub mod Finite

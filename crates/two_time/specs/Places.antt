@@ -19,6 +19,11 @@ pub record Placed (stride orbitals t u a b : ℕ) : Type 0 where
   pub stride-most : stride ≤ 256
   pub orbitals-most : orbitals ≤ 16
 
+-- another entry there
+pub entry-placed : {stride orbitals t u a b : ℕ} (c d : ℕ) → Placed stride orbitals t u a b → c < orbitals → d < orbitals → Placed stride orbitals t u c d
+entry-placed c d p hc hd =
+    record { first = p .first; second = p .second; row = hc; column = hd; stride-most = p .stride-most; orbitals-most = p .orbitals-most }
+
 -- what the test of a place says
 pub is-placed : (stride orbitals t u a b : ℕ) → isPlace stride orbitals t u a b ≡ true → Placed stride orbitals t u a b
 unfolding isPlace

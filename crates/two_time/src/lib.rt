@@ -2,6 +2,7 @@
 mod convolution;
 pub mod layout;
 pub mod lines;
+mod rows;
 pub mod sums;
 pub mod support;
 

@@ -1,9 +1,9 @@
 // The one sum over times (document 01, convolutions): product, then scale, then add, s ascending. It serves every sum of the solver.
 ghost use mathlib.Core.Path.{_≡_};
 ghost use mathlib.Core.Bool.{true};
-ghost use Prim.Native.Nat.{_+_, _*_, _<_, _≤_};
+ghost use Prim.Native.Nat.{ℕ, _+_, _*_, _<_, _≤_};
 ghost use lib.ListN.{length};
-ghost use Rattle.complex.specs.Arithmetic.{czero};
+ghost use Rattle.complex.specs.Arithmetic.{czero, real, cadd, cmul};
 ghost use Rattle.matrix.specs.Block.{layOut};
 ghost use Rattle.matrix.specs.Operations.{product};
 ghost use Rattle.two_time.specs.Layout.{readAs, lengthOf, layOutAll};
@@ -11,16 +11,20 @@ ghost use Rattle.two_time.specs.WeightedSum.{weightedSum};
 ghost use Rattle.two_time.specs.Sums.{weightBy, rightBy, termsBy, checkedSum, sumOrOverflow, summationAt, madeBy, blockFine, fineBy};
 ghost use Rattle.two_time.specs.Outcome.{summed};
 ghost use Rattle.two_time.specs.Places.{Placed};
-ghost use Rattle.two_time.specs.Walking.{rightPlace, rightStep, rightNumber};
+ghost use Rattle.two_time.specs.Walking.{rightPlace, rightStep, rightBeside, rightNumber};
+ghost use Rattle.two_time.specs.Rows.{numberAt, Mapped};
 ghost use Rattle.complex.specs.Numbers.{entryAt};
 use crate::layout::clear;
 use crate::layout::function_length;
 use crate::layout::is_place;
 use crate::layout::least;
 use crate::layout::place;
-use crate::layout::put;
 use crate::lines::has_length;
 use crate::lines::sizes;
+use crate::rows::add_scaled;
+use crate::rows::number;
+use crate::rows::set_number;
+use crate::rows::write_row;
 use complex::Complex;
 use grid::full_weight;
 use grid::trapezoid_weight;
@@ -105,6 +109,17 @@ fn right_step(factor: Factor, orbitals: usize) -> usize
     match factor {
         Factor::Stored => 2 * orbitals,
         Factor::Adjoint => 2,
+    }
+}
+
+// How far entry (k, b + 1) of the right factor stands from entry (k, b).
+fn right_beside(factor: Factor, orbitals: usize) -> usize
+    requires { ⌜ orbitals ≤ 16 ⌝ }
+    ensures { λ r. ⌜ r ≡ rightBeside factor orbitals ⌝ }
+{
+    match factor {
+        Factor::Stored => 2,
+        Factor::Adjoint => 2 * orbitals,
     }
 }
 
@@ -225,6 +240,101 @@ pub fn weighted_product_sum(
     sum_entry(sum, times, left, right, stride, orbitals, t, u, a, b, first)
 }
 
+// Adds x times a row of the right factor, whose first number stands at j, to a row of sums.
+fn add_row(factor: Factor, x: Complex, right: &[f64], orbitals: usize, j: usize, sums: &mut [f64])
+    requires { ⌜ (orbitals ≤ 16) × (length (now sums) ≡ 32) ⌝ }
+    requires { ⌜ ((b : ℕ) → b < orbitals → j + b * rightBeside factor orbitals + 1 < length (now right)) ⌝ }
+    ensures { λ _. ⌜ Mapped (λ b z. cadd z (cmul x (rightNumber factor (entryAt (now (right .entry)) (j + b * rightBeside factor orbitals))))) orbitals (now (sums .entry)) (now (sums .exit)) ⌝ }
+{
+    for b in 0..orbitals {
+        let beside = right_beside(factor, orbitals);
+        let y = right_number(factor, right, j + b * beside);
+        let z = number(sums, b);
+        set_number(sums, b, z.plus(x.times(y)));
+    }
+}
+
+// Adds row a of the product of left(t,s) and the right factor at (s, u), times the weight, to a row of totals.
+fn add_product(
+    factor: Factor,
+    left: &[f64],
+    right: &[f64],
+    stride: usize,
+    orbitals: usize,
+    t: usize,
+    s: usize,
+    u: usize,
+    a: usize,
+    weight: f64,
+    totals: &mut [f64],
+)
+    requires { ⌜ Placed stride orbitals t s a 0 ⌝ }
+    requires { ⌜ Placed stride orbitals s u a 0 ⌝ }
+    requires { ⌜ lengthOf stride orbitals ≤ length (now left) ⌝ }
+    requires { ⌜ lengthOf stride orbitals ≤ length (now right) ⌝ }
+    requires { ⌜ length (now totals) ≡ 32 ⌝ }
+    ensures { λ _. ⌜ Mapped (λ b z. cadd z (cmul (product orbitals (readAs stride orbitals (now (left .entry)) t s) (rightBy factor (readAs stride orbitals (now (right .entry))) s u) a b) (real weight))) orbitals (now (totals .entry)) (now (totals .exit)) ⌝ }
+{
+    let mut i = place(stride, orbitals, t, s, a, 0);
+    let mut j = right_place(factor, stride, orbitals, s, u, 0);
+    let step = right_step(factor, orbitals);
+    let mut sums = [0.0; 32];
+    for k in 0..orbitals {
+        let x = Complex {
+            re: left[i],
+            im: left[i + 1],
+        };
+        add_row(factor, x, right, orbitals, j, &mut sums);
+        i += 2;
+        j += step;
+    }
+    add_scaled(weight, &sums, orbitals, totals);
+}
+
+// Leaves row a of the sum at (t, u): each column by the same steps as an entry alone.
+fn sum_row(
+    sum: Summation,
+    times: &[f64],
+    left: &[f64],
+    right: &[f64],
+    stride: usize,
+    orbitals: usize,
+    t: usize,
+    u: usize,
+    a: usize,
+    totals: &mut [f64],
+)
+    requires { ⌜ Placed stride orbitals t u a 0 ⌝ }
+    requires { ⌜ sum .from + sum .count ≤ stride ⌝ }
+    requires { ⌜ lengthOf stride orbitals ≤ length (now left) ⌝ }
+    requires { ⌜ lengthOf stride orbitals ≤ length (now right) ⌝ }
+    requires { ⌜ length (now totals) ≡ 32 ⌝ }
+    ensures { λ _. ⌜ ((b : ℕ) → b < orbitals → numberAt (now (totals .exit)) b ≡ weightedSum orbitals (termsBy sum stride orbitals (now (times .entry)) (now (left .entry)) (now (right .entry)) t u czero) a b) ⌝ }
+{
+    let weights = sum.weights;
+    let factor = sum.factor;
+    let from = sum.from;
+    let count = sum.count;
+    clear(totals);
+    for k in 0..count {
+        let s = from + k;
+        let scale = weight(weights, times, s);
+        add_product(
+            factor,
+            left,
+            right,
+            stride,
+            orbitals,
+            t,
+            s,
+            u,
+            a,
+            scale,
+            totals,
+        );
+    }
+}
+
 // What is summed at (t, u).
 fn summation_at(sums: Sums, points: usize, t: usize, u: usize) -> Summation
     requires { ⌜ (t < points) × (u < points) × (points ≤ 256) ⌝ }
@@ -258,7 +368,7 @@ fn summation_at(sums: Sums, points: usize, t: usize, u: usize) -> Summation
     }
 }
 
-// Writes the block at (t, u), and answers whether all of it is finite; at the first entry that is not the work ends.
+// Writes the block at (t, u), and answers whether all of it is finite; at the first row that is not the work ends.
 fn block(
     sum: Summation,
     times: &[f64],
@@ -278,11 +388,13 @@ fn block(
     ensures { λ r. ⌜ (r ≡ blockFine sum stride orbitals (now (times .entry)) (now (left .entry)) (now (right .entry)) t u)
         × (r ≡ true → now (out .exit) ≡ layOut orbitals orbitals (weightedSum orbitals (termsBy sum stride orbitals (now (times .entry)) (now (left .entry)) (now (right .entry)) t u czero))) ⌝ }
 {
-    let count = orbitals * orbitals;
-    for m in 0..count {
-        let a = m / orbitals;
-        let b = m % orbitals;
-        let made = sum_entry(
+    let count = sum.count;
+    let width = 2 * orbitals;
+    let mut totals = [0.0; 32];
+    for a in 0..orbitals {
+        let start = a * width;
+        let end = start + width;
+        sum_row(
             sum,
             times,
             left,
@@ -292,13 +404,12 @@ fn block(
             t,
             u,
             a,
-            b,
-            Complex::ZERO,
+            &mut totals,
         );
-        let CheckedEntry::Finite(z) = made else {
+        let finite = write_row(&totals, orbitals, &mut out[start..end]);
+        if !((count == 0) | finite) {
             return false;
-        };
-        put(out, m, z);
+        }
     }
     true
 }

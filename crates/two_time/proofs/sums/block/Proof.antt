@@ -1,37 +1,39 @@
--- `two_time::sums::block` meets its contract: after m turns the first m entries are finite and written. Assumes nothing.
+-- `two_time::sums::block` meets its contract: after a turns the first a rows are finite and written. Assumes nothing.
 use mathlib.Core.Path.{_≡_, refl, sym, ap, _∙_}
-use mathlib.Core.Bool.{Bool, true, false}
+use mathlib.Core.Bool.{Bool, true, _||_}
 use mathlib.Core.List.{List}
-use Prim.Native.Nat.{ℕ, _+_, _-_, _*_, _/_, _%_, _≤_, _<_}
-use native.Mathlib.Nat.{le-antisymm}
+use Prim.Native.Nat.{ℕ, _+_, _-_, _*_, _≤_}
+use native.Mathlib.Nat.{le-antisymm, mul-left-comm}
 use native.Mathlib.Omega.{arith}
+use lib.Dec.{eqb}
 use lib.ListN.{length}
 use lib.Ieee.{Float}
 use denote.Ref.{now}
 use borrow.Author.Needs.{needs}
+use borrow.Author.Tests.{not-true, not-false}
 use Rattle.lists.specs.Indexed.{allBelow, join}
 use Rattle.lists.specs.Agreement.{never}
-use Rattle.lists.specs.Turns.{all-more}
-use Rattle.lists.specs.Filling.{over, over-none}
+use Rattle.lists.specs.Turns.{all-more, join-more}
+use Rattle.lists.specs.Filling.{over, over-none, over-part}
+use Rattle.refusal.specs.Search.{all-no}
 use Rattle.complex.specs.Arithmetic.{czero}
-use Rattle.complex.specs.Filling.{cells, cells-next}
+use Rattle.complex.specs.Filling.{length-cells}
 use Rattle.two_time.specs.WeightedSum.{Terms, weightedSum, finiteSum}
 use Rattle.two_time.specs.Sums.{termsBy, blockFine}
-use Rattle.two_time.specs.Places.{Placed, Sized, sized}
-use Rattle.two_time.specs.OneTest.{of-finite, of-overflow}
-use Rattle.two_time.specs.Filling.{all-tested, one-failed, block-laid}
-use Rattle.two_time.specs.FlatPlaces.{flat-place}
+use Rattle.two_time.specs.Places.{product-most}
+use Rattle.two_time.specs.Filling.{part-within}
+use Rattle.two_time.specs.RowSums.{row-finite, row-cells, rowOf, length-rows, rows-laid}
 use Rattle.two_time.proofs.sums.block.Statement.{statement}
 use Rattle.two_time.proofs.sums.block.Tie as tie
 
 abbrev Inv-loop : tie.InvT-loop
-Inv-loop sum times left right stride n t u out₀ count m₀ out m =
+Inv-loop sum times left right stride n t u out₀ count width totals₀ a₀ out totals a =
     let x = termsBy sum stride n times left right t u czero in
-    (m ≤ count) × (length out ≡ length out₀) × (allBelow m (λ k. finiteSum n x (k / n) (k % n)) ≡ true)
-    × (out ≡ over out₀ (cells m (λ k. weightedSum n x (k / n) (k % n))))
+    (a ≤ n) × (length out ≡ length out₀) × (length totals ≡ 32) × (allBelow a (λ k. allBelow n (finiteSum n x k)) ≡ true)
+    × (out ≡ over out₀ (join a (rowOf n (weightedSum n x))))
 
 abbrev μ-loop : tie.MeasureT-loop
-μ-loop sum times left right stride n t u out₀ count m₀ out m = count - m
+μ-loop sum times left right stride n t u out₀ count width totals₀ a₀ out totals a = n - a
 
 abbrev start : tie.At-loop Inv-loop μ-loop → tie.Start Inv-loop μ-loop
 start c = c .before .before .before .before .before
@@ -41,42 +43,59 @@ terms c =
     let x = start c .args in
     termsBy (x .sum) (x .stride) (x .orbitals) (now (x .times)) (now (x .left)) (now (x .right)) (x .t) (x .u) czero
 
--- at most 256 entries
-few : (c : tie.At-loop Inv-loop μ-loop) → Sized (start c .args .stride) (start c .args .orbitals)
-few c = let p = start c .pre .0 in sized _ _ (p .2) (p .4)
+-- this turn's row lies within the slice
+within : (c : tie.In-loop Inv-loop μ-loop) → let l = c .before in let w = 2 * start l .args .orbitals in (l .loop .a * w + w ≤ length (l .loop .out)) × (length (l .loop .out) ≤ 512)
+within c =
+    let l = c .before in
+    let s = start l in
+    let n = s .args .orbitals in
+    let e = mul-left-comm n 2 n in
+    let most = product-most n n (s .pre .0 .4) (s .pre .0 .4) in
+    let rows = part-within (2 * n) (c .loop-test .taken) in
+    let i = l .loop .inv in
+    (omega (arith, s .pre .1 .1 .1 .1), omega (arith, s .pre .1 .1 .1 .1))
 
--- the entry of this turn
-placed : (c : tie.In-loop Inv-loop μ-loop) → let x = start (c .before) .args in let m = c .before .loop .m in
-    Placed (x .stride) (x .orbitals) (x .t) (x .u) (m / x .orbitals) (m % x .orbitals)
-placed c =
-    let p = start (c .before) .pre .0 in
-    let at = flat-place (c .before .loop .m) _ _ (c .loop-test .taken) in
-    record { first = p .0; second = p .1; row = at .row; column = at .column; stride-most = p .2; orbitals-most = p .4 }
+-- what the row holds
+abbrev row : tie.After-sum-row Inv-loop μ-loop → List Float
+row r = r .sum-row .last .1 .1 .1 .1 .1 .1 .1 .1 .1 .0
 
--- at the first entry that is not finite
+-- the row's test
+told : (c : tie.After-write-row Inv-loop μ-loop) → let l = c .before .before .before .before .before .before .before in
+    eqb (start l .args .sum .count) 0 || c .write-row .result ≡ allBelow (start l .args .orbitals) (finiteSum (start l .args .orbitals) (terms l) (l .loop .a))
+told c =
+    let r = c .before .before .before .before in
+    let l = r .before .before .before in
+    let s = start l in
+    ap (λ (f : Bool). eqb (s .args .sum .count) 0 || f) (c .write-row .ensures .0) ∙ row-finite (s .args .orbitals) (terms l) (l .loop .a) (row r) (r .sum-row .ensures)
+
 returns : tie.Need-returns Inv-loop μ-loop
 unfolding blockFine
 returns c =
-    let e = c .before .before in
-    let l = e .before .before in
+    let w = c .before .before .before in
+    let t = w .before .before .before .before .before .before in
+    let l = t .before in
     let n = start l .args .orbitals in
-    let m = l .loop .m in
-    let failed = of-overflow n (terms l) (m / n) (m % n) (sym (c .enum-told .given .1) ∙ e .sum-entry .ensures) in
-    (sym (one-failed n n (finiteSum n (terms l)) m (e .before .loop-test .taken) failed), λ h. never h)
+    (sym (all-no (λ k. allBelow n (finiteSum n (terms l) k)) n (l .loop .a) (t .loop-test .taken) (sym (told w) ∙ not-true _ (c .if1 .taken))), λ h. never h)
 
 loop-again : tie.Need-loop-again Inv-loop μ-loop
 loop-again c =
-    let put = c .before .before in
-    let told = put .before .before .before in
-    let e = told .before .before in
-    let l = e .before .before in
-    let n = start l .args .orbitals in
-    let m = l .loop .m in
-    let made = of-finite n (terms l) (m / n) (m % n) _ (sym (told .made .given .1) ∙ e .sum-entry .ensures) in (
+    let o = c .before .before in
+    let w = o .before in
+    let r = w .before .before .before .before in
+    let t = r .before .before in
+    let l = t .before in
+    let x = start l .args in
+    let n = x .orbitals in
+    let a = l .loop .a in
+    let i = l .loop .inv in
+    let f = weightedSum n (terms l) in
+    let e = w .write-row .ensures .1 ∙ row-cells n (terms l) a (row r) (r .sum-row .ensures) in
+    let h = within t in (
       omega arith,
-      put .put .kept .0 ∙ l .loop .inv .1,
-      rw (all-more, l .loop .inv .2) (made .0),
-      cells-next _ _ _ m (λ k. weightedSum n (terms l) (k / n) (k % n)) _ (l .loop .inv .3) (made .1) (put .put .ensures) (omega (arith, few l, start l .pre .1 .1 .1 .1)),
+      o .out .given .1 ∙ i .1,
+      r .sum-row .kept .1 .1 .1 .1 .1 .1 .1 .1 .1 .0 ∙ i .2,
+      rw (all-more, i .3) (sym (told w) ∙ not-false _ (c .if1 .left)),
+      rw (i .4, e, join-more) (over-part (now (x .out)) (join a (rowOf n f)) (rowOf n f a) (a * (2 * n)) (a * (2 * n) + 2 * n - a * (2 * n)) (length-rows n f a) (length-cells n (f a) ∙ omega arith)),
     )
 
 returns-2 : tie.Need-returns-2 Inv-loop μ-loop
@@ -84,9 +103,10 @@ unfolding blockFine
 returns-2 c =
     let l = c .before in
     let i = l .loop .inv in
-    let n = start l .args .orbitals in
-    let e : l .loop .m ≡ n * n = le-antisymm (i .0) (c .loop-test .left) in
-    (sym (all-tested n n (finiteSum n (terms l)) (l .loop .m) e (i .2)), λ h. block-laid n (weightedSum n (terms l)) _ _ (l .loop .m) e (start l .pre .1 .1 .1 .1) (i .3))
+    let s = start l in
+    let n = s .args .orbitals in
+    let e : l .loop .a ≡ n = le-antisymm (i .0) (c .loop-test .left) in
+    (sym (ap (λ (k : ℕ). allBelow k (λ a. allBelow n (finiteSum n (terms l) a))) (sym e) ∙ i .3), λ h. rows-laid n (weightedSum n (terms l)) _ _ (l .loop .a) e (s .pre .1 .1 .1 .1) (i .4))
 
 pub block-spec : {M : Type 1} → statement M
 unfolding allBelow join
@@ -95,17 +115,21 @@ block-spec =
     (tie.spec
     Inv-loop
     μ-loop
-    (λ c. let p = c .before .before .before .before .pre .0 in let s = sized (c .before .before .before .before .args .stride) (c .before .before .before .before .args .orbitals) (p .2) (p .4) in omega arith)  -- mul-count
-    (λ c. (omega arith, refl, refl, sym (over-none _)))  -- loop-holds
-    (λ c. search needs)  -- div-a
-    (λ c. search needs)  -- rem-b
-    (λ c κs. let p = start (c .before) .pre .1 in (placed c, (p .0, (p .1 .0, p .1 .1 .0))))  -- sum-entry-requires
-    (λ c. search needs)  -- enum-known-made
-    (λ c. search needs)  -- enum-told
+    (λ c. search needs)  -- mul-width
+    (λ c. (omega arith, refl, refl, refl, sym (over-none _)))  -- loop-holds
+    (λ c. let h = within c in omega arith)  -- mul-start
+    (λ c. let h = within c in omega arith)  -- add-end
+    (λ c. search needs)  -- slice-aggregate-sum-row
+    (λ c κs. let p = start (c .before .before) .pre in (record { first = p .0 .0; second = p .0 .1; row = c .before .loop-test .taken; column = p .0 .3; stride-most = p .0 .2; orbitals-most = p .0 .4 }, (p .1 .0, (p .1 .1 .0, (p .1 .1 .1 .0, c .before .before .loop .inv .2)))))  -- sum-row-requires
+    (λ c. search needs)  -- slice-aggregate-write-row
+    (λ c. let h = within (c .before .before .before .before) in omega arith)  -- mul-write-row
+    (λ c. let h = within (c .before .before .before .before) in omega arith)  -- sub-write-row
+    (λ c. let h = within (c .before .before .before .before) in omega arith)  -- part-write-row-start
+    (λ c. let h = within (c .before .before .before .before) in omega arith)  -- part-write-row-end
+    (λ c κs. search needs)  -- write-row-requires
     (λ c. search needs)  -- same-length
     returns
-    (λ c κs. search needs)  -- put-requires
-    (λ c. let l = c .before .before .before .before .before .before .before .before .before in omega (arith, few l))  -- add-m
+    (λ c. search needs)  -- add-a
     (λ c. search needs)  -- loop-less
     loop-again
     (λ c. search needs)  -- same-length-2

@@ -1,8 +1,8 @@
 -- `two_time::sums::product_entry` meets its contract: before turn k both places are those of term k, and the sum has the first k terms.
 -- Assumes nothing.
-use mathlib.Core.Path.{_≡_, refl, sym, ap, ap₂, _∙_}
+use mathlib.Core.Path.{_≡_, sym, ap, ap₂, _∙_}
 use mathlib.Core.List.{List}
-use Prim.Native.Nat.{ℕ, _+_, _-_, _≤_, _<_}
+use Prim.Native.Nat.{ℕ, _+_, _-_, _≤_}
 use native.Mathlib.Nat.{le-antisymm}
 use native.Mathlib.Omega.{arith}
 use lib.Ieee.{Float}
@@ -15,10 +15,10 @@ use Rattle.complex.specs.Sum.{sumFrom}
 use Rattle.complex.specs.Agreement.{sum-more, sum-none}
 use Rattle.matrix.specs.Operations.{product}
 use Rattle.two_time.specs.declared.sums.Factor.{Factor}
-use Rattle.two_time.specs.Layout.{place, readAs, lengthOf}
+use Rattle.two_time.specs.Layout.{place, readAs}
 use Rattle.two_time.specs.Sums.{rightBy}
-use Rattle.two_time.specs.Places.{Placed, Within, within, Sized, sized}
-use Rattle.two_time.specs.Walking.{rightPlace, rightStep, rightNumber, right-read, left-next, right-next, right-inside, step-most}
+use Rattle.two_time.specs.Places.{entry-placed}
+use Rattle.two_time.specs.Walking.{rightPlace, rightNumber, right-read, left-next, right-next, Walked, walked}
 use Rattle.two_time.proofs.sums.product_entry.Statement.{statement}
 use Rattle.two_time.proofs.sums.product_entry.Tie as tie
 
@@ -38,34 +38,12 @@ abbrev start : tie.At-loop Inv-loop μ-loop → tie.Start Inv-loop μ-loop
 start c = c .before .before .before .before .before .before
 
 -- the places of turn k lie in the functions
-record Turn (c : tie.In-loop Inv-loop μ-loop) : Type 0 where
-  left : c .before .loop .i + 1 < lengthOf (start (c .before) .args .stride) (start (c .before) .args .orbitals)
-  right : c .before .loop .j + 1 < lengthOf (start (c .before) .args .stride) (start (c .before) .args .orbitals)
-  all : lengthOf (start (c .before) .args .stride) (start (c .before) .args .orbitals) ≤ 33554432
-  step : c .before .before .right-step .result ≤ 32
-
-turn : (c : tie.In-loop Inv-loop μ-loop) → Turn c
+turn : (c : tie.In-loop Inv-loop μ-loop) → let x = start (c .before) .args in
+    Walked (x .stride) (x .orbitals) (c .before .loop .i) (c .before .loop .j) (c .before .before .right-step .result)
 turn c =
     let l = c .before in
-    let x = start l .args in
-    let p = start l .pre .0 in
-    let q = start l .pre .1 .0 in
-    let k = c .loop-test .taken in
-    let here : Placed (x .stride) (x .orbitals) (x .t) (x .s) (x .a) (l .loop .k) =
-    record { first = p .first; second = p .second; row = p .row; column = k; stride-most = p .stride-most; orbitals-most = p .orbitals-most } in
-    let there : Placed (x .stride) (x .orbitals) (x .s) (x .u) (l .loop .k) (x .b) =
-    record { first = q .first; second = q .second; row = k; column = q .column; stride-most = q .stride-most; orbitals-most = q .orbitals-most } in
-    record {
-      left = omega (arith, l .loop .inv .2, within here .inside);
-      right = omega (arith, l .loop .inv .3, right-inside (x .factor) there);
-      all = sized _ _ (p .stride-most) (p .orbitals-most) .all;
-      step = omega (arith, l .before .right-step .ensures, step-most (x .factor) (x .orbitals) (p .orbitals-most));
-    }
-
-right-place-requires : tie.Need-right-place-requires Inv-loop μ-loop
-right-place-requires c κs =
-    let q = c .before .before .before .pre .1 .0 in
-    record { first = q .first; second = q .second; row = omega (arith, q .row); column = q .column; stride-most = q .stride-most; orbitals-most = q .orbitals-most }
+    let s = start l in
+    walked (s .args .factor) (s .pre .1 .0) (l .loop .k) (l .loop .j) (c .loop-test .taken) (l .loop .inv .3) (l .loop .i) _ (s .pre .0) (l .loop .inv .2) (l .before .right-step .ensures)
 
 loop-again : tie.Need-loop-again Inv-loop μ-loop
 loop-again c =
@@ -90,8 +68,8 @@ product-entry-spec =
     (tie.spec
     Inv-loop
     μ-loop
-    (λ c κs. let p = c .before .before .pre .0 in record { first = p .first; second = p .second; row = p .row; column = omega (arith, p .column); stride-most = p .stride-most; orbitals-most = p .orbitals-most })  -- place-requires
-    right-place-requires
+    (λ c κs. let p = c .before .before .pre .0 in entry-placed _ 0 p (p .row) (omega (arith, p .column)))  -- place-requires
+    (λ c κs. let q = c .before .before .before .pre .1 .0 in entry-placed 0 _ q (omega (arith, q .row)) (q .column))  -- right-place-requires
     (λ c κs. c .before .before .before .before .pre .0 .orbitals-most)  -- right-step-requires
     (λ c. (omega arith, sym (sum-none czero _ 0), c .before .before .place .ensures .0, c .before .right-place .ensures))  -- loop-holds
     (λ c. let t = turn c in omega arith)  -- mul-t19
