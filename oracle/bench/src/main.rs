@@ -1,4 +1,8 @@
-//! Both convolutions beside the port's, on the same inputs in one run, and the support test. `bench/run` builds and runs it.
+//! Both convolutions, Dyson and the transient run beside the port's, on the same inputs in one run, and the support test. `bench/run`
+//! builds and runs it.
+mod runs;
+mod transient;
+
 use keldysh_green::{Complex64, DenseMatrix, RealTimeGrid, TwoTimeMatrix};
 use std::hint::black_box;
 use std::time::Instant;
@@ -56,6 +60,12 @@ fn numbers(f: &TwoTimeMatrix) -> Vec<f64> {
     blocks.flat_map(|b| b.as_slice().iter().flat_map(|z| [z.re, z.im])).collect()
 }
 
+/// How many numbers differ in bits.
+fn unequal(xs: &[f64], ys: &[f64]) -> usize {
+    assert_eq!(xs.len(), ys.len());
+    xs.iter().zip(ys).filter(|(x, y)| x.to_bits() != y.to_bits()).count()
+}
+
 fn milliseconds<T>(work: impl FnOnce() -> T) -> (f64, T) {
     let start = Instant::now();
     let made = work();
@@ -67,7 +77,7 @@ type Theirs = fn(&RealTimeGrid, &TwoTimeMatrix, &TwoTimeMatrix) -> keldysh_green
 
 fn main() {
     let rounds: usize = std::env::args().nth(1).map_or(15, |text| text.parse().unwrap());
-    println!("{:<28} {:>4} {:>3} {:>10} {:>10} {:>8}", "function", "N", "n", "here ms", "Rust ms", "ratio");
+    println!("{:<29} {:>4} {:>3} {:>10} {:>10} {:>8}", "function", "N", "n", "here ms", "Rust ms", "ratio");
     let calls: [(&str, bool, Ours, Theirs); 2] = [
         ("time_convolution", false, here::time_convolution, keldysh_green::time_convolution),
         ("causal_volterra_convolution", true, here::causal_volterra_convolution, keldysh_green::causal_volterra_convolution),
@@ -81,12 +91,13 @@ fn main() {
         }
     }
     support(rounds);
+    unequal += runs::runs(rounds);
     println!("{unequal} numbers differ in bits");
     assert_eq!(unequal, 0);
 }
 
 fn line(name: &str, points: usize, orbitals: usize, here: f64, there: f64) {
-    println!("{name:<28} {points:>4} {orbitals:>3} {here:>10.3} {there:>10.3} {:>8.2}", here / there);
+    println!("{name:<29} {points:>4} {orbitals:>3} {here:>10.3} {there:>10.3} {:>8.2}", here / there);
 }
 
 /// The least time of each side, which take turns, and how many numbers differ in bits. A first round warms both and compares.
@@ -100,7 +111,7 @@ fn convolution(rounds: usize, points: usize, orbitals: usize, retarded: bool, ou
     let mut out = vec![1.0; left.len()];
     assert_eq!(ours(&times, &left, &right, points, orbitals, &mut out).number, 0);
     let made = numbers(&theirs(&grid, &port_left, &port_right).unwrap());
-    let unequal = made.iter().zip(&out).filter(|(x, y)| x.to_bits() != y.to_bits()).count();
+    let unequal = unequal(&made, &out);
     let mut least = (f64::INFINITY, f64::INFINITY);
     for _ in 0..rounds {
         let (time, answer) = milliseconds(|| ours(&times, &left, &right, points, orbitals, black_box(&mut out)));

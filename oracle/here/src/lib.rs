@@ -83,6 +83,86 @@ mod exported {
             part: *mut f64,
             part_len: usize,
         ) -> u8;
+
+        pub fn retarded_dyson_with_tolerance(
+            times: *const f64,
+            times_len: usize,
+            free: *const f64,
+            free_len: usize,
+            sigma: *const f64,
+            sigma_len: usize,
+            points: usize,
+            orbitals: usize,
+            tolerance: f64,
+            green: *mut f64,
+            green_len: usize,
+            kernel: *mut f64,
+            kernel_len: usize,
+            places: *mut usize,
+            places_len: usize,
+            part: *mut f64,
+            part_len: usize,
+        ) -> u8;
+
+        pub fn transient_run(
+            times: *const f64,
+            times_len: usize,
+            free: *const f64,
+            free_len: usize,
+            sigma: *const f64,
+            sigma_len: usize,
+            source: *const f64,
+            source_len: usize,
+            points: usize,
+            orbitals: usize,
+            tolerance: f64,
+            green: *mut f64,
+            green_len: usize,
+            lesser: *mut f64,
+            lesser_len: usize,
+            kernel: *mut f64,
+            kernel_len: usize,
+            mixed: *mut f64,
+            mixed_len: usize,
+            places: *mut usize,
+            places_len: usize,
+            part: *mut f64,
+            part_len: usize,
+        ) -> u8;
+
+        pub fn particle_number(
+            lesser: *const f64,
+            lesser_len: usize,
+            points: usize,
+            orbitals: usize,
+            time: usize,
+            tolerance: f64,
+            value: *mut f64,
+            value_len: usize,
+            places: *mut usize,
+            places_len: usize,
+            part: *mut f64,
+            part_len: usize,
+        ) -> u8;
+
+        pub fn bond_flow_into(
+            lesser: *const f64,
+            lesser_len: usize,
+            points: usize,
+            orbitals: usize,
+            time: usize,
+            a: usize,
+            b: usize,
+            real: f64,
+            imaginary: f64,
+            charge: f64,
+            value: *mut f64,
+            value_len: usize,
+            places: *mut usize,
+            places_len: usize,
+            part: *mut f64,
+            part_len: usize,
+        ) -> u8;
     }
 }
 
@@ -131,9 +211,153 @@ pub fn check_retarded_support(xs: &[f64], points: usize, orbitals: usize, tolera
     })
 }
 
+/// G, and K in the scratch.
+#[allow(clippy::too_many_arguments)]
+pub fn retarded_dyson_with_tolerance(
+    times: &[f64],
+    free: &[f64],
+    sigma: &[f64],
+    points: usize,
+    orbitals: usize,
+    tolerance: f64,
+    green: &mut [f64],
+    kernel: &mut [f64],
+) -> Answer {
+    answer(|places, part| unsafe {
+        exported::retarded_dyson_with_tolerance(
+            times.as_ptr(),
+            times.len(),
+            free.as_ptr(),
+            free.len(),
+            sigma.as_ptr(),
+            sigma.len(),
+            points,
+            orbitals,
+            tolerance,
+            green.as_mut_ptr(),
+            green.len(),
+            kernel.as_mut_ptr(),
+            kernel.len(),
+            places.as_mut_ptr(),
+            places.len(),
+            part.as_mut_ptr(),
+            part.len(),
+        )
+    })
+}
+
+/// G^R and G^<, and K and X in the scratch.
+#[allow(clippy::too_many_arguments)]
+pub fn transient_run(
+    times: &[f64],
+    free: &[f64],
+    sigma: &[f64],
+    source: &[f64],
+    points: usize,
+    orbitals: usize,
+    tolerance: f64,
+    green: &mut [f64],
+    lesser: &mut [f64],
+    kernel: &mut [f64],
+    mixed: &mut [f64],
+) -> Answer {
+    answer(|places, part| unsafe {
+        exported::transient_run(
+            times.as_ptr(),
+            times.len(),
+            free.as_ptr(),
+            free.len(),
+            sigma.as_ptr(),
+            sigma.len(),
+            source.as_ptr(),
+            source.len(),
+            points,
+            orbitals,
+            tolerance,
+            green.as_mut_ptr(),
+            green.len(),
+            lesser.as_mut_ptr(),
+            lesser.len(),
+            kernel.as_mut_ptr(),
+            kernel.len(),
+            mixed.as_mut_ptr(),
+            mixed.len(),
+            places.as_mut_ptr(),
+            places.len(),
+            part.as_mut_ptr(),
+            part.len(),
+        )
+    })
+}
+
+/// A number, or the refusal.
+fn observe(call: impl FnOnce(&mut [f64; 1], &mut [usize; 3], &mut [f64; 1]) -> u8) -> Result<f64, Answer> {
+    let mut value = [0.0; 1];
+    let answer = answer(|places, part| call(&mut value, places, part));
+    if answer.number == 0 {
+        Ok(value[0])
+    } else {
+        Err(answer)
+    }
+}
+
+pub fn particle_number(lesser: &[f64], points: usize, orbitals: usize, time: usize, tolerance: f64) -> Result<f64, Answer> {
+    observe(|value, places, part| unsafe {
+        exported::particle_number(
+            lesser.as_ptr(),
+            lesser.len(),
+            points,
+            orbitals,
+            time,
+            tolerance,
+            value.as_mut_ptr(),
+            value.len(),
+            places.as_mut_ptr(),
+            places.len(),
+            part.as_mut_ptr(),
+            part.len(),
+        )
+    })
+}
+
+/// The flow into orbital a from b, of a hopping by its real and its imaginary part.
+#[allow(clippy::too_many_arguments)]
+pub fn bond_flow_into(
+    lesser: &[f64],
+    points: usize,
+    orbitals: usize,
+    time: usize,
+    a: usize,
+    b: usize,
+    hopping: [f64; 2],
+    charge: f64,
+) -> Result<f64, Answer> {
+    observe(|value, places, part| unsafe {
+        exported::bond_flow_into(
+            lesser.as_ptr(),
+            lesser.len(),
+            points,
+            orbitals,
+            time,
+            a,
+            b,
+            hopping[0],
+            hopping[1],
+            charge,
+            value.as_mut_ptr(),
+            value.len(),
+            places.as_mut_ptr(),
+            places.len(),
+            part.as_mut_ptr(),
+            part.len(),
+        )
+    })
+}
+
 #[cfg(test)]
 mod tests {
-    use super::{causal_volterra_convolution, check_retarded_support, Answer};
+    use super::{bond_flow_into, causal_volterra_convolution, check_retarded_support, particle_number};
+    use super::{retarded_dyson_with_tolerance, transient_run, Answer};
 
     const ACCEPTED: Answer = Answer { number: 0, operand: 0, first: 0, second: 0, part: 0.0 };
 
@@ -162,5 +386,49 @@ mod tests {
         let ones = [1.0, 0.0, 1.0, 0.0, 1.0, 0.0, 1.0, 0.0];
         assert_eq!(causal_volterra_convolution(&[0.0, 1.0], &ones, &ones, 2, 1, &mut out), ACCEPTED);
         assert_eq!(out, [0.0, 0.0, 0.0, 0.0, 1.0, 0.0, 0.0, 0.0]);
+    }
+
+    #[test]
+    fn dyson() {
+        let (times, retarded) = ([0.0, 1.0], [1.0, 0.0, 0.0, 0.0, 1.0, 0.0, 1.0, 0.0]);
+        let (mut green, mut kernel) = ([5.0; 8], [6.0; 8]);
+        let mut solve =
+            |sigma: &[f64], tolerance| retarded_dyson_with_tolerance(&times, &retarded, sigma, 2, 1, tolerance, &mut green, &mut kernel);
+        assert_eq!(solve(&[1.0; 8], 0.5), Answer { number: 9, operand: 1, second: 1, part: 1.0, ..ACCEPTED });
+        assert_eq!(solve(&retarded, 0.0), Answer { number: 8, ..ACCEPTED });
+        assert_eq!(solve(&retarded, 0.5), ACCEPTED);
+        // K(1,0) = 1/2·1 + 1/2·1, and G(1,0) = 1 + 1/2·K(1,0)·G(0,0).
+        assert_eq!(kernel, [0.0, 0.0, 0.0, 0.0, 1.0, 0.0, 0.0, 0.0]);
+        assert_eq!(green, [1.0, 0.0, 0.0, 0.0, 1.5, 0.0, 1.0, 0.0]);
+    }
+
+    #[test]
+    fn transient() {
+        let (times, retarded) = ([0.0, 1.0], [1.0, 0.0, 0.0, 0.0, 1.0, 0.0, 1.0, 0.0]);
+        let (mut green, mut lesser, mut kernel, mut mixed) = ([5.0; 8], [6.0; 8], [7.0; 8], [8.0; 8]);
+        let mut run = |source: &[f64]| {
+            transient_run(&times, &retarded, &retarded, source, 2, 1, 0.5, &mut green, &mut lesser, &mut kernel, &mut mixed)
+        };
+        let mut source = [0.0, 1.0, 0.0, 1.0, 0.0, 1.0, 0.0, f64::NAN];
+        assert_eq!(run(&source), Answer { number: 7, operand: 2, first: 7, ..ACCEPTED });
+        source[7] = 1.0;
+        assert_eq!(run(&source), ACCEPTED);
+        assert_eq!(kernel, [0.0, 0.0, 0.0, 0.0, 1.0, 0.0, 0.0, 0.0]);
+        assert_eq!(green, [1.0, 0.0, 0.0, 0.0, 1.5, 0.0, 1.0, 0.0]);
+        // X(t,1) = 1/2·i·3/2 + 1/2·i·1, and G^<(1,1) = 1/2·3/2·X(0,1) + 1/2·1·X(1,1).
+        assert_eq!(mixed, [0.0, 0.0, 0.0, 1.25, 0.0, 0.0, 0.0, 1.25]);
+        assert_eq!(lesser, [0.0, 0.0, 0.0, 0.0, 0.0, 0.0, 0.0, 1.5625]);
+        assert_eq!(particle_number(&lesser, 2, 1, 1, 0.5), Ok(1.5625));
+    }
+
+    #[test]
+    fn observables() {
+        let lesser = [0.0, 1.0, 0.0, 0.0, 0.0, 0.0, 2.0, 3.0];
+        assert_eq!(particle_number(&lesser, 2, 1, 0, 0.5), Ok(1.0));
+        assert_eq!(particle_number(&lesser, 2, 1, 1, 0.5), Err(Answer { number: 14, part: -2.0, ..ACCEPTED }));
+        assert_eq!(particle_number(&lesser, 2, 1, 2, 0.5), Err(Answer { number: 11, ..ACCEPTED }));
+        // 2·3·Im(i·(3 − 2i))
+        assert_eq!(bond_flow_into(&lesser, 2, 1, 1, 0, 0, [0.0, 1.0], 3.0), Ok(18.0));
+        assert_eq!(bond_flow_into(&lesser, 2, 1, 1, 0, 1, [0.0, 1.0], 3.0), Err(Answer { number: 12, ..ACCEPTED }));
     }
 }

@@ -10,7 +10,7 @@ returns-2 c =
     let t = c .before .before in
     let p = t .before .before .before .before in
     let e = told-refused _ _ _ _ (p .before .before .before .verdict .given .1) in
-    (e .0, p .tell-places .ensures ∙ e .1, t .tell-part .ensures ∙ e .2)
+    (e .0, p .tell-places .ensures ∙ e .1, t .tell-number .ensures ∙ e .2)
 
 pub tell-spec : {M : Type 1} → statement M
 tell-spec =
@@ -19,7 +19,7 @@ tell-spec =
     (λ c. search needs)  -- enum-told
     (λ c. search needs)  -- enum-known-verdict
     (λ c κs. search needs)  -- tell-places-requires
-    (λ c κs. search needs)  -- tell-part-requires
+    (λ c κs. search needs)  -- tell-number-requires
     (λ c. told-pass _ _ _ (c .enum-told .given .1))  -- returns
     (λ c. search needs)  -- same-length
     (λ c. search needs)  -- same-length-2
