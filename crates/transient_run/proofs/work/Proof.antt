@@ -10,8 +10,10 @@ use borrow.Author.Needs.{needs}
 use Rattle.lists.specs.Agreement.{never}
 use Rattle.two_time.specs.Layout.{lengthOf}
 use Rattle.two_time.specs.SizeLines.{SizesPassed, sizes-passed, long-first}
+use Rattle.dyson.specs.Calls.{greenFine}
 use Rattle.dyson.specs.Outcome.{Left}
-use Rattle.transient_run.specs.Work.{green-passed, green-refused, mixed-passed, mixed-refused, lesser-passed, lesser-refused}
+use Rattle.transient_run.specs.Lesser.{mixedFine}
+use Rattle.transient_run.specs.Work.{workGreen, workKernel, workMixed, green-passed, green-refused, mixed-passed, mixed-refused, lesser-passed, lesser-refused}
 use Rattle.transient_run.proofs.work.Statement.{statement}
 use Rattle.transient_run.proofs.work.Tie as tie
 
@@ -46,54 +48,95 @@ start c = c .before .before .before .before .before .before .before .before .bef
 abbrev solved : tie.After-enum-told → tie.After-solve-retarded
 solved c = c .before .before .before .before .before .before
 
+abbrev first : tie.After-weighted-sums → tie.After-enum-told
+first c = c .before .before .before
+
+abbrev second : tie.After-weighted-sums2 → tie.After-enum-told3
+second c = c .before .before .before .before
+
+abbrev summed : tie.After-enum-told3 → tie.After-weighted-sums
+summed c = c .before .before .before .before
+
+-- what the first call left
+abbrev greenLeft : tie.After-solve-retarded → List Float
+greenLeft s = s .solve-retarded .last .1 .1 .1 .1 .1 .0
+
+abbrev kernelLeft : tie.After-solve-retarded → List Float
+kernelLeft s = s .solve-retarded .last .1 .1 .1 .1 .1 .1 .0
+
+left : (s : tie.After-solve-retarded) → let x = start s .args in
+    Left (x .points) (x .orbitals) (now (x .times)) (now (x .free)) (now (x .sigma)) (now (x .green)) (now (x .kernel)) (s .solve-retarded .result) (greenLeft s) (kernelLeft s)
+left s = let e = s .solve-retarded .ensures in record { answered = e .0; green = e .1; scratch = e .2 }
+
+-- K and G^R are made
+greens : (c : tie.After-enum-told) → let s = solved c in let x = start s .args in
+    (greenFine (x .points) (x .orbitals) (now (x .times)) (now (x .free)) (now (x .sigma)) ≡ true)
+    × (greenLeft s ≡ workGreen (x .points) (x .orbitals) (now (x .times)) (now (x .free)) (now (x .sigma)) (now (x .source)))
+    × (kernelLeft s ≡ workKernel (x .points) (x .orbitals) (now (x .times)) (now (x .free)) (now (x .sigma)) (now (x .source)))
+greens c =
+    let s = solved c in
+    let x = start s .args in
+    let l = lent (start s) in
+    green-passed (x .points) (x .orbitals) (now (x .times)) (now (x .free)) (now (x .sigma)) (now (x .source)) (l .sizes) (l .free) (l .sigma) (l .source) (now (x .green)) (now (x .kernel)) (l .green) (l .kernel) _ _ _ (left s) (c .enum-told .given .1)
+
+green-long : (s : tie.After-solve-retarded) → length (greenLeft s) ≡ lengthOf (start s .args .points) (start s .args .orbitals)
+green-long s = s .solve-retarded .kept .1 .1 .1 .1 .1 .0 ∙ lent (start s) .green
+
+-- what the second left, and that X is made
+abbrev mixedLeft : tie.After-weighted-sums → List Float
+mixedLeft m = m .weighted-sums .last .1 .1 .1 .1 .1 .1 .0
+
+mixeds : (c : tie.After-enum-told3) → let m = summed c in let x = start (solved (first m)) .args in
+    (mixedFine (x .points) (x .orbitals) (now (x .times)) (now (x .source)) (workGreen (x .points) (x .orbitals) (now (x .times)) (now (x .free)) (now (x .sigma)) (now (x .source))) ≡ true)
+    × (mixedLeft m ≡ workMixed (x .points) (x .orbitals) (now (x .times)) (now (x .free)) (now (x .sigma)) (now (x .source)))
+mixeds c =
+    let m = summed c in
+    let s = solved (first m) in
+    let x = start s .args in
+    let l = lent (start s) in
+    let g = greens (first m) in
+    mixed-passed (x .points) (x .orbitals) (now (x .times)) (now (x .free)) (now (x .sigma)) (now (x .source)) (l .sizes) (l .free) (l .sigma) (l .source) (g .0) _ (g .1) (green-long s) (now (x .mixed)) (l .mixed) _ _ (m .weighted-sums .ensures .0) (m .weighted-sums .ensures .1) (c .enum-told3 .given .1)
+
+mixed-long : (c : tie.After-enum-told3) → let m = summed c in let x = start (solved (first m)) .args in length (mixedLeft m) ≡ lengthOf (x .points) (x .orbitals)
+mixed-long c = let m = summed c in m .weighted-sums .kept .1 .1 .1 .1 .1 .1 .0 ∙ lent (start (solved (first m))) .mixed
+
 returns : tie.Need-returns
 returns c =
     let s = c .before .before .before .before .before .before in
     let x = start s .args in
     let l = lent (start s) in
-    let e = s .solve-retarded .ensures in
-    (sym (green-refused (x .points) (x .orbitals) (now (x .times)) (now (x .free)) (now (x .sigma)) (now (x .source)) (l .sizes) (l .free) (l .sigma) (l .source) (now (x .green)) (now (x .kernel)) (l .green) (l .kernel) _ _ _ (record { answered = e .0; green = e .1; scratch = e .2 }) _ (c .enum-told2 .given .1)), λ h. never h)
+    (sym (green-refused (x .points) (x .orbitals) (now (x .times)) (now (x .free)) (now (x .sigma)) (now (x .source)) (l .sizes) (l .free) (l .sigma) (l .source) (now (x .green)) (now (x .kernel)) (l .green) (l .kernel) _ _ _ (left s) _ (c .enum-told2 .given .1)), λ h. never h)
 
 returns-2 : tie.Need-returns-2
 returns-2 c =
     let m = c .before .before .before .before in
-    let e1 = m .before .before .before in
-    let s = solved e1 in
+    let s = solved (first m) in
     let x = start s .args in
     let l = lent (start s) in
-    let e = s .solve-retarded .ensures in
-    let g = green-passed (x .points) (x .orbitals) (now (x .times)) (now (x .free)) (now (x .sigma)) (now (x .source)) (l .sizes) (l .free) (l .sigma) (l .source) (now (x .green)) (now (x .kernel)) (l .green) (l .kernel) _ _ _ (record { answered = e .0; green = e .1; scratch = e .2 }) (e1 .enum-told .given .1) in
-    (sym (mixed-refused (x .points) (x .orbitals) (now (x .times)) (now (x .free)) (now (x .sigma)) (now (x .source)) (l .sizes) (l .free) (l .sigma) (l .source) (g .0) _ (g .1) (s .solve-retarded .kept .1 .1 .1 .1 .1 .0 ∙ l .green) (now (x .mixed)) (l .mixed) _ _ (m .weighted-sums .ensures .0) (m .weighted-sums .ensures .1) _ (c .enum-told4 .given .1)), λ h. never h)
+    let g = greens (first m) in
+    (sym (mixed-refused (x .points) (x .orbitals) (now (x .times)) (now (x .free)) (now (x .sigma)) (now (x .source)) (l .sizes) (l .free) (l .sigma) (l .source) (g .0) _ (g .1) (green-long s) (now (x .mixed)) (l .mixed) _ _ (m .weighted-sums .ensures .0) (m .weighted-sums .ensures .1) _ (c .enum-told4 .given .1)), λ h. never h)
 
 returns-3 : tie.Need-returns-3
 returns-3 c =
     let w = c .before .before .before .before in
-    let e3 = w .before .before .before .before in
-    let m = e3 .before .before .before .before in
-    let e1 = m .before .before .before in
-    let s = solved e1 in
+    let e = second w in
+    let s = solved (first (summed e)) in
     let x = start s .args in
     let l = lent (start s) in
-    let e = s .solve-retarded .ensures in
-    let g = green-passed (x .points) (x .orbitals) (now (x .times)) (now (x .free)) (now (x .sigma)) (now (x .source)) (l .sizes) (l .free) (l .sigma) (l .source) (now (x .green)) (now (x .kernel)) (l .green) (l .kernel) _ _ _ (record { answered = e .0; green = e .1; scratch = e .2 }) (e1 .enum-told .given .1) in
-    let long = s .solve-retarded .kept .1 .1 .1 .1 .1 .0 ∙ l .green in
-    let k = mixed-passed (x .points) (x .orbitals) (now (x .times)) (now (x .free)) (now (x .sigma)) (now (x .source)) (l .sizes) (l .free) (l .sigma) (l .source) (g .0) _ (g .1) long (now (x .mixed)) (l .mixed) _ _ (m .weighted-sums .ensures .0) (m .weighted-sums .ensures .1) (e3 .enum-told3 .given .1) in
-    (sym (lesser-refused (x .points) (x .orbitals) (now (x .times)) (now (x .free)) (now (x .sigma)) (now (x .source)) (l .sizes) (l .free) (l .sigma) (l .source) (g .0) _ (g .1) long (k .0) _ (k .1) (m .weighted-sums .kept .1 .1 .1 .1 .1 .1 .0 ∙ l .mixed) (now (x .lesser)) (l .lesser) _ _ (w .weighted-sums2 .ensures .0) (w .weighted-sums2 .ensures .1) _ (c .enum-told6 .given .1)), λ h. never h)
+    let g = greens (first (summed e)) in
+    let k = mixeds e in
+    (sym (lesser-refused (x .points) (x .orbitals) (now (x .times)) (now (x .free)) (now (x .sigma)) (now (x .source)) (l .sizes) (l .free) (l .sigma) (l .source) (g .0) _ (g .1) (green-long s) (k .0) _ (k .1) (mixed-long e) (now (x .lesser)) (l .lesser) _ _ (w .weighted-sums2 .ensures .0) (w .weighted-sums2 .ensures .1) _ (c .enum-told6 .given .1)), λ h. never h)
 
 returns-4 : tie.Need-returns-4
 returns-4 c =
     let w = c .before .before .before .before in
-    let e3 = w .before .before .before .before in
-    let m = e3 .before .before .before .before in
-    let e1 = m .before .before .before in
-    let s = solved e1 in
+    let e = second w in
+    let s = solved (first (summed e)) in
     let x = start s .args in
     let l = lent (start s) in
-    let e = s .solve-retarded .ensures in
-    let g = green-passed (x .points) (x .orbitals) (now (x .times)) (now (x .free)) (now (x .sigma)) (now (x .source)) (l .sizes) (l .free) (l .sigma) (l .source) (now (x .green)) (now (x .kernel)) (l .green) (l .kernel) _ _ _ (record { answered = e .0; green = e .1; scratch = e .2 }) (e1 .enum-told .given .1) in
-    let long = s .solve-retarded .kept .1 .1 .1 .1 .1 .0 ∙ l .green in
-    let k = mixed-passed (x .points) (x .orbitals) (now (x .times)) (now (x .free)) (now (x .sigma)) (now (x .source)) (l .sizes) (l .free) (l .sigma) (l .source) (g .0) _ (g .1) long (now (x .mixed)) (l .mixed) _ _ (m .weighted-sums .ensures .0) (m .weighted-sums .ensures .1) (e3 .enum-told3 .given .1) in
-    let o = lesser-passed (x .points) (x .orbitals) (now (x .times)) (now (x .free)) (now (x .sigma)) (now (x .source)) (l .sizes) (l .free) (l .sigma) (l .source) (g .0) _ (g .1) long (k .0) _ (k .1) (m .weighted-sums .kept .1 .1 .1 .1 .1 .1 .0 ∙ l .mixed) (now (x .lesser)) (l .lesser) _ _ (w .weighted-sums2 .ensures .0) (w .weighted-sums2 .ensures .1) (c .enum-told5 .given .1) in
+    let g = greens (first (summed e)) in
+    let k = mixeds e in
+    let o = lesser-passed (x .points) (x .orbitals) (now (x .times)) (now (x .free)) (now (x .sigma)) (now (x .source)) (l .sizes) (l .free) (l .sigma) (l .source) (g .0) _ (g .1) (green-long s) (k .0) _ (k .1) (mixed-long e) (now (x .lesser)) (l .lesser) _ _ (w .weighted-sums2 .ensures .0) (w .weighted-sums2 .ensures .1) (c .enum-told5 .given .1) in
     (sym (o .0), λ h. (g .1, o .1, g .2, k .1))
 
 pub work-spec : {M : Type 1} → statement M
