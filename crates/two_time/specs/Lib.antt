@@ -8,6 +8,7 @@ pub mod Calls
 pub mod Outcome
 pub mod Example
 pub mod Cases
+pub mod ReachCases
 pub mod Reading
 pub mod Agreement
 pub mod Places

@@ -1,9 +1,10 @@
 -- `two_time::layout::function_length` meets its contract: cut to the limits, every product fits. Assumes nothing.
-use mathlib.Core.Path.{_≡_, sym, subst}
+use mathlib.Core.Path.{_≡_, ap₂}
 use Prim.Native.Nat.{ℕ, _≤_, min}
 use native.Mathlib.Nat.{min-le-right}
 use native.Mathlib.Omega.{arith}
 use borrow.Author.Needs.{needs}
+use Rattle.two_time.specs.Layout.{lengthOf}
 use Rattle.two_time.specs.Places.{Sized, sized}
 use Rattle.two_time.proofs.layout.function_length.Statement.{statement}
 use Rattle.two_time.proofs.layout.function_length.Tie as tie
@@ -21,4 +22,4 @@ function-length-spec =
     (λ c. let s = cut c in omega arith)  -- mul-result-2
     (λ c. let s = cut c in omega arith)  -- mul-result-3
     (λ c. let s = cut c in omega arith)  -- mul-result-4
-    (λ c. cc))  -- returns
+    (λ c. ap₂ lengthOf (c .before .least .ensures) (c .least2 .ensures)))  -- returns
