@@ -1,5 +1,18 @@
 // The consistency report of the four components (document 01, report): the meaning of each call is in specs/.
+mod identities;
+mod lines;
+mod residuals;
+
+ghost use mathlib.Core.Path.{_≡_};
+ghost use Rattle.report.specs.Calls.{consistencyReport, isConsistent};
+use lines::difference_finite;
+use lines::input_lines;
+use refusal::Decision;
 use refusal::Refusal;
+use refusal::Verdict;
+use refusal::lines::finite_work;
+use refusal::lines::valid_tolerance;
+use residuals::residuals;
 
 // The largest violation of each identity, by norm.
 pub struct ConsistencyReport {
@@ -21,4 +34,47 @@ pub struct ConsistencyReport {
 pub enum Reported {
     Of(ConsistencyReport),
     Refused(Refusal),
+}
+
+impl ConsistencyReport {
+    // Whether all residuals are at most the tolerance. A NaN is not.
+    pub fn is_consistent(self, tolerance: f64) -> Decision
+        ensures { λ r. ⌜ r ≡ isConsistent self tolerance ⌝ }
+    {
+        let verdict = valid_tolerance(tolerance);
+        if let Verdict::Refused(r) = verdict {
+            return Decision::Refused(r);
+        }
+        let all = (self.retarded_causality <= tolerance)
+            & (self.advanced_causality <= tolerance)
+            & (self.advanced_adjoint <= tolerance)
+            & (self.lesser_antihermiticity <= tolerance)
+            & (self.greater_antihermiticity <= tolerance)
+            & (self.spectral_identity <= tolerance);
+        if all { Decision::Yes } else { Decision::No }
+    }
+}
+
+// The six residuals of the components: N·(5·N - 1)·n·n norms. Only the differences G^R - G^A and G^> - G^< can give 10; a residual
+// may be infinite.
+pub fn consistency_report(
+    retarded: &[f64],
+    advanced: &[f64],
+    lesser: &[f64],
+    greater: &[f64],
+    points: usize,
+    orbitals: usize,
+) -> Reported
+    ensures { λ r. ⌜ r ≡ consistencyReport points orbitals (now (retarded .entry)) (now (advanced .entry)) (now (lesser .entry)) (now (greater .entry)) ⌝ }
+{
+    let verdict = input_lines(retarded, advanced, lesser, greater, points, orbitals);
+    if let Verdict::Refused(r) = verdict {
+        return Reported::Refused(r);
+    }
+    let causal = difference_finite(retarded, advanced);
+    let work = finite_work(causal & difference_finite(greater, lesser));
+    if let Verdict::Refused(r) = work {
+        return Reported::Refused(r);
+    }
+    Reported::Of(residuals(retarded, advanced, lesser, greater, points, orbitals))
 }

@@ -3,5 +3,11 @@ pub mod Bytes
 pub mod Decoding
 pub mod Text
 pub mod Program
+pub mod LittleEndian
+pub mod Table
+pub mod Writing
+pub mod Digits
+pub mod Lines
+pub mod Running
 pub mod P12
 pub mod Cases

@@ -26,7 +26,7 @@ use Rattle.observables.specs.Calls.{observed, lesserLines, particleNumber}
 use Rattle.run_file.specs.Bytes.{littleEndian, numbers}
 use Rattle.run_file.specs.Decoding.{tableFits, fileLines, runOf}
 use Rattle.run_file.specs.Text.{decimalIn, decimal, hexDigit, hexadecimal, line, timeLine}
-use Rattle.run_file.specs.Program.{runText, solvedText, fileText, printed}
+use Rattle.run_file.specs.Program.{runText, solvedText, runAnswer, fileText, printed}
 
 -- a number in `count` bytes, lowest first, and a list of such numbers
 abbrev pub bytesOf : ℕ → ℕ → List ℕ
@@ -63,11 +63,11 @@ retarded-inputs : supportLines 3 1 defaultTolerance (readAs 3 1 P12.lower) (read
 unfolding supportLines validTolerance retarded retardedAt residual scaleOf ask askAll _then_ largestNorm largestIn largestFrom fold larger norm finite Ieee.ofBits Ieee.div Ieee.lt Ieee.ne Ieee.eq
 retarded-inputs = refl
 
-run-text : runText (P12.run defaultTolerance (replicate 18 plusZero)) (floats P12.lesserBits) ≡ text
+run-text : runText 3 1 defaultTolerance (floats P12.lesserBits) ≡ text
 unfolding runText timeLine line decimal decimalIn hexadecimal hexDigit join particleNumber observed lesserLines sizeLines allLong operandLines largeEnough withinLimits fitting finiteEntries validTolerance timeBelow realWithin ask askAll _then_ trace sumFrom fold density size cadd cmul finite toBits Ieee.ofBits Ieee.add Ieee.sub Ieee.mul Ieee.neg Ieee.lt
 run-text = refl
 
 -- what the program prints
 pub prints : printed file ≡ text
-unfolding printed fileText solvedText
+unfolding printed fileText runAnswer solvedText
 prints = rw (file-passes, file-run, P12.outcome defaultTolerance (replicate 18 plusZero) refl retarded-inputs) run-text

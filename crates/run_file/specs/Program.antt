@@ -1,7 +1,11 @@
 -- Document 01, run file: what the program `transient` prints for the bytes that it reads.
 use Prim.Native.Nat.{ℕ}
 use mathlib.Core.List.{List, [], _∷_, _++_}
+use mathlib.Core.Bool.{cond}
+use lib.Dec.{ltb}
+use lib.ListN.{length}
 use lib.Ieee.{Float}
+use Rattle.lists.specs.Filling.{over}
 use Rattle.lists.specs.Indexed.{join}
 use Rattle.refusal.specs.declared.Verdict.{Verdict}
 use Rattle.refusal.specs.declared.Verdict.the-variants.{Pass, Refused}
@@ -17,20 +21,30 @@ abbrev pub refusedText : ℕ → List ℕ
 refusedText number = line (refusedWord ∷ decimal number ∷ [])
 
 -- "Accepted: `run N n`, then per time" a line: the particle number with the solve's tolerance
-unfoldable pub runText : Run → List Float → List ℕ
-runText r lesser =
-    line (runWord ∷ decimal (r .points) ∷ decimal (r .orbitals) ∷ [])
-    ++ join (r .points) (λ t. timeLine t (particleNumber (r .points) (r .orbitals) lesser t (r .tolerance)))
+unfoldable pub runText : ℕ → ℕ → Float → List Float → List ℕ
+runText points orbitals tolerance lesser =
+    line (runWord ∷ decimal points ∷ decimal orbitals ∷ []) ++ join points (λ t. timeLine t (particleNumber points orbitals lesser t tolerance))
 
 -- the text of a run's answer, with the lesser function that it left
-unfoldable pub solvedText : Run → Solved → List Float → List ℕ
-solvedText r Accepted lesser = runText r lesser
-solvedText r (NotSolved x) lesser = refusedText (x .number)
+unfoldable pub solvedText : ℕ → ℕ → Float → Solved → List Float → List ℕ
+solvedText points orbitals tolerance Accepted lesser = runText points orbitals tolerance lesser
+solvedText points orbitals tolerance (NotSolved r) lesser = refusedText (r .number)
+
+unfoldable pub runAnswer : Run → List ℕ
+runAnswer r = let o = transientRun r in solvedText (r .points) (r .orbitals) (r .tolerance) (o .answer) (o .lesser)
 
 -- the file's own questions, then the run
 unfoldable pub fileText : Verdict → Run → List ℕ
-fileText Pass r = let o = transientRun r in solvedText r (o .answer) (o .lesser)
+fileText Pass r = runAnswer r
 fileText (Refused x) r = refusedText (x .number)
 
 unfoldable pub printed : List ℕ → List ℕ
 printed bytes = fileText (fileLines bytes) (runOf bytes)
+
+-- `print`: the text over the start of a slice that has room for every text, and how many bytes it is; a shorter slice is left as it was
+module _ (bytes out : List ℕ) where
+  unfoldable pub textLength : ℕ
+  textLength = cond (ltb (length out) 512) 0 (length (printed bytes))
+
+  unfoldable pub textWritten : List ℕ
+  textWritten = cond (ltb (length out) 512) out (over out (printed bytes))

@@ -1,0 +1,20 @@
+-- `bits::to_bits` meets its contract: only a NaN differs from itself. Assumes nothing.
+use mathlib.Core.Path.{_≡_, refl, sym, ap, subst}
+use lib.Dec.{T}
+use lib.Ieee.{Float, nan, binary64, toBits}
+use lib.Ieee.Compare.{differs-from-itself}
+use Rattle.norm.specs.Sizes.{equals-itself}
+use Rattle.bits.proofs.to_bits.Statement.{statement}
+use Rattle.bits.proofs.to_bits.Tie as tie
+
+quiet : (x : Float) → x ≡ nan → 0x7ff8_0000_0000_0000 ≡ toBits binary64 x
+unfolding toBits
+quiet x e = ap (toBits binary64) (sym e)
+
+pub to-bits-spec : {M : Type 1} → statement M
+to-bits-spec =
+    tie.close
+    (tie.spec
+    (λ c. quiet (c .before .args .x) (differs-from-itself (c .before .args .x) (subst T (sym (c .if1 .taken)) tt)))  -- returns
+    (λ c. equals-itself (c .before .args .x) (c .if1 .left))  -- float-to-bits-result
+    (λ c. refl))  -- returns-2

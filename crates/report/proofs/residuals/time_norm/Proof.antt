@@ -1,0 +1,32 @@
+-- `report::residuals::time_norm` meets its contract: after u turns the first u places are seen. Assumes nothing.
+use mathlib.Core.Path.{_≡_}
+use Prim.Native.Nat.{_-_, _≤_}
+use native.Mathlib.Nat.{le-antisymm}
+use native.Mathlib.Omega.{arith}
+use borrow.Author.Needs.{needs}
+use Rattle.complex.specs.Sum.{largestFrom}
+use Rattle.report.specs.Identities.{residualAt}
+use Rattle.report.specs.Largest.{largest-none, largest-more}
+use Rattle.report.proofs.residuals.time_norm.Statement.{statement}
+use Rattle.report.proofs.residuals.time_norm.Tie as tie
+
+abbrev Inv-loop : tie.InvT-loop
+Inv-loop identity retarded advanced lesser greater points orbitals t largest most₀ u₀ most u =
+    (u ≤ points) × (most ≡ largestFrom largest u (residualAt points orbitals retarded advanced lesser greater identity t))
+
+abbrev μ-loop : tie.MeasureT-loop
+μ-loop identity retarded advanced lesser greater points orbitals t largest most₀ u₀ most u = points - u
+
+pub time-norm-spec : {M : Type 1} → statement M
+time-norm-spec =
+    tie.close
+    (tie.spec
+    Inv-loop
+    μ-loop
+    (λ c. (omega arith, largest-none _ _))  -- loop-holds
+    (λ c κs. search needs)  -- place-norm-requires
+    (λ c κs. search needs)  -- max-requires
+    (λ c. search needs)  -- add-u
+    (λ c. search needs)  -- loop-less
+    (λ c. (omega arith, largest-more _ _ _ (c .before .before .before .loop .inv .1) (c .before .place-norm .ensures) (c .max .ensures)))  -- loop-again
+    (λ c. cc (le-antisymm (c .before .loop .inv .0) (c .loop-test .left))))  -- returns

@@ -1,0 +1,252 @@
+// The residuals of the report: for each identity the largest norm of what it leaves, over the places that it speaks of.
+ghost use mathlib.Core.Path.{_≡_};
+ghost use Prim.Native.Nat.{_<_};
+ghost use Rattle.complex.specs.Sum.{largestFrom};
+ghost use Rattle.matrix.specs.Operations.{largestNorm, cnorm};
+ghost use Rattle.report.specs.Identities.{deviationOf, residualAt, residualOf, reportOf};
+ghost use Rattle.report.specs.Lent.{Lent};
+use crate::ConsistencyReport;
+use crate::identities::Identity;
+use crate::identities::counts;
+use crate::identities::deviation;
+use complex::max;
+use norm::norm;
+
+// The largest of `largest` and the norms in row a of what is left at (t, u).
+fn row_norm(
+    identity: Identity,
+    retarded: &[f64],
+    advanced: &[f64],
+    lesser: &[f64],
+    greater: &[f64],
+    points: usize,
+    orbitals: usize,
+    t: usize,
+    u: usize,
+    a: usize,
+    largest: f64,
+) -> f64
+    requires { ⌜ (t < points) × (u < points) × (a < orbitals) ⌝ }
+    requires { ⌜ Lent points orbitals (now retarded) (now advanced) (now lesser) (now greater) ⌝ }
+    ensures { λ r. ⌜ r ≡ largestFrom largest orbitals (λ b. cnorm (deviationOf points orbitals (now (retarded .entry)) (now (advanced .entry)) (now (lesser .entry)) (now (greater .entry)) identity t u a b)) ⌝ }
+{
+    let mut most = largest;
+    for b in 0..orbitals {
+        let z = deviation(
+            identity,
+            retarded,
+            advanced,
+            lesser,
+            greater,
+            points,
+            orbitals,
+            t,
+            u,
+            a,
+            b,
+        );
+        most = max(most, norm(z.re, z.im));
+    }
+    most
+}
+
+// The largest norm of what is left at (t, u).
+fn block_norm(
+    identity: Identity,
+    retarded: &[f64],
+    advanced: &[f64],
+    lesser: &[f64],
+    greater: &[f64],
+    points: usize,
+    orbitals: usize,
+    t: usize,
+    u: usize,
+) -> f64
+    requires { ⌜ (t < points) × (u < points) ⌝ }
+    requires { ⌜ Lent points orbitals (now retarded) (now advanced) (now lesser) (now greater) ⌝ }
+    ensures { λ r. ⌜ r ≡ largestNorm orbitals orbitals (deviationOf points orbitals (now (retarded .entry)) (now (advanced .entry)) (now (lesser .entry)) (now (greater .entry)) identity t u) ⌝ }
+{
+    let mut largest = 0.0;
+    for a in 0..orbitals {
+        largest = row_norm(
+            identity,
+            retarded,
+            advanced,
+            lesser,
+            greater,
+            points,
+            orbitals,
+            t,
+            u,
+            a,
+            largest,
+        );
+    }
+    largest
+}
+
+// The same where the place counts, and +0 elsewhere.
+fn place_norm(
+    identity: Identity,
+    retarded: &[f64],
+    advanced: &[f64],
+    lesser: &[f64],
+    greater: &[f64],
+    points: usize,
+    orbitals: usize,
+    t: usize,
+    u: usize,
+) -> f64
+    requires { ⌜ (t < points) × (u < points) ⌝ }
+    requires { ⌜ Lent points orbitals (now retarded) (now advanced) (now lesser) (now greater) ⌝ }
+    ensures { λ r. ⌜ r ≡ residualAt points orbitals (now (retarded .entry)) (now (advanced .entry)) (now (lesser .entry)) (now (greater .entry)) identity t u ⌝ }
+{
+    if counts(identity, t, u) {
+        return block_norm(
+            identity,
+            retarded,
+            advanced,
+            lesser,
+            greater,
+            points,
+            orbitals,
+            t,
+            u,
+        );
+    }
+    0.0
+}
+
+// The largest of `largest` and what the places (t, u) of one t have.
+fn time_norm(
+    identity: Identity,
+    retarded: &[f64],
+    advanced: &[f64],
+    lesser: &[f64],
+    greater: &[f64],
+    points: usize,
+    orbitals: usize,
+    t: usize,
+    largest: f64,
+) -> f64
+    requires { ⌜ t < points ⌝ }
+    requires { ⌜ Lent points orbitals (now retarded) (now advanced) (now lesser) (now greater) ⌝ }
+    ensures { λ r. ⌜ r ≡ largestFrom largest points (residualAt points orbitals (now (retarded .entry)) (now (advanced .entry)) (now (lesser .entry)) (now (greater .entry)) identity t) ⌝ }
+{
+    let mut most = largest;
+    for u in 0..points {
+        let here = place_norm(
+            identity,
+            retarded,
+            advanced,
+            lesser,
+            greater,
+            points,
+            orbitals,
+            t,
+            u,
+        );
+        most = max(most, here);
+    }
+    most
+}
+
+// The residual of an identity: the largest that a place has.
+fn residual(
+    identity: Identity,
+    retarded: &[f64],
+    advanced: &[f64],
+    lesser: &[f64],
+    greater: &[f64],
+    points: usize,
+    orbitals: usize,
+) -> f64
+    requires { ⌜ Lent points orbitals (now retarded) (now advanced) (now lesser) (now greater) ⌝ }
+    ensures { λ r. ⌜ r ≡ residualOf points orbitals (now (retarded .entry)) (now (advanced .entry)) (now (lesser .entry)) (now (greater .entry)) identity ⌝ }
+{
+    let mut largest = 0.0;
+    for t in 0..points {
+        largest = time_norm(
+            identity,
+            retarded,
+            advanced,
+            lesser,
+            greater,
+            points,
+            orbitals,
+            t,
+            largest,
+        );
+    }
+    largest
+}
+
+// The six residuals.
+pub(crate) fn residuals(
+    retarded: &[f64],
+    advanced: &[f64],
+    lesser: &[f64],
+    greater: &[f64],
+    points: usize,
+    orbitals: usize,
+) -> ConsistencyReport
+    requires { ⌜ Lent points orbitals (now retarded) (now advanced) (now lesser) (now greater) ⌝ }
+    ensures { λ r. ⌜ r ≡ reportOf points orbitals (now (retarded .entry)) (now (advanced .entry)) (now (lesser .entry)) (now (greater .entry)) ⌝ }
+{
+    ConsistencyReport {
+        retarded_causality: residual(
+            Identity::RetardedCausality,
+            retarded,
+            advanced,
+            lesser,
+            greater,
+            points,
+            orbitals,
+        ),
+        advanced_causality: residual(
+            Identity::AdvancedCausality,
+            retarded,
+            advanced,
+            lesser,
+            greater,
+            points,
+            orbitals,
+        ),
+        advanced_adjoint: residual(
+            Identity::AdvancedAdjoint,
+            retarded,
+            advanced,
+            lesser,
+            greater,
+            points,
+            orbitals,
+        ),
+        lesser_antihermiticity: residual(
+            Identity::LesserAntihermiticity,
+            retarded,
+            advanced,
+            lesser,
+            greater,
+            points,
+            orbitals,
+        ),
+        greater_antihermiticity: residual(
+            Identity::GreaterAntihermiticity,
+            retarded,
+            advanced,
+            lesser,
+            greater,
+            points,
+            orbitals,
+        ),
+        spectral_identity: residual(
+            Identity::Spectral,
+            retarded,
+            advanced,
+            lesser,
+            greater,
+            points,
+            orbitals,
+        ),
+    }
+}

@@ -1,0 +1,15 @@
+-- `run_file::text::letter` meets its contract. Assumes nothing.
+use mathlib.Core.Path.{refl}
+use borrow.Author.Needs.{needs}
+use Rattle.run_file.specs.Writing.{one-byte}
+use Rattle.run_file.proofs.text.letter.Statement.{statement}
+use Rattle.run_file.proofs.text.letter.Tie as tie
+
+pub letter-spec : {M : Type 1} → statement M
+letter-spec =
+    tie.close
+    (tie.spec
+    (λ c. search needs)  -- slice-write-out
+    (λ c. search needs)  -- add-result
+    (λ c. search needs)  -- same-length
+    (λ c. (one-byte _ _ _ (c .pre .0), refl)))  -- returns
