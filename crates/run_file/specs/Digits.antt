@@ -22,8 +22,8 @@ same-digits (suc j) zero n h l = absurd (not-suc-le-zero l)
 same-digits (suc j) (suc k) n h l =
     cond-agree (ltb n 10) _ _ _ _ (λ e. refl)
     (λ e.
-      let large : 10 ≤ n = ltb-false n 10 e in
-      ap (λ (x : List ℕ). x ++ ((48 + n % 10) ∷ [])) (same-digits j k (n / 10) (omega arith) (omega arith)))
+    let large : 10 ≤ n = ltb-false n 10 e in
+    ap (λ (x : List ℕ). x ++ ((48 + n % 10) ∷ [])) (same-digits j k (n / 10) (omega arith) (omega arith)))
 
 module _ (n : ℕ) {a b : List ℕ} {at middle : ℕ} where
   pub one-digit : n < 10 → Appended a b at middle ((48 + n) ∷ []) → Appended a b at middle (decimal n)

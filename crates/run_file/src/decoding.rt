@@ -9,12 +9,12 @@ ghost use Rattle.two_time.specs.Layout.{lengthOf};
 ghost use Rattle.run_file.specs.Bytes.{u32, numbers};
 ghost use Rattle.run_file.specs.Decoding.{tableFits, fileLines};
 use crate::bytes::word;
-use two_time::layout::function_length;
 use bits::from_bits;
 use refusal::Verdict;
 use refusal::lines::large_enough;
 use refusal::lines::well_formed;
 use refusal::lines::within_program;
+use two_time::layout::function_length;
 
 // Whether the table names that start and that count in a row.
 fn row_fits(bytes: &[u8], row: usize, start: usize, count: usize) -> bool

@@ -47,7 +47,13 @@ fn run_text(points: usize, orbitals: usize, lesser: &[f64], out: &mut [u8]) -> u
 }
 
 // The text of a run's answer, with the lesser function that it left.
-fn answer_text(points: usize, orbitals: usize, solved: Solved, lesser: &[f64], out: &mut [u8]) -> usize
+fn answer_text(
+    points: usize,
+    orbitals: usize,
+    solved: Solved,
+    lesser: &[f64],
+    out: &mut [u8],
+) -> usize
     requires { ⌜ (points ≤ 16) × (orbitals ≤ 16) × (512 ≤ length (now out)) ⌝ }
     ensures { λ r. ⌜ Appended (now (out .entry)) (now (out .exit)) 0 r (solvedText points orbitals defaultTolerance solved (now (lesser .entry))) ⌝ }
 {

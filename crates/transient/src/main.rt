@@ -1,11 +1,25 @@
 // Reads a run file from standard input to its end and writes what document 01 says of it. A read or a write that fails is told on
-// standard error.
+// standard error: a program of this language has no exit status.
+use libc::STDERR_FILENO;
 use libc::STDIN_FILENO;
 use libc::STDOUT_FILENO;
 
-fn write(text: &[u8]) {
-    if !io::write_all(STDOUT_FILENO, text) {
-        os::fail(b"standard output");
+// Whether standard input has ended; a read that fails is no end.
+fn at_end() -> bool {
+    let mut byte = [0u8; 1];
+    libc::read(STDIN_FILENO, &mut byte) == 0
+}
+
+// Writes what the library prints for the bytes, in the room that is lent for it.
+fn answer(bytes: &[u8], text: &mut [u8]) {
+    let length = run_file::print(bytes, text);
+    if length <= text.len() {
+        if !io::write_all(STDOUT_FILENO, &text[..length]) {
+            io::write_all(
+                STDERR_FILENO,
+                b"transient: standard output was not written\n",
+            );
+        }
     }
 }
 
@@ -14,14 +28,15 @@ fn main() {
     // refused by its length.
     let mut bytes = [0u8; 12457];
     let n = io::read_full(STDIN_FILENO, &mut bytes);
-    let mut more = [0u8; 1];
-    if libc::read(STDIN_FILENO, &mut more) < 0 {
-        os::fail(b"standard input");
-        return;
+    if n < 12457 {
+        if !at_end() {
+            io::write_all(
+                STDERR_FILENO,
+                b"transient: standard input was not read to its end\n",
+            );
+            return;
+        }
     }
     let mut text = [0u8; 512];
-    let length = run_file::print(&bytes[..n], &mut text);
-    if length <= 512 {
-        write(&text[..length]);
-    }
+    answer(&bytes[..n], &mut text);
 }

@@ -16,9 +16,9 @@ print-spec =
     (λ c κs. search needs)  -- word-requires
     (λ c κs. search needs)  -- word-requires-2
     (λ c κs.
-      let points = c .before .before .word .ensures in
-      let few = file-sized _ (sym (c .before .before .before .before .before .file-lines .ensures) ∙ c .before .before .before .enum-told .given .1) in
-      ((points, c .before .word2 .ensures), rw (points, c .before .word2 .ensures) (few .few-points, few .few-orbitals, few .few-numbers, c .before .before .before .before .before .before .if1 .left)))  -- run-requires
+    let points = c .before .before .word .ensures in
+    let few = file-sized _ (sym (c .before .before .before .before .before .file-lines .ensures) ∙ c .before .before .before .enum-told .given .1) in
+    ((points, c .before .word2 .ensures), rw (points, c .before .word2 .ensures) (few .few-points, few .few-orbitals, few .few-numbers, c .before .before .before .before .before .before .if1 .left)))  -- run-requires
     (λ c. search needs)  -- enum-known-verdict
     (λ c κs. search needs)  -- refused-line-requires
     (λ c. search needs)  -- same-length

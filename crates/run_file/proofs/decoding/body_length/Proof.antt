@@ -12,6 +12,6 @@ body-length-spec =
     (tie.spec
     (λ c κs. search needs)  -- function-length-requires
     (λ c.
-      let few = c .before .pre in
-      let same = c .function-length .ensures ∙ uncut _ _ (few .0) (few .1) in
-      (same, rw same (few .2))))  -- returns
+    let few = c .before .pre in
+    let same = c .function-length .ensures ∙ uncut _ _ (few .0) (few .1) in
+    (same, rw same (few .2))))  -- returns

@@ -34,5 +34,5 @@ file-lines-spec =
     table-fits-requires
     (λ c κs. search needs)  -- well-formed-requires-2
     (λ c.
-      head-passed _ (told (c .before .before .before .before)) (c .before .before .enum-told .given .1)
-      (c .well-formed2 .ensures ∙ ap wellFormed (c .before .table-fits .ensures ∙ rw (c .before .before .before .before .before .before .before .before .before .before .word .ensures, c .before .before .before .before .before .before .before .before .before .word2 .ensures)))))  -- returns-2
+    head-passed _ (told (c .before .before .before .before)) (c .before .before .enum-told .given .1)
+    (c .well-formed2 .ensures ∙ ap wellFormed (c .before .table-fits .ensures ∙ rw (c .before .before .before .before .before .before .before .before .before .before .word .ensures, c .before .before .before .before .before .before .before .before .before .word2 .ensures)))))  -- returns-2

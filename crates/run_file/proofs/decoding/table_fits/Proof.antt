@@ -23,5 +23,5 @@ table-fits-spec =
     (λ c κs. search needs)  -- row-fits-requires-3
     (λ c κs. search needs)  -- row-fits-requires-4
     (λ c.
-      table-rows _ _ _ _ _ _ _ (c .before .row-fits3 .ensures) (c .row-fits4 .ensures) (c .before .before .row-fits2 .ensures)
-      (c .before .before .before .row-fits .ensures) _ (c .before .before .before .before .body-length .ensures .0)))  -- returns
+    table-rows _ _ _ _ _ _ _ (c .before .row-fits3 .ensures) (c .row-fits4 .ensures) (c .before .before .row-fits2 .ensures)
+    (c .before .before .before .row-fits .ensures) _ (c .before .before .before .before .body-length .ensures .0)))  -- returns

@@ -16,7 +16,7 @@ refused-line-spec =
     (λ c κs. search needs)  -- letter-requires
     (λ c. search needs)  -- same-length
     (λ c.
-      let word = c .before .before .before .before .before .before .before .before .before .before .letters .ensures in
-      let number = c .before .before .before .before .before .before .decimal .ensures in
-      let end = c .before .before .letter .ensures in
-      (as-text (refused-words _) (both-words _ _ (both-words _ _ (word .0) (number .0)) (end .0)), omega arith)))  -- returns
+    let word = c .before .before .before .before .before .before .before .before .before .before .letters .ensures in
+    let number = c .before .before .before .before .before .before .decimal .ensures in
+    let end = c .before .before .letter .ensures in
+    (as-text (refused-words _) (both-words _ _ (both-words _ _ (word .0) (number .0)) (end .0)), omega arith)))  -- returns

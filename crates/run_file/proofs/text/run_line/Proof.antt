@@ -18,11 +18,11 @@ run-line-spec =
     (λ c κs. search needs)  -- letter-requires-2
     (λ c. search needs)  -- same-length
     (λ c.
-      let word = c .before .before .before .before .before .before .before .before .before .before .before .before .before .before .before .before .before .before .letters .ensures in
-      let points = c .before .before .before .before .before .before .before .before .before .before .before .before .before .before .decimal .ensures in
-      let space = c .before .before .before .before .before .before .before .before .before .before .letter .ensures in
-      let orbitals = c .before .before .before .before .before .before .decimal2 .ensures in
-      let end = c .before .before .letter2 .ensures in (
-        as-text (run-words _ _) (both-words _ _ (both-words _ _ (both-words _ _ (both-words _ _ (word .0) (points .0)) (space .0)) (orbitals .0)) (end .0)),
-        omega arith,
-      )))  -- returns
+    let word = c .before .before .before .before .before .before .before .before .before .before .before .before .before .before .before .before .before .before .letters .ensures in
+    let points = c .before .before .before .before .before .before .before .before .before .before .before .before .before .before .decimal .ensures in
+    let space = c .before .before .before .before .before .before .before .before .before .before .letter .ensures in
+    let orbitals = c .before .before .before .before .before .before .decimal2 .ensures in
+    let end = c .before .before .letter2 .ensures in (
+      as-text (run-words _ _) (both-words _ _ (both-words _ _ (both-words _ _ (both-words _ _ (word .0) (points .0)) (space .0)) (orbitals .0)) (end .0)),
+      omega arith,
+    )))  -- returns

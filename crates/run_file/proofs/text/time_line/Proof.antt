@@ -14,7 +14,7 @@ returns c =
     let bits = c .before .before .before .before .before .before .hexadecimal .ensures in
     let end = c .before .before .letter2 .ensures in (
       as-text (number-words _ _ _ (c .before .before .before .before .before .before .before .before .before .before .before .before .before .before .before .number .given .1) (c .before .before .before .before .before .before .before .to-bits .ensures))
-      (both-words _ _ (both-words _ _ (both-words _ _ (both-words _ _ (index .0) (space .0)) (word .0)) (bits .0)) (end .0)),
+          (both-words _ _ (both-words _ _ (both-words _ _ (both-words _ _ (index .0) (space .0)) (word .0)) (bits .0)) (end .0)),
       omega arith,
     )
 

@@ -1,0 +1,32 @@
+// Runs the library `run_file` on the run files that the arguments name, and writes each name and then the text for its bytes.
+
+// Writes what is printed for the bytes, in the room that is lent for it.
+fn answer(bytes: &[u8], text: &mut [u8]) {
+    let length = run_file::print(bytes, text);
+    if length <= text.len() {
+        show::text(&text[..length]);
+    }
+}
+
+fn run_case(index: usize) {
+    let mut name = io::buffer();
+    let length = os::arg(index, &mut name);
+    let fd = os::open_read(&name[..length]);
+    if fd < 0 {
+        os::fail(&name[..length]);
+        return;
+    }
+    show::text(&name[..length]);
+    show::end();
+    let mut bytes = [0u8; 12457];
+    let n = io::read_full(fd, &mut bytes);
+    libc::close(fd);
+    let mut text = [0u8; 512];
+    answer(&bytes[..n], &mut text);
+}
+
+fn main() {
+    for index in 1..os::arg_count() {
+        run_case(index);
+    }
+}
