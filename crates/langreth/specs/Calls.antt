@@ -18,6 +18,10 @@ pub record Components : Type 0 where
   pub lesser : List Float
   pub greater : List Float
 
+-- of four slices
+abbrev pub componentsOf : List Float → List Float → List Float → List Float → Components
+componentsOf retarded advanced lesser greater = record { retarded = retarded; advanced = advanced; lesser = lesser; greater = greater }
+
 -- the four in call order
 abbrev pub listed : Components → List (List Float)
 listed x = x .retarded ∷ x .advanced ∷ x .lesser ∷ x .greater ∷ []

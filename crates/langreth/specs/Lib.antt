@@ -2,3 +2,7 @@
 pub mod Product
 pub mod Calls
 pub mod Cases
+pub mod Adding
+pub mod Work
+pub mod Lengths
+pub mod Asking

@@ -19,7 +19,7 @@ use Rattle.two_time.specs.declared.sums.Factor.{Factor}
 use Rattle.two_time.specs.declared.sums.Factor.the-variants.{Stored, Adjoint}
 use Rattle.two_time.specs.declared.sums.Summation.{Summation}
 use Rattle.two_time.specs.declared.sums.Sums.{Sums}
-use Rattle.two_time.specs.declared.sums.Sums.the-variants.{Full as FullSums, Causal, Mixed, Lesser}
+use Rattle.two_time.specs.declared.sums.Sums.the-variants.{Full as FullSums, Causal, Mixed, Lesser, Advanced}
 use Rattle.two_time.specs.Layout.{TwoTime, readAs, isPlace, lengthOf, everywhere}
 use Rattle.two_time.specs.WeightedSum.{Terms, weightedSum, finiteSum}
 
@@ -62,12 +62,14 @@ sumOrOverflow sum stride orbitals times left right t u a b first =
 
 -- what is summed at (t, u): "`time_convolution` sums all s with full weights. `causal_volterra_convolution` sums s from t' to t with interval
 -- weights, +0 where t < t'." Of the transient run: "X(t,t') sums s from 0 to t' over Σ^<(t,s)·G^A(s,t') with weights (s, 0, t'); G^<(t,t') sums s
--- from 0 to t over G^R(t,s)·X(s,t') with weights (s, 0, t)", where G^A is the adjoint of what is stored.
+-- from 0 to t over G^R(t,s)·X(s,t') with weights (s, 0, t)", where G^A is the adjoint of what is stored. Of Langreth: "advanced sums s from t
+-- to t' with weights (s, t, t') where t ≤ t' and is +0 elsewhere".
 unfoldable pub summationAt : Sums → ℕ → ℕ → ℕ → Summation
 summationAt FullSums points t u = record { weights = Full points; factor = Stored; from = 0; count = points }
 summationAt Causal points t u = record { weights = Interval u t; factor = Stored; from = u; count = cond (ltb t u) 0 (t - u + 1) }
 summationAt Mixed points t u = record { weights = Interval 0 u; factor = Adjoint; from = 0; count = u + 1 }
 summationAt Lesser points t u = record { weights = Interval 0 t; factor = Stored; from = 0; count = t + 1 }
+summationAt Advanced points t u = record { weights = Interval t u; factor = Stored; from = t; count = cond (ltb u t) 0 (u - t + 1) }
 
 module _ (sum : Summation) (stride orbitals : ℕ) (times left right : List Float) (t u : ℕ) where
   -- every entry of the block is finite

@@ -40,6 +40,10 @@ module _ (answer v : Verdict) (asked : answer ≡ v) (made before : List Float) 
       let same : (v then later) ≡ v = then-refused v later r q ∙ sym q in
       record { answered = asked ∙ sym same; holds = sym (ap (λ (w : Verdict). afterwards w made before) same ∙ keeping-slice k r made before q) }
 
+-- a slice that is cleared after the work, which has kept its length
+pub cleared : {xs : List Float} {m n : ℕ} → xs ≡ replicate m plusZero → m ≡ n → xs ≡ replicate n plusZero
+cleared e h = e ∙ ap (λ (k : ℕ). replicate k plusZero) h
+
 -- what the outcome of such a call says, once its lines pass: all was finite and made, or it was 10
 module _ (answer v : Verdict) (fine : Bool) (made before after : List Float) (passed : v ≡ Pass)
     (answered : answer ≡ (v then finiteWork fine)) (holds : after ≡ afterwards (v then finiteWork fine) made before) where

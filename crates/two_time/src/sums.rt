@@ -71,6 +71,8 @@ pub enum Sums {
     Mixed,
     // s from 0 to t, by the weights of that interval.
     Lesser,
+    // s from t to t', by the weights of that interval; nothing where t' < t.
+    Advanced,
 }
 
 // The weight of point s.
@@ -364,6 +366,12 @@ fn summation_at(sums: Sums, points: usize, t: usize, u: usize) -> Summation
             factor: Factor::Stored,
             from: 0,
             count: t + 1,
+        },
+        Sums::Advanced => Summation {
+            weights: Weights::Interval(t, u),
+            factor: Factor::Stored,
+            from: t,
+            count: if u < t { 0 } else { u - t + 1 },
         },
     }
 }

@@ -1,12 +1,9 @@
 -- `transient_run::transient_run` meets its contract: refused, accepted, or 10 with all four slices cleared. Assumes nothing.
 use mathlib.Core.Path.{_≡_, refl, sym, ap, _∙_}
-use mathlib.Core.List.{List, [], _∷_}
-use Prim.Native.Nat.{ℕ}
-use lib.Ieee.{Float}
-use lib.ListN.{length, replicate}
+use mathlib.Core.List.{[], _∷_}
 use denote.Ref.{now}
 use borrow.Author.Needs.{needs}
-use Rattle.complex.specs.Arithmetic.{plusZero}
+use Rattle.two_time.specs.Working.{cleared}
 use Rattle.transient_run.specs.declared.Solved.the-variants.{Refused as NotSolved}
 use Rattle.transient_run.specs.Asking.{runLines, Left, kept, sizes, accepted, overflowed}
 use Rattle.transient_run.proofs.transient_run.Statement.{statement}
@@ -46,10 +43,6 @@ returns-2 c =
     let x = start l .args in
     let k = kept (x .points) (x .orbitals) (x .tolerance) (now (x .times)) (now (x .free)) (now (x .sigma)) (now (x .source)) (now (x .green)) (now (x .lesser)) (now (x .kernel)) (now (x .mixed)) _ (asked l) _ (c .before .verdict .given .1) in
     (k .answered, k .green-left, k .lesser-left, k .kernel-left, k .mixed-left)
-
--- a slice of the length that it had, cleared
-cleared : {xs : List Float} {m n : ℕ} → xs ≡ replicate m plusZero → m ≡ n → xs ≡ replicate n plusZero
-cleared e h = e ∙ ap (λ (k : ℕ). replicate k plusZero) h
 
 returns-3 : tie.Need-returns-3
 returns-3 c =

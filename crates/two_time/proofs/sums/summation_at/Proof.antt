@@ -27,6 +27,14 @@ returns-5 : tie.Need-returns-5
 unfolding summationAt
 returns-5 c = rw (c .enum-told4 .given .1)
 
+returns-6 : tie.Need-returns-6
+unfolding summationAt
+returns-6 c = rw (c .before .enum-told5 .given .1, lt-ltb _ _ (c .if2 .taken))
+
+returns-7 : tie.Need-returns-7
+unfolding summationAt
+returns-7 c = rw (c .before .enum-told5 .given .1, le-ltb _ _ (c .if2 .left))
+
 pub summation-at-spec : {M : Type 1} → statement M
 summation-at-spec =
     tie.close
@@ -39,8 +47,13 @@ summation-at-spec =
     (λ c. search needs)  -- add-t27
     (λ c. search needs)  -- enum-told-4
     (λ c. search needs)  -- add-t32
+    (λ c. search needs)  -- enum-told-5
+    (λ c. search needs)  -- sub-t45
+    (λ c. search needs)  -- add-t42
     returns
     returns-2
     returns-3
     returns-4
-    returns-5)
+    returns-5
+    returns-6
+    returns-7)
