@@ -1,5 +1,6 @@
 // Runs the norm on the stored cases of standard input, a line each: the bits of the two parts in 16 hexadecimal digits,
 // a space between them. Writes the bits of each norm, a line each, and "nan" for a NaN. scripts/norm_cases.py makes both files.
+use bits::from_bits;
 use show::words;
 use show::words::Word;
 
@@ -11,7 +12,7 @@ fn run_case() -> bool {
     let Word::Of(im) = words::next() else {
         return false;
     };
-    show::bits(norm::norm(words::number(re), words::number(im)));
+    show::bits(norm::norm(from_bits(re), from_bits(im)));
     show::end();
     true
 }

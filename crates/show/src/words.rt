@@ -1,7 +1,5 @@
 // Words of standard input: 16 hexadecimal digits each, and one byte after them, a space or a line feed.
-ghost use mathlib.Core.Path.{_≡_};
 ghost use Prim.Native.Nat.{_<_};
-ghost use lib.Ieee.{binary64, ofBits};
 use libc::STDIN_FILENO;
 
 pub enum Word {
@@ -44,14 +42,4 @@ pub fn next() -> Word {
         return Word::End;
     }
     Word::Of(value(&bytes))
-}
-
-// The number of a pattern; `from_bits` is undefined at a NaN's.
-pub fn number(bits: u64) -> f64
-    ensures { λ r. ⌜ r ≡ ofBits binary64 bits ⌝ }
-{
-    if bits % 0x8000_0000_0000_0000 > 0x7ff0_0000_0000_0000 {
-        return 0.0 / 0.0;
-    }
-    f64::from_bits(bits)
 }

@@ -8,6 +8,7 @@ mod observe;
 mod slices;
 mod solve;
 
+use bits::from_bits;
 use show::words;
 use show::words::Word;
 
@@ -46,7 +47,7 @@ fn run_call(index: u64) -> bool {
         function,
         points as usize,
         orbitals as usize,
-        words::number(tolerance),
+        from_bits(tolerance),
     )
 }
 

@@ -1,6 +1,7 @@
 // Functions 6 to 9: the observables.
 use crate::slices::MOST;
 use crate::slices::slice;
+use bits::from_bits;
 use complex::Complex;
 use matrix::Checked;
 use matrix::DenseMatrix;
@@ -159,8 +160,8 @@ pub(crate) fn flow(index: u64, points: usize, orbitals: usize) -> bool {
             time as usize,
             a as usize,
             b as usize,
-            Complex::new(words::number(re), words::number(im)),
-            words::number(charge),
+            Complex::new(from_bits(re), from_bits(im)),
+            from_bits(charge),
         ),
     );
     true

@@ -1,4 +1,5 @@
 // A slice of the input: its length, then the bits of its numbers.
+use bits::from_bits;
 use show::words;
 use show::words::Word;
 
@@ -21,7 +22,7 @@ pub(crate) fn slice(numbers: &mut [f64]) -> usize {
         let Word::Of(bits) = words::next() else {
             return NONE;
         };
-        numbers[i] = words::number(bits);
+        numbers[i] = from_bits(bits);
     }
     length
 }

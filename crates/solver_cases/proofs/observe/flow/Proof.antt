@@ -38,10 +38,10 @@ flow-spec =
     (λ c. search needs)  -- returns-7
     (λ c. search needs)  -- array-share-prefix-lesser
     (λ c. sym (length-take-le _ _ (search needs)))  -- slice-aggregate-bond-flow-into
-    (λ c κs. search needs)  -- number-requires
-    (λ c κs. search needs)  -- number-requires-2
+    (λ c κs. search needs)  -- from-bits-requires
+    (λ c κs. search needs)  -- from-bits-requires-2
     (λ c κs. search needs)  -- new-requires
-    (λ c κs. search needs)  -- number-requires-3
+    (λ c κs. search needs)  -- from-bits-requires-3
     (λ c κs. search needs)  -- bond-flow-into-requires
     (λ c κs. search needs)  -- print-observed-requires
     (λ c. search needs))  -- returns-8

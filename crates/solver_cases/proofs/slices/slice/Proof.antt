@@ -27,7 +27,7 @@ slice-spec =
     (λ c. search needs)  -- enum-told-2
     (λ c. search needs)  -- same-length
     (λ c. search needs)  -- returns-3
-    (λ c κs. search needs)  -- number-requires
+    (λ c κs. search needs)  -- from-bits-requires
     (λ c. search needs)  -- mul-numbers
     (λ c. search needs)  -- slice-write-numbers
     (λ c. search needs)  -- add-i
