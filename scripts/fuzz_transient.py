@@ -1,6 +1,6 @@
 """Feeds damaged run files to the program and to the reading of document 01 in reference/, and compares what they print.
 
-    scripts/fuzz_transient.py PROGRAM [COUNT [SEED [JOBS]]]
+    python3 scripts/fuzz_transient.py PROGRAM [COUNT [SEED [JOBS]]]
 
 PROGRAM is the built program (target/bin/transient). Files are cut, grown, spliced, their bits flipped, tables forged and numbers replaced. A
 difference, an exit status that is not 0 or a word on standard error is written out with the file's bytes, and ends the run with status 1.

@@ -1,7 +1,7 @@
 """Run files for the program `transient`: numbers in, a run file out, and the program's answers back to decimal numbers.
 
-    run_file.py make NUMBERS.json > pulse.run      writes the run file of the numbers
-    transient < pulse.run | run_file.py read       prints each time's particle number in decimal
+    python3 scripts/run_file.py make NUMBERS.json > pulse.run      writes the run file of the numbers
+    transient < pulse.run | python3 scripts/run_file.py read       prints each time's particle number in decimal
 
 NUMBERS.json has one object: "times", a list of N rising times, and "free", "self_energy" and "lesser_self_energy", each a list of N rows of N blocks,
 a block a list of n rows of n entries, an entry a number or a pair [real, imaginary]. Above the diagonal of the first two stands 0.
