@@ -1,8 +1,10 @@
-//! Where `rt staticlib solver_export` leaves its archive.
+//! Where `rt staticlib` leaves the archives.
 use std::path::Path;
 
 fn main() {
     let archives = Path::new(env!("CARGO_MANIFEST_DIR")).join("../../target/staticlib");
     println!("cargo:rustc-link-search=native={}", archives.display());
-    println!("cargo:rerun-if-changed={}", archives.join("libsolver_export.a").display());
+    for name in ["norm", "matrix", "solver"] {
+        println!("cargo:rerun-if-changed={}", archives.join(format!("lib{name}_export.a")).display());
+    }
 }

@@ -1,3 +1,5 @@
 -- How an answer crosses to another language.
 pub mod Told
 pub mod Telling
+pub mod ToldKeldysh
+pub mod TellingKeldysh

@@ -27,7 +27,7 @@ three (x ∷ y ∷ []) a b c h = absurd (omega arith)
 three (x ∷ y ∷ z ∷ []) a b c h = refl
 three (x ∷ y ∷ z ∷ w ∷ xs) a b c h = absurd (omega arith)
 
-one : (xs : List Float) (a : Float) → length xs ≡ 1 → set xs 0 a ≡ a ∷ []
+pub one : {A : Type 0} (xs : List A) (a : A) → length xs ≡ 1 → set xs 0 a ≡ a ∷ []
 one [] a h = absurd (omega arith)
 one (x ∷ []) a h = refl
 one (x ∷ y ∷ xs) a h = absurd (omega arith)

@@ -1,6 +1,8 @@
 // The solver's calls for a program in Rust to link: `rt staticlib solver_export`. An answer crosses as the refusal's number, 0 where
 // the call is accepted. What a refusal carries goes to two lent slices, which an accepted call leaves; an observable's number to a
 // third, which a refusal leaves.
+pub mod keldysh;
+
 ghost use mathlib.Core.Path.{_≡_};
 ghost use Rattle.refusal.specs.Verdict.{numberOf};
 ghost use Rattle.two_time.specs.Calls.{timeConvolution, causalConvolution, checkSupport};

@@ -1,23 +1,26 @@
-//! Both convolutions, Dyson and the transient run beside the port's, on the same inputs in one run, and the support test. `bench/run`
-//! builds and runs it.
+//! Both convolutions, Dyson, the transient run, the consistency report and the Langreth product beside the port's, on the same inputs in one
+//! run, and the support test. `bench/run` builds and runs it: `bench [ROUNDS] [PART]`, all parts unless one is named: convolutions, support,
+//! runs, report, langreth.
+mod keldysh;
 mod runs;
-mod transient;
 
-use keldysh_green::{Complex64, DenseMatrix, RealTimeGrid, TwoTimeMatrix};
+use keldysh_green::{RealTimeGrid, TwoTimeMatrix};
+use shared::{numbers, Xorshift};
 use std::hint::black_box;
 use std::time::Instant;
 
 const SIZES: [(usize, usize); 5] = [(256, 1), (128, 2), (64, 4), (32, 8), (16, 16)];
 
-/// Numbers without a pattern, the same in each run (xorshift), from -0.5 to 0.5.
-struct Numbers(u64);
+/// The inputs, the same for each function of a size.
+struct Numbers(Xorshift);
 
 impl Numbers {
+    fn new() -> Self {
+        Self(Xorshift(0x9e37_79b9_7f4a_7c15))
+    }
+
     fn next(&mut self) -> f64 {
-        self.0 ^= self.0 << 13;
-        self.0 ^= self.0 >> 7;
-        self.0 ^= self.0 << 17;
-        (self.0 >> 11) as f64 / (1u64 << 53) as f64 - 0.5
+        self.0.centred()
     }
 
     /// Rising times with unequal steps.
@@ -44,20 +47,8 @@ impl Numbers {
     }
 }
 
-/// The port's function of the same numbers.
 fn port(points: usize, orbitals: usize, xs: &[f64]) -> TwoTimeMatrix {
-    let blocks = xs.chunks(2 * orbitals * orbitals).map(|block| {
-        let values = block.chunks(2).map(|z| Complex64::new(z[0], z[1])).collect();
-        DenseMatrix::try_new(orbitals, orbitals, values).unwrap()
-    });
-    TwoTimeMatrix::try_new(points, orbitals, blocks.collect()).unwrap()
-}
-
-/// The numbers of which the port's function is made.
-fn numbers(f: &TwoTimeMatrix) -> Vec<f64> {
-    let n = f.time_points();
-    let blocks = (0..n * n).map(|p| f.get(p / n, p % n).unwrap());
-    blocks.flat_map(|b| b.as_slice().iter().flat_map(|z| [z.re, z.im])).collect()
+    shared::function(points, orbitals, xs).unwrap()
 }
 
 /// How many numbers differ in bits.
@@ -72,12 +63,35 @@ fn milliseconds<T>(work: impl FnOnce() -> T) -> (f64, T) {
     (start.elapsed().as_nanos() as f64 / 1e6, made)
 }
 
+/// Measures for some rounds, and counts the numbers that differ in bits.
+type Part = fn(usize) -> usize;
 type Ours = fn(&[f64], &[f64], &[f64], usize, usize, &mut [f64]) -> here::Answer;
 type Theirs = fn(&RealTimeGrid, &TwoTimeMatrix, &TwoTimeMatrix) -> keldysh_green::Result<TwoTimeMatrix>;
 
 fn main() {
     let rounds: usize = std::env::args().nth(1).map_or(15, |text| text.parse().unwrap());
+    let part = std::env::args().nth(2);
     println!("{:<29} {:>4} {:>3} {:>10} {:>10} {:>8}", "function", "N", "n", "here ms", "Rust ms", "ratio");
+    let parts: [(&str, Part); 5] = [
+        ("convolutions", convolutions),
+        ("support", support),
+        ("runs", runs::runs),
+        ("report", keldysh::reports),
+        ("langreth", keldysh::products),
+    ];
+    let chosen: Vec<_> = parts.iter().filter(|(name, _)| part.as_deref().is_none_or(|part| part == *name)).collect();
+    assert!(!chosen.is_empty(), "no such part");
+    let unequal: usize = chosen.iter().map(|(_, part)| part(rounds)).sum();
+    println!("{unequal} numbers differ in bits");
+    assert_eq!(unequal, 0);
+}
+
+fn line(name: &str, points: usize, orbitals: usize, here: f64, there: f64) {
+    println!("{name:<29} {points:>4} {orbitals:>3} {here:>10.3} {there:>10.3} {:>8.2}", here / there);
+}
+
+/// Measures both at each size, and counts the numbers that differ in bits.
+fn convolutions(rounds: usize) -> usize {
     let calls: [(&str, bool, Ours, Theirs); 2] = [
         ("time_convolution", false, here::time_convolution, keldysh_green::time_convolution),
         ("causal_volterra_convolution", true, here::causal_volterra_convolution, keldysh_green::causal_volterra_convolution),
@@ -90,19 +104,12 @@ fn main() {
             unequal += differ;
         }
     }
-    support(rounds);
-    unequal += runs::runs(rounds);
-    println!("{unequal} numbers differ in bits");
-    assert_eq!(unequal, 0);
-}
-
-fn line(name: &str, points: usize, orbitals: usize, here: f64, there: f64) {
-    println!("{name:<29} {points:>4} {orbitals:>3} {here:>10.3} {there:>10.3} {:>8.2}", here / there);
+    unequal
 }
 
 /// The least time of each side, which take turns, and how many numbers differ in bits. A first round warms both and compares.
 fn convolution(rounds: usize, points: usize, orbitals: usize, retarded: bool, ours: Ours, theirs: Theirs) -> (f64, f64, usize) {
-    let mut source = Numbers(0x9e37_79b9_7f4a_7c15);
+    let mut source = Numbers::new();
     let times = source.times(points);
     let left = source.function(points, orbitals, retarded);
     let right = source.function(points, orbitals, retarded);
@@ -135,10 +142,10 @@ fn least(rounds: usize, mut call: impl FnMut() -> bool) -> f64 {
 }
 
 /// The support test of one function. The port's is private. It is the difference of two Dyson calls: one whose self-energy, and one
-/// whose free propagator, is refused at its first place. Ours asks finiteness too, and its norm is the correctly rounded one.
-fn support(rounds: usize) {
+/// whose free propagator, is refused at its first place. Ours asks finiteness too, and its norm is the correctly rounded one. No number is made.
+fn support(rounds: usize) -> usize {
     for (points, orbitals) in SIZES {
-        let mut source = Numbers(0x9e37_79b9_7f4a_7c15);
+        let mut source = Numbers::new();
         let grid = RealTimeGrid::try_new(source.times(points)).unwrap();
         let xs = source.function(points, orbitals, true);
         let mut other = xs.clone();
@@ -149,4 +156,5 @@ fn support(rounds: usize) {
         let scale = least(rounds, || keldysh_green::retarded_dyson(&grid, black_box(&bad), &good).is_err());
         line("check_retarded_support", points, orbitals, here, both - scale);
     }
+    0
 }

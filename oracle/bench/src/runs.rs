@@ -1,7 +1,7 @@
 //! Dyson and the transient run beside the port's, with the support test of both operands and the rest, the sums, apart.
-use crate::transient::transient_run;
-use crate::{line, milliseconds, numbers, port, unequal, Numbers, SIZES};
+use crate::{line, milliseconds, port, unequal, Numbers, SIZES};
 use keldysh_green::{causal_volterra_convolution, retarded_dyson_with_tolerance, RealTimeGrid};
+use shared::{numbers, transient_run};
 use std::hint::black_box;
 
 const TOLERANCE: f64 = 1e-12;
@@ -47,7 +47,7 @@ pub fn runs(rounds: usize) -> usize {
 }
 
 fn run(rounds: usize, points: usize, orbitals: usize) -> usize {
-    let mut source = Numbers(0x9e37_79b9_7f4a_7c15);
+    let mut source = Numbers::new();
     let times = source.times(points);
     let free = source.function(points, orbitals, true);
     let sigma = source.function(points, orbitals, true);

@@ -1,4 +1,9 @@
-//! The functions that `crates/solver_export` exports, over slices.
+//! The functions that `crates/solver_export` exports, over slices, and those of `norm_export` and `matrix_export`.
+mod blocks;
+mod keldysh;
+
+pub use blocks::{norm, product_chain};
+pub use keldysh::{consistency_report, is_consistent, langreth_product};
 
 /// An answer: the refusal's number with its places, or 0 where the call is accepted.
 #[derive(Debug, Clone, Copy, PartialEq)]
@@ -290,15 +295,19 @@ pub fn transient_run(
     })
 }
 
-/// A number, or the refusal.
-fn observe(call: impl FnOnce(&mut [f64; 1], &mut [usize; 3], &mut [f64; 1]) -> u8) -> Result<f64, Answer> {
-    let mut value = [0.0; 1];
+/// What the call writes, or the refusal.
+fn measured<T>(mut value: T, call: impl FnOnce(&mut T, &mut [usize; 3], &mut [f64; 1]) -> u8) -> Result<T, Answer> {
     let answer = answer(|places, part| call(&mut value, places, part));
     if answer.number == 0 {
-        Ok(value[0])
+        Ok(value)
     } else {
         Err(answer)
     }
+}
+
+/// A number, or the refusal.
+fn observe(call: impl FnOnce(&mut [f64; 1], &mut [usize; 3], &mut [f64; 1]) -> u8) -> Result<f64, Answer> {
+    measured([0.0; 1], call).map(|[value]| value)
 }
 
 pub fn particle_number(lesser: &[f64], points: usize, orbitals: usize, time: usize, tolerance: f64) -> Result<f64, Answer> {

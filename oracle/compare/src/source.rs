@@ -1,0 +1,268 @@
+//! Inputs without a pattern and adversarial ones, the same for the same seed.
+use shared::Xorshift;
+
+/// Sizes, times and operands. At most one of them has a fault.
+pub struct Call {
+    pub points: usize,
+    pub orbitals: usize,
+    pub times: Vec<f64>,
+    pub operands: Vec<Vec<f64>>,
+}
+
+impl Call {
+    /// The position of a number's real part.
+    fn at(&self, t: usize, u: usize, a: usize, b: usize) -> usize {
+        2 * (((t * self.points + u) * self.orbitals + a) * self.orbitals + b)
+    }
+
+    /// The positions of all real parts, each with that of the adjoint's entry.
+    fn mirrored(&self) -> Vec<(usize, usize)> {
+        let (points, n) = (self.points, self.orbitals);
+        let digits = (0..points * points * n * n).map(|p| (p / (points * n * n), p / (n * n) % points, p / n % n, p % n));
+        digits.map(|(t, u, a, b)| (self.at(t, u, a, b), self.at(u, t, b, a))).collect()
+    }
+}
+
+/// What a call has wrong.
+#[derive(Clone, Copy, PartialEq)]
+enum Fault {
+    None,
+    Points,
+    Orbitals,
+    Length,
+    Times,
+    Entry,
+}
+
+/// The numbers of one function are alike, and those of most calls.
+#[derive(Clone, Copy)]
+enum Palette {
+    /// From -0.5 to 0.5.
+    Ordinary,
+    /// -4 to 4.
+    Whole,
+    /// Exponents -60 to 60.
+    Moderate,
+    /// Exponents whose products overflow or underflow, or just do not.
+    Roots,
+    /// Subnormal numbers and the least normal ones.
+    Tiny,
+    /// Exponents at most 2 below the largest.
+    Huge,
+    /// All finite bits.
+    Any,
+    Special,
+    /// Three of four are a zero of either sign.
+    Sparse,
+}
+
+const PALETTES: [Palette; 12] = [
+    Palette::Ordinary,
+    Palette::Ordinary,
+    Palette::Ordinary,
+    Palette::Whole,
+    Palette::Moderate,
+    Palette::Moderate,
+    Palette::Roots,
+    Palette::Tiny,
+    Palette::Huge,
+    Palette::Any,
+    Palette::Special,
+    Palette::Sparse,
+];
+
+const SPECIAL: [f64; 12] = [
+    0.0,
+    -0.0,
+    1.0,
+    -1.0,
+    1.0 + f64::EPSILON,
+    1.0 - f64::EPSILON / 2.0,
+    f64::MIN_POSITIVE,
+    -f64::MIN_POSITIVE,
+    5e-324,
+    -5e-324,
+    1e-300,
+    1e150,
+];
+
+pub struct Source(Xorshift);
+
+impl Source {
+    /// The inputs of one call of a run.
+    pub fn of(seed: u64, call: u64) -> Self {
+        let mut state = Xorshift(seed.wrapping_add(call.wrapping_mul(0x9e37_79b9_7f4a_7c15)) | 1);
+        for _ in 0..8 {
+            state.bits();
+        }
+        Self(state)
+    }
+
+    pub fn below(&mut self, count: usize) -> usize {
+        ((self.0.bits() >> 16) % count as u64) as usize
+    }
+
+    pub fn one_in(&mut self, count: usize) -> bool {
+        self.below(count) == 0
+    }
+
+    pub fn pick<T: Copy>(&mut self, of: &[T]) -> T {
+        of[self.below(of.len())]
+    }
+
+    /// A number of binary exponent `exponent` and any sign and significand.
+    fn of_exponent(&mut self, exponent: u64) -> f64 {
+        f64::from_bits(self.0.bits() & !(0x7ff << 52) | exponent << 52)
+    }
+
+    fn number(&mut self, palette: Palette) -> f64 {
+        match palette {
+            Palette::Ordinary => self.0.centred(),
+            Palette::Whole => self.below(9) as f64 - 4.0,
+            Palette::Moderate => {
+                let exponent = 963 + self.below(121) as u64;
+                self.of_exponent(exponent)
+            }
+            Palette::Roots => {
+                let exponent = self.pick(&[484, 500, 1023, 1023, 1522, 1533]) + self.below(3) as u64;
+                self.of_exponent(exponent)
+            }
+            Palette::Tiny => {
+                let exponent = self.below(4) as u64 / 2;
+                self.of_exponent(exponent)
+            }
+            Palette::Huge => {
+                let exponent = 2044 + self.below(3) as u64;
+                self.of_exponent(exponent)
+            }
+            Palette::Any => {
+                let exponent = self.below(2047) as u64;
+                self.of_exponent(exponent)
+            }
+            Palette::Special => self.pick(&SPECIAL),
+            Palette::Sparse if self.one_in(4) => self.0.centred(),
+            Palette::Sparse => self.pick(&[0.0, -0.0]),
+        }
+    }
+
+    /// A number of any palette.
+    pub fn any(&mut self) -> f64 {
+        let palette = self.pick(&PALETTES);
+        self.number(palette)
+    }
+
+    /// A number of another sign and significand, of an exponent at most 64 away where there is one.
+    pub fn near(&mut self, x: f64) -> f64 {
+        let exponent = (x.to_bits() >> 52 & 0x7ff) + self.below(129) as u64;
+        self.of_exponent(exponent.saturating_sub(64).min(2046))
+    }
+
+    /// A tolerance; one in eight is not above 0 or not finite.
+    pub fn tolerance(&mut self) -> f64 {
+        if self.one_in(8) {
+            self.pick(&[0.0, -0.0, -1.0, f64::INFINITY, f64::NEG_INFINITY, f64::NAN])
+        } else {
+            self.pick(&[1e-12, 1e-12, 0.5, 1.0, 5e-324, f64::MAX])
+        }
+    }
+
+    fn times(&mut self, points: usize, fault: Fault) -> Vec<f64> {
+        let step = self.pick(&[0.1, 0.1, 1.0, 1e-3, 5e-324, 1e300]);
+        let mut time = self.pick(&[0.0, 0.0, -0.0, -step]);
+        let mut times: Vec<f64> = (0..points)
+            .map(|_| {
+                let now = time;
+                time += (step * (1.0 + self.0.centred())).max(step / 2.0).max(5e-324);
+                now
+            })
+            .collect();
+        if fault == Fault::Times {
+            let at = self.below(points);
+            match self.below(3) {
+                0 => times[at] = self.pick(&[f64::NAN, f64::INFINITY, f64::NEG_INFINITY]),
+                1 => times[at.max(1)] = times[at.max(1) - 1],
+                _ => (times[0], times[points - 1]) = (-f64::MAX, f64::MAX),
+            }
+        }
+        times
+    }
+
+    /// A two-time function. A retarded one is a zero above the diagonal, and one in four has something small there.
+    fn function(&mut self, points: usize, orbitals: usize, retarded: bool, palette: Palette) -> Vec<f64> {
+        let above = if self.one_in(4) { self.pick(&[1e-13, 1e-12, 0.5, 1.0]) } else { 0.0 };
+        let block = 2 * orbitals * orbitals;
+        let mut xs = Vec::new();
+        for t in 0..points {
+            for u in 0..points {
+                let factor = if retarded && t < u { above } else { 1.0 };
+                xs.extend((0..block).map(|_| self.number(palette) * factor));
+            }
+        }
+        if self.one_in(16) && !xs.is_empty() {
+            let at = self.below(xs.len());
+            xs[at] = self.any();
+        }
+        xs
+    }
+
+    /// The numbers of a block.
+    pub fn block(&mut self, size: usize) -> Vec<f64> {
+        let palette = self.pick(&PALETTES);
+        (0..2 * size * size).map(|_| self.number(palette)).collect()
+    }
+
+    /// A call on operands of which those named retarded are it, or nearly.
+    pub fn call(&mut self, retarded: &[bool]) -> Call {
+        let fault = if self.one_in(8) {
+            self.pick(&[Fault::Points, Fault::Orbitals, Fault::Length, Fault::Times, Fault::Times, Fault::Entry, Fault::Entry])
+        } else {
+            Fault::None
+        };
+        let (mut points, mut orbitals) = if self.one_in(16) { (2, 5 + self.below(12)) } else { (2 + self.below(5), 1 + self.below(4)) };
+        match fault {
+            Fault::Points => points = self.below(2),
+            Fault::Orbitals => orbitals = 0,
+            _ => {}
+        }
+        let times = self.times(points, fault);
+        let palette = self.pick(&PALETTES);
+        let operands = retarded.iter().map(|&retarded| {
+            let palette = if self.one_in(8) { self.pick(&PALETTES) } else { palette };
+            self.function(points, orbitals, retarded, palette)
+        });
+        let mut operands: Vec<_> = operands.collect();
+        let at = self.below(operands.len());
+        let operand = &mut operands[at];
+        match fault {
+            Fault::Length => operand.truncate(operand.len() - 2 * orbitals * orbitals),
+            Fault::Entry => {
+                let at = self.below(operand.len());
+                operand[at] = self.pick(&[f64::NAN, f64::INFINITY, f64::NEG_INFINITY]);
+            }
+            _ => {}
+        }
+        Call { points, orbitals, times, operands }
+    }
+
+    /// Four components; half of the calls without a fault satisfy the report's identities as far as rounding lets them.
+    pub fn components(&mut self) -> Call {
+        let mut call = self.call(&[true, false, false, false]);
+        let length = 2 * (call.points * call.orbitals).pow(2);
+        if call.operands.iter().any(|xs| xs.len() != length || xs.iter().any(|x| !x.is_finite())) || self.one_in(2) {
+            return call;
+        }
+        for (p, q) in call.mirrored() {
+            let [retarded, advanced, lesser, greater] = &mut call.operands[..] else { unreachable!() };
+            (advanced[p], advanced[p + 1]) = (retarded[q], -retarded[q + 1]);
+            if q >= p {
+                lesser[p] = if q == p { 0.0 } else { lesser[p] };
+                (lesser[q], lesser[q + 1]) = (-lesser[p], lesser[p + 1]);
+            }
+            for p in [p, p + 1] {
+                let sum = lesser[p] + (retarded[p] - advanced[p]);
+                greater[p] = if sum.is_finite() { sum } else { lesser[p] };
+            }
+        }
+        call
+    }
+}
