@@ -12,16 +12,6 @@ FOLDER = sys.argv[1] if len(sys.argv) > 1 else ROOT / "reference"
 sys.path.insert(0, str(FOLDER))
 
 from solver import convolutions, observables, solves
-from solver.calls import line, words
+from solver.calls import ANSWER, write
 
-
-def main():
-    cases = convolutions.CASES + solves.CASES + observables.CASES
-    calls = [call for make in cases for call in make()]
-    folder = ROOT / "crates" / "solver_cases"
-    (folder / "stdin").write_text("".join(map(words, calls)))
-    (folder / "stdout").write_text("".join(line(index, call) for index, call in enumerate(calls)))
-    print(f"{len(calls)} calls")
-
-
-main()
+write("solver_cases", ANSWER, convolutions.CASES + solves.CASES + observables.CASES)

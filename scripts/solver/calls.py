@@ -1,7 +1,9 @@
-"""A call of the solver's program: its words, what it answers by the reference, and numbers to make calls of."""
+"""A call of a program that runs cases: its words, what it answers by the reference, and numbers to make calls of. The functions'
+numbers and ANSWER are those of solver_cases."""
 
 import itertools
 import math
+import pathlib
 import random
 from typing import NamedTuple
 
@@ -25,8 +27,8 @@ FULL, CAUSAL, SUPPORT, DYSON, DYSON_DEFAULT, RUN, DENSITY, NUMBER, EXPECTATION, 
 
 
 class Call(NamedTuple):
-    """A call by the function's number; `more` are the words after the tolerance's, and `slices` are in the order in which the
-    program reads them."""
+    """A call by the function's number; `more` are the words after the tolerance's, `slices` are in the order in which the
+    program reads them, and `last` are the words after them."""
 
     function: int
     points: int
@@ -34,6 +36,7 @@ class Call(NamedTuple):
     tolerance: float
     slices: list
     more: tuple = ()
+    last: tuple = ()
 
 
 # ---- What a call answers -------------------------------------------------------
@@ -118,14 +121,24 @@ ANSWER = {
 }
 
 
-def line(index, call):
-    return " ".join([str(index), *ANSWER[call.function](call)]) + "\n"
+def line(index, call, answers):
+    return " ".join([str(index), *answers[call.function](call)]) + "\n"
 
 
 def words(call):
     rows = [[call.function, call.points, call.orbitals, to_bits(call.tolerance), *call.more]]
     rows += [[len(numbers), *map(to_bits, numbers)] for numbers in call.slices]
+    rows += [call.last] if call.last else []
     return "".join(" ".join(format(word, "016x") for word in row) + "\n" for row in rows)
+
+
+def write(program, answers, cases):
+    """Writes what the program reads and what it is to print, for the calls that `cases` make."""
+    calls = [call for make in cases for call in make()]
+    folder = pathlib.Path(__file__).resolve().parents[2] / "crates" / program
+    (folder / "stdin").write_text("".join(map(words, calls)))
+    (folder / "stdout").write_text("".join(line(index, call, answers) for index, call in enumerate(calls)))
+    print(f"{len(calls)} calls")
 
 
 # ---- Numbers, times and functions ----------------------------------------------
@@ -159,6 +172,12 @@ def some(kind, count, rng):
 def held(count):
     """What an output slice holds before: nothing of it may stay."""
     return list(itertools.islice(itertools.cycle([7.5, -0.0, NAN, -1.25, INFINITY]), count))
+
+
+def other_length(slices, at, change):
+    """The slices, the one at `at` a number shorter or longer."""
+    changed = slices[at][:-1] if change < 0 else slices[at] + [NAN]
+    return [*slices[:at], changed, *slices[at + 1 :]]
 
 
 def quarters(points):

@@ -7,7 +7,7 @@ import random
 from document01 import LARGEST, SMALLEST_NORMAL, function_length, place
 from solver.calls import (
     CAUSAL, FULL, GRIDS, HUGE, INFINITY, KINDS, MOST, NAN, NANS, NOT_FINITE, SMALLEST, SUPPORT, Call, beside, by_place, held,
-    quarters, some, with_entries,
+    other_length, quarters, some, with_entries,
 )
 
 BOTH = (FULL, CAUSAL)
@@ -138,13 +138,11 @@ def lengths():
         count = function_length(points, orbitals)
         for at, change in itertools.product(range(4), (-1, 1)):
             slices = [quarters(points), some("whole", count, rng), some("whole", count, rng), held(count)]
-            slices[at] = slices[at][:-1] if change < 0 else slices[at] + [NAN]
-            yield Call(function, points, orbitals, 0.0, slices)
+            yield Call(function, points, orbitals, 0.0, other_length(slices, at, change))
     # Of one slice alone, where lines 4, 5 and 7 would refuse too.
     for function, at in itertools.product(BOTH, range(4)):
         slices = [[1.0, 0.0, NAN], [NAN] * 18, [INFINITY] * 18, held(18)]
-        slices[at] = slices[at][:-1]
-        yield Call(function, 3, 1, 0.0, slices)
+        yield Call(function, 3, 1, 0.0, other_length(slices, at, -1))
     for function in BOTH:
         numbers = some("whole", 32, rng)
         yield Call(function, 2, 2, 0.0, [quarters(4), numbers, numbers, held(32)])

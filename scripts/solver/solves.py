@@ -8,7 +8,7 @@ from document01 import (
 )
 from solver.calls import (
     DYSON, DYSON_DEFAULT, GRIDS, HUGE, INFINITY, KINDS, MOST, NAN, NANS, NOT_FINITE, RUN, SMALLEST, Call, beside, by_place, held,
-    quarters, some, with_entries,
+    other_length, quarters, some, with_entries,
 )
 
 ALL = (DYSON, DYSON_DEFAULT, RUN)
@@ -269,14 +269,11 @@ def lengths():
     """Line 3: each slice one short and one long, and before lines 4 to 9."""
     for function in GIVEN:
         for at, change in itertools.product(range(SLICES[function]), (-1, 1)):
-            slices = slices_of(function, 2, 1)
-            slices[at] = slices[at][:-1] if change < 0 else slices[at] + [NAN]
-            yield refused(function, 2, 1, slices, DEFAULT_TOLERANCE)
+            yield refused(function, 2, 1, other_length(slices_of(function, 2, 1), at, change), DEFAULT_TOLERANCE)
     for function in GIVEN:
         for at in range(SLICES[function]):
             slices = [[1.0, 0.0, NAN], *([1.0, NAN] * 9 for _ in range(SLICES[function] - 1))]
-            slices[at] = slices[at][:-1]
-            yield refused(function, 3, 1, slices)
+            yield refused(function, 3, 1, other_length(slices, at, -1))
     # The same length has two shapes.
     for function in (DYSON_DEFAULT, RUN):
         yield refused(function, 2, 2, [quarters(4), *slices_of(function, 4, 1)[1:]])

@@ -1,5 +1,7 @@
 // Words of standard input: 16 hexadecimal digits each, and one byte after them, a space or a line feed.
-ghost use Prim.Native.Nat.{_<_};
+ghost use Prim.Native.Nat.{_<_, _≤_};
+ghost use lib.ListN.{length};
+use bits::from_bits;
 use libc::STDIN_FILENO;
 
 pub enum Word {
@@ -42,4 +44,25 @@ pub fn next() -> Word {
         return Word::End;
     }
     Word::Of(value(&bytes))
+}
+
+// Reads a slice, its length and then the bits of its numbers, and answers the length, or 0 where the input ends or the slice is too
+// long.
+pub fn slice(numbers: &mut [f64]) -> usize
+    ensures { λ r. ⌜ r ≤ length (now (numbers .entry)) ⌝ }
+{
+    let Word::Of(word) = next() else {
+        return 0;
+    };
+    let count = word as usize;
+    if count > numbers.len() {
+        return 0;
+    }
+    for i in 0..count {
+        let Word::Of(bits) = next() else {
+            return 0;
+        };
+        numbers[i] = from_bits(bits);
+    }
+    count
 }

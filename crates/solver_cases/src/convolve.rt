@@ -1,7 +1,6 @@
 // Functions 0 to 2: the convolutions and the support test.
-use crate::slices::MOST;
-use crate::slices::slice;
 use refusal::Verdict;
+use show::words::slice;
 use two_time::causal_volterra_convolution;
 use two_time::check_retarded_support;
 use two_time::time_convolution;
@@ -38,27 +37,15 @@ fn print_convolution(
 }
 
 // The convolutions: times, left, right and the output.
-pub(crate) fn convolution(index: u64, causal: bool, points: usize, orbitals: usize) -> bool {
+pub(crate) fn convolution(index: u64, causal: bool, points: usize, orbitals: usize) {
     let mut times = [0.0; 1024];
     let t = slice(&mut times);
-    if t > MOST {
-        return false;
-    }
     let mut left = [0.0; 1024];
     let l = slice(&mut left);
-    if l > MOST {
-        return false;
-    }
     let mut right = [0.0; 1024];
     let r = slice(&mut right);
-    if r > MOST {
-        return false;
-    }
     let mut out = [0.0; 1024];
     let o = slice(&mut out);
-    if o > MOST {
-        return false;
-    }
     print_convolution(
         index,
         causal,
@@ -69,18 +56,13 @@ pub(crate) fn convolution(index: u64, causal: bool, points: usize, orbitals: usi
         orbitals,
         &mut out[..o],
     );
-    true
 }
 
 // The support test: one slice.
-pub(crate) fn support(index: u64, points: usize, orbitals: usize, tolerance: f64) -> bool {
+pub(crate) fn support(index: u64, points: usize, orbitals: usize, tolerance: f64) {
     let mut xs = [0.0; 1024];
     let n = slice(&mut xs);
-    if n > MOST {
-        return false;
-    }
     show::begin(index);
     show::verdict(check_retarded_support(&xs[..n], points, orbitals, tolerance));
     show::end();
-    true
 }

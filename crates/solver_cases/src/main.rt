@@ -5,7 +5,6 @@
 // scripts/solver_cases.py makes the calls and what is to be printed.
 mod convolve;
 mod observe;
-mod slices;
 mod solve;
 
 use bits::from_bits;
@@ -20,12 +19,13 @@ fn call(index: u64, function: u64, points: usize, orbitals: usize, tolerance: f6
         3 => solve::dyson(index, true, points, orbitals, tolerance),
         4 => solve::dyson(index, false, points, orbitals, tolerance),
         5 => solve::transient(index, points, orbitals, tolerance),
-        6 => observe::density(index, points, orbitals),
-        7 => observe::number(index, points, orbitals, tolerance),
-        8 => observe::expectation(index, points, orbitals, tolerance),
-        9 => observe::flow(index, points, orbitals),
-        _ => false,
+        6 => return observe::density(index, points, orbitals),
+        7 => return observe::number(index, points, orbitals, tolerance),
+        8 => return observe::expectation(index, points, orbitals, tolerance),
+        9 => return observe::flow(index, points, orbitals),
+        _ => return false,
     }
+    true
 }
 
 // One call, and whether there was one.

@@ -1,6 +1,4 @@
 // Functions 6 to 9: the observables.
-use crate::slices::MOST;
-use crate::slices::slice;
 use bits::from_bits;
 use complex::Complex;
 use matrix::Checked;
@@ -12,6 +10,7 @@ use observables::one_body_expectation;
 use observables::particle_number;
 use show::words;
 use show::words::Word;
+use show::words::slice;
 
 fn print_observed(index: u64, answer: Observed) {
     show::begin(index);
@@ -59,9 +58,6 @@ pub(crate) fn density(index: u64, points: usize, orbitals: usize) -> bool {
     };
     let mut lesser = [0.0; 1024];
     let l = slice(&mut lesser);
-    if l > MOST {
-        return false;
-    }
     print_block(
         index,
         density_matrix(&lesser[..l], points, orbitals, time as usize),
@@ -76,9 +72,6 @@ pub(crate) fn number(index: u64, points: usize, orbitals: usize, tolerance: f64)
     };
     let mut lesser = [0.0; 1024];
     let l = slice(&mut lesser);
-    if l > MOST {
-        return false;
-    }
     print_observed(
         index,
         particle_number(&lesser[..l], points, orbitals, time as usize, tolerance),
@@ -100,13 +93,8 @@ pub(crate) fn expectation(index: u64, points: usize, orbitals: usize, tolerance:
     };
     let mut lesser = [0.0; 1024];
     let l = slice(&mut lesser);
-    if l > MOST {
-        return false;
-    }
     let mut values = [0.0 / 0.0; 512];
-    if slice(&mut values) > 512 {
-        return false;
-    }
+    slice(&mut values);
     let block = DenseMatrix {
         rows: rows as usize,
         columns: columns as usize,
@@ -148,9 +136,6 @@ pub(crate) fn flow(index: u64, points: usize, orbitals: usize) -> bool {
     };
     let mut lesser = [0.0; 1024];
     let l = slice(&mut lesser);
-    if l > MOST {
-        return false;
-    }
     print_observed(
         index,
         bond_flow_into(

@@ -1,9 +1,8 @@
 // Functions 3 to 5: the Dyson equation and the transient run.
-use crate::slices::MOST;
-use crate::slices::slice;
 use dyson::retarded_dyson;
 use dyson::retarded_dyson_with_tolerance;
 use refusal::Verdict;
+use show::words::slice;
 use transient_run::Solved;
 use transient_run::transient_run;
 
@@ -63,38 +62,17 @@ fn print_dyson(
 }
 
 // The Dyson equation, with the tolerance if it is given: times, free, self-energy, then G and K.
-pub(crate) fn dyson(
-    index: u64,
-    given: bool,
-    points: usize,
-    orbitals: usize,
-    tolerance: f64,
-) -> bool {
+pub(crate) fn dyson(index: u64, given: bool, points: usize, orbitals: usize, tolerance: f64) {
     let mut times = [0.0; 1024];
     let t = slice(&mut times);
-    if t > MOST {
-        return false;
-    }
     let mut free = [0.0; 1024];
     let f = slice(&mut free);
-    if f > MOST {
-        return false;
-    }
     let mut sigma = [0.0; 1024];
     let s = slice(&mut sigma);
-    if s > MOST {
-        return false;
-    }
     let mut green = [0.0; 1024];
     let g = slice(&mut green);
-    if g > MOST {
-        return false;
-    }
     let mut kernel = [0.0; 1024];
     let k = slice(&mut kernel);
-    if k > MOST {
-        return false;
-    }
     print_dyson(
         index,
         given,
@@ -107,7 +85,6 @@ pub(crate) fn dyson(
         &mut green[..g],
         &mut kernel[..k],
     );
-    true
 }
 
 fn print_answer(answer: Solved) {
@@ -153,47 +130,23 @@ fn print_transient(
 }
 
 // The transient run: times, free, both self-energies, then G^R, G^<, K and X.
-pub(crate) fn transient(index: u64, points: usize, orbitals: usize, tolerance: f64) -> bool {
+pub(crate) fn transient(index: u64, points: usize, orbitals: usize, tolerance: f64) {
     let mut times = [0.0; 1024];
     let t = slice(&mut times);
-    if t > MOST {
-        return false;
-    }
     let mut free = [0.0; 1024];
     let f = slice(&mut free);
-    if f > MOST {
-        return false;
-    }
     let mut sigma = [0.0; 1024];
     let s = slice(&mut sigma);
-    if s > MOST {
-        return false;
-    }
     let mut source = [0.0; 1024];
     let e = slice(&mut source);
-    if e > MOST {
-        return false;
-    }
     let mut green = [0.0; 1024];
     let g = slice(&mut green);
-    if g > MOST {
-        return false;
-    }
     let mut lesser = [0.0; 1024];
     let l = slice(&mut lesser);
-    if l > MOST {
-        return false;
-    }
     let mut kernel = [0.0; 1024];
     let k = slice(&mut kernel);
-    if k > MOST {
-        return false;
-    }
     let mut mixed = [0.0; 1024];
     let x = slice(&mut mixed);
-    if x > MOST {
-        return false;
-    }
     print_transient(
         index,
         &times[..t],
@@ -208,5 +161,4 @@ pub(crate) fn transient(index: u64, points: usize, orbitals: usize, tolerance: f
         &mut kernel[..k],
         &mut mixed[..x],
     );
-    true
 }

@@ -11,16 +11,12 @@ convolution-spec =
     (tie.spec
     (λ c. search needs)  -- slice-aggregate-slice
     (λ c κs. search needs)  -- slice-requires
-    (λ c. search needs)  -- returns
     (λ c. search needs)  -- slice-aggregate-slice-2
     (λ c κs. search needs)  -- slice-requires-2
-    (λ c. search needs)  -- returns-2
     (λ c. search needs)  -- slice-aggregate-slice-3
     (λ c κs. search needs)  -- slice-requires-3
-    (λ c. search needs)  -- returns-3
     (λ c. search needs)  -- slice-aggregate-slice-4
     (λ c κs. search needs)  -- slice-requires-4
-    (λ c. search needs)  -- returns-4
     (λ c. search needs)  -- array-share-prefix-times
     (λ c. sym (length-take-le _ _ (search needs)))  -- slice-aggregate-print-convolution
     (λ c. search needs)  -- array-share-prefix-left
@@ -30,4 +26,4 @@ convolution-spec =
     (λ c. search needs)  -- array-borrow-prefix-out
     (λ c. sym (length-take-le _ _ (search needs)))  -- slice-aggregate-print-convolution-4
     (λ c κs. search needs)  -- print-convolution-requires
-    (λ c. search needs))  -- returns-5
+    (λ c. search needs))  -- returns

@@ -11,11 +11,10 @@ support-spec =
     (tie.spec
     (λ c. search needs)  -- slice-aggregate-slice
     (λ c κs. search needs)  -- slice-requires
-    (λ c. search needs)  -- returns
     (λ c κs. search needs)  -- begin-requires
     (λ c. search needs)  -- array-share-prefix-xs
     (λ c. sym (length-take-le _ _ (search needs)))  -- slice-aggregate-check-retarded-support
     (λ c κs. search needs)  -- check-retarded-support-requires
     (λ c κs. search needs)  -- verdict-requires
     (λ c κs. search needs)  -- end-requires
-    (λ c. search needs))  -- returns-2
+    (λ c. search needs))  -- returns

@@ -15,9 +15,8 @@ density-spec =
     (λ c. search needs)  -- returns
     (λ c. search needs)  -- slice-aggregate-slice
     (λ c κs. search needs)  -- slice-requires
-    (λ c. search needs)  -- returns-2
     (λ c. search needs)  -- array-share-prefix-lesser
     (λ c. sym (length-take-le _ _ (search needs)))  -- slice-aggregate-density-matrix
     (λ c κs. search needs)  -- density-matrix-requires
     (λ c κs. search needs)  -- print-block-requires
-    (λ c. search needs))  -- returns-3
+    (λ c. search needs))  -- returns-2

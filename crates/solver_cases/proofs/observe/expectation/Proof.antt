@@ -23,12 +23,10 @@ expectation-spec =
     (λ c. search needs)  -- returns-3
     (λ c. search needs)  -- slice-aggregate-slice
     (λ c κs. search needs)  -- slice-requires
-    (λ c. search needs)  -- returns-4
     (λ c. search needs)  -- slice-aggregate-slice-2
     (λ c κs. search needs)  -- slice-requires-2
-    (λ c. search needs)  -- returns-5
     (λ c. search needs)  -- array-share-prefix-lesser
     (λ c. sym (length-take-le _ _ (search needs)))  -- slice-aggregate-one-body-expectation
     (λ c κs. search needs)  -- one-body-expectation-requires
     (λ c κs. search needs)  -- print-observed-requires
-    (λ c. search needs))  -- returns-6
+    (λ c. search needs))  -- returns-4

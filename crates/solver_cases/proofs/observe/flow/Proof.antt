@@ -35,7 +35,6 @@ flow-spec =
     (λ c. search needs)  -- returns-6
     (λ c. search needs)  -- slice-aggregate-slice
     (λ c κs. search needs)  -- slice-requires
-    (λ c. search needs)  -- returns-7
     (λ c. search needs)  -- array-share-prefix-lesser
     (λ c. sym (length-take-le _ _ (search needs)))  -- slice-aggregate-bond-flow-into
     (λ c κs. search needs)  -- from-bits-requires
@@ -44,4 +43,4 @@ flow-spec =
     (λ c κs. search needs)  -- from-bits-requires-3
     (λ c κs. search needs)  -- bond-flow-into-requires
     (λ c κs. search needs)  -- print-observed-requires
-    (λ c. search needs))  -- returns-8
+    (λ c. search needs))  -- returns-7

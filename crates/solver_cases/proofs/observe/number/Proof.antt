@@ -15,9 +15,8 @@ number-spec =
     (λ c. search needs)  -- returns
     (λ c. search needs)  -- slice-aggregate-slice
     (λ c κs. search needs)  -- slice-requires
-    (λ c. search needs)  -- returns-2
     (λ c. search needs)  -- array-share-prefix-lesser
     (λ c. sym (length-take-le _ _ (search needs)))  -- slice-aggregate-particle-number
     (λ c κs. search needs)  -- particle-number-requires
     (λ c κs. search needs)  -- print-observed-requires
-    (λ c. search needs))  -- returns-3
+    (λ c. search needs))  -- returns-2

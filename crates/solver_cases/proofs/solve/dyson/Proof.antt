@@ -11,19 +11,14 @@ dyson-spec =
     (tie.spec
     (λ c. search needs)  -- slice-aggregate-slice
     (λ c κs. search needs)  -- slice-requires
-    (λ c. search needs)  -- returns
     (λ c. search needs)  -- slice-aggregate-slice-2
     (λ c κs. search needs)  -- slice-requires-2
-    (λ c. search needs)  -- returns-2
     (λ c. search needs)  -- slice-aggregate-slice-3
     (λ c κs. search needs)  -- slice-requires-3
-    (λ c. search needs)  -- returns-3
     (λ c. search needs)  -- slice-aggregate-slice-4
     (λ c κs. search needs)  -- slice-requires-4
-    (λ c. search needs)  -- returns-4
     (λ c. search needs)  -- slice-aggregate-slice-5
     (λ c κs. search needs)  -- slice-requires-5
-    (λ c. search needs)  -- returns-5
     (λ c. search needs)  -- array-share-prefix-times
     (λ c. sym (length-take-le _ _ (search needs)))  -- slice-aggregate-print-dyson
     (λ c. search needs)  -- array-share-prefix-free
@@ -35,4 +30,4 @@ dyson-spec =
     (λ c. search needs)  -- array-borrow-prefix-kernel
     (λ c. sym (length-take-le _ _ (search needs)))  -- slice-aggregate-print-dyson-5
     (λ c κs. search needs)  -- print-dyson-requires
-    (λ c. search needs))  -- returns-6
+    (λ c. search needs))  -- returns

@@ -11,28 +11,20 @@ transient-spec =
     (tie.spec
     (λ c. search needs)  -- slice-aggregate-slice
     (λ c κs. search needs)  -- slice-requires
-    (λ c. search needs)  -- returns
     (λ c. search needs)  -- slice-aggregate-slice-2
     (λ c κs. search needs)  -- slice-requires-2
-    (λ c. search needs)  -- returns-2
     (λ c. search needs)  -- slice-aggregate-slice-3
     (λ c κs. search needs)  -- slice-requires-3
-    (λ c. search needs)  -- returns-3
     (λ c. search needs)  -- slice-aggregate-slice-4
     (λ c κs. search needs)  -- slice-requires-4
-    (λ c. search needs)  -- returns-4
     (λ c. search needs)  -- slice-aggregate-slice-5
     (λ c κs. search needs)  -- slice-requires-5
-    (λ c. search needs)  -- returns-5
     (λ c. search needs)  -- slice-aggregate-slice-6
     (λ c κs. search needs)  -- slice-requires-6
-    (λ c. search needs)  -- returns-6
     (λ c. search needs)  -- slice-aggregate-slice-7
     (λ c κs. search needs)  -- slice-requires-7
-    (λ c. search needs)  -- returns-7
     (λ c. search needs)  -- slice-aggregate-slice-8
     (λ c κs. search needs)  -- slice-requires-8
-    (λ c. search needs)  -- returns-8
     (λ c. search needs)  -- array-share-prefix-times
     (λ c. sym (length-take-le _ _ (search needs)))  -- slice-aggregate-print-transient
     (λ c. search needs)  -- array-share-prefix-free
@@ -50,4 +42,4 @@ transient-spec =
     (λ c. search needs)  -- array-borrow-prefix-mixed
     (λ c. sym (length-take-le _ _ (search needs)))  -- slice-aggregate-print-transient-8
     (λ c κs. search needs)  -- print-transient-requires
-    (λ c. search needs))  -- returns-9
+    (λ c. search needs))  -- returns

@@ -1,10 +1,10 @@
--- `solver_cases::slices::slice` is safe and ends: what is read is at most the array's length, which stays. Assumes nothing.
+-- `show::words::slice` answers at most the slice's length, is safe and ends. Assumes nothing.
 use mathlib.Core.Path.{_≡_}
 use Prim.Native.Nat.{_≤_, _-_}
 use lib.ListN.{length}
 use borrow.Author.Needs.{needs}
-use Rattle.solver_cases.proofs.slices.slice.Statement.{statement}
-use Rattle.solver_cases.proofs.slices.slice.Tie as tie
+use Rattle.show.proofs.words.slice.Statement.{statement}
+use Rattle.show.proofs.words.slice.Tie as tie
 
 abbrev Inv : tie.InvT-loop
 Inv numbers₀ word count i₀ numbers i = (i ≤ count) × (length numbers ≡ length numbers₀)
