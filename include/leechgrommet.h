@@ -1,0 +1,146 @@
+/*
+ * The C interface of the solver: what the archives of `rt staticlib norm_export` and `rt staticlib solver_export` export. Each function
+ * is proved to do, for all inputs, what is said here; the definitions are in the crates' specs/, and "document 01" is the specification.
+ *
+ * Memory. A slice crosses as its address and its length in elements. An address is aligned and not null, also where the length is 0. What
+ * is written overlaps nothing else that is lent to the same call. Any numbers and lengths may be given: the calls end and refuse.
+ *
+ * Functions. A two-time function of N times (points) and n orbitals has 2*N*N*n*n numbers: block (t, t') row by row, in a block entry
+ * (a, b) row by row, real part before imaginary. Times are N numbers.
+ *
+ * Answers. 0: accepted. Otherwise the number of the first question that was answered no:
+ *     1   N at least 2, n at least 1                       9   each input retarded within tolerance: operand, first, second, part = residual
+ *     2   N at most 256, n at most 16                      10  every block made during the work finite
+ *     3   each lent slice its exact length                 11  the time index below N
+ *     4   all times finite                                 12  a, then b, below n
+ *     5   each time above the one before: first            13  hopping and charge factor finite
+ *     6   all full weights finite                          14  the imaginary part's size at most the tolerance: part
+ *     7   all entries finite: operand, first = position
+ *     8   the tolerance finite and above 0
+ * Operands count from 0 in the order of the parameters, times not counted. After 10 every output and scratch slice holds +0 throughout;
+ * after any other number nothing lent has changed, but for `places` and `part`.
+ *
+ * Places. A refusal writes its operand, first and second to `places`, a slice of 3, and its part to `part`, a slice of 1; a place that
+ * it does not have is 0. An accepted call leaves both, and a slice of another length is left as it was.
+ */
+#ifndef LEECHGROMMET_H
+#define LEECHGROMMET_H
+
+#include <stddef.h>
+#include <stdint.h>
+
+#ifdef __cplusplus
+extern "C" {
+#endif
+
+/* The norm of re + i*im: the nearest binary64, ties to the even significand; +infinity where a part is infinite, else NaN where one is NaN. */
+double norm_of(double re, double im);
+
+/* out(t,t') = the sum over all s of left(t,s) right(s,t') by full trapezoid weights. Asks 1 to 7, 10. */
+uint8_t time_convolution(
+    const double *times, size_t times_len,
+    const double *left, size_t left_len,
+    const double *right, size_t right_len,
+    size_t points, size_t orbitals,
+    double *out, size_t out_len,
+    size_t *places, size_t places_len, double *part, size_t part_len);
+
+/* The same over s from t' to t by the weights of that interval, +0 where t < t'. Asks 1 to 7, 10. */
+uint8_t causal_volterra_convolution(
+    const double *times, size_t times_len,
+    const double *left, size_t left_len,
+    const double *right, size_t right_len,
+    size_t points, size_t orbitals,
+    double *out, size_t out_len,
+    size_t *places, size_t places_len, double *part, size_t part_len);
+
+/* Whether xs is retarded within the tolerance: above the diagonal no block's largest norm, divided by the largest of all entries (at least
+ * 2^-1022), exceeds it. Asks 1, 2, 3, 7, 8, 9. */
+uint8_t check_retarded_support(
+    const double *xs, size_t xs_len,
+    size_t points, size_t orbitals, double tolerance,
+    size_t *places, size_t places_len, double *part, size_t part_len);
+
+/* Dyson's equation: green = the retarded function G, kernel = K, the causal convolution of free and sigma. Asks 1 to 10, 9 of free before
+ * sigma. */
+uint8_t retarded_dyson_with_tolerance(
+    const double *times, size_t times_len,
+    const double *free_propagator, size_t free_propagator_len,
+    const double *sigma, size_t sigma_len,
+    size_t points, size_t orbitals, double tolerance,
+    double *green, size_t green_len,
+    double *kernel, size_t kernel_len,
+    size_t *places, size_t places_len, double *part, size_t part_len);
+
+/* The transient run of a device that starts empty, of the free propagator, the retarded self-energy sigma and the lesser self-energy source:
+ * green = G^R and lesser = G^<; kernel = K and mixed = X are scratch. Asks 1 to 10. */
+uint8_t transient_run(
+    const double *times, size_t times_len,
+    const double *free_propagator, size_t free_propagator_len,
+    const double *sigma, size_t sigma_len,
+    const double *source, size_t source_len,
+    size_t points, size_t orbitals, double tolerance,
+    double *green, size_t green_len,
+    double *lesser, size_t lesser_len,
+    double *kernel, size_t kernel_len,
+    double *mixed, size_t mixed_len,
+    size_t *places, size_t places_len, double *part, size_t part_len);
+
+/* The trace of the density -i G^<(t,t) at a time, written to `value`, a slice of 1 (left by a refusal). Asks 1, 2, 3, 7, then 11, 8, 14. */
+uint8_t particle_number(
+    const double *lesser, size_t lesser_len,
+    size_t points, size_t orbitals, size_t time, double tolerance,
+    double *value, size_t value_len,
+    size_t *places, size_t places_len, double *part, size_t part_len);
+
+/* (2*charge) * Im(hopping * rho_ba), the flow into orbital a from b, written to `value`; it may be infinite or a NaN. Asks 1, 2, 3, 7, then
+ * 13, 12, 11. */
+uint8_t bond_flow_into(
+    const double *lesser, size_t lesser_len,
+    size_t points, size_t orbitals, size_t time, size_t a, size_t b,
+    double real, double imaginary, double charge,
+    double *value, size_t value_len,
+    size_t *places, size_t places_len, double *part, size_t part_len);
+
+/* The largest norms by which the components violate: retarded support, advanced support, G^A = adjoint of G^R, anti-Hermiticity of G^< and
+ * of G^>, G^R - G^A = G^> - G^<; in that order to `residuals`, a slice of 6 (left by a refusal). Asks 1, 2, 3, 7, 10. */
+uint8_t consistency_report(
+    const double *retarded, size_t retarded_len,
+    const double *advanced, size_t advanced_len,
+    const double *lesser, size_t lesser_len,
+    const double *greater, size_t greater_len,
+    size_t points, size_t orbitals,
+    double *residuals, size_t residuals_len,
+    size_t *places, size_t places_len, double *part, size_t part_len);
+
+/* Whether all six residuals are at most the tolerance: 1 or 0 to `decided`, a slice of 1 (left by a refusal). A NaN is not. Asks 8. */
+uint8_t is_consistent(
+    double retarded_causality, double advanced_causality, double advanced_adjoint,
+    double lesser_antihermiticity, double greater_antihermiticity, double spectral_identity, double tolerance,
+    uint8_t *decided, size_t decided_len,
+    size_t *places, size_t places_len, double *part, size_t part_len);
+
+/* The Langreth product: retarded = A^R B^R causal, advanced = A^A B^A from t to t', lesser = A^R B^< + A^< B^A by full weights, greater alike.
+ * Operands: the left four, then the right four. Asks 1 to 7, 10. */
+uint8_t langreth_product(
+    const double *times, size_t times_len,
+    const double *left_retarded, size_t left_retarded_len,
+    const double *left_advanced, size_t left_advanced_len,
+    const double *left_lesser, size_t left_lesser_len,
+    const double *left_greater, size_t left_greater_len,
+    const double *right_retarded, size_t right_retarded_len,
+    const double *right_advanced, size_t right_advanced_len,
+    const double *right_lesser, size_t right_lesser_len,
+    const double *right_greater, size_t right_greater_len,
+    size_t points, size_t orbitals,
+    double *retarded, size_t retarded_len,
+    double *advanced, size_t advanced_len,
+    double *lesser, size_t lesser_len,
+    double *greater, size_t greater_len,
+    size_t *places, size_t places_len, double *part, size_t part_len);
+
+#ifdef __cplusplus
+}
+#endif
+
+#endif
