@@ -2,7 +2,7 @@
 
     python3 scripts/fuzz_transient.py PROGRAM [COUNT [SEED [JOBS]]]
 
-PROGRAM is the built program (target/bin/transient). Files are cut, grown, spliced, their bits flipped, tables forged and numbers replaced. A
+PROGRAM is the built program (target/bin/transient). Files are cut, grown and resized, their bits flipped, tables forged and numbers replaced. A
 difference, an exit status that is not 0 or a word on standard error is written out with the file's bytes, and ends the run with status 1.
 The last lines count the answers."""
 
