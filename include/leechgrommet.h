@@ -1,6 +1,7 @@
 /*
- * The C interface of the solver: what the archives of `rt staticlib norm_export` and `rt staticlib solver_export` export. Each function
- * is proved to do, for all inputs, what is said here; the definitions are in the crates' specs/, and "document 01" is the specification.
+ * The C interface of the solver: what the archives of `rt staticlib norm_export`, `rt staticlib matrix_export` and `rt staticlib
+ * solver_export` export. Each function is proved to do, for all inputs, what is said here; the definitions are in the crates' specs/, and
+ * "document 01" is the specification.
  *
  * Memory. A slice crosses as its address and its length in elements. An address is aligned and not null, also where the length is 0. What
  * is written overlaps nothing else that is lent to the same call. Any numbers and lengths may be given: the calls end and refuse.
@@ -8,17 +9,23 @@
  * Functions. A two-time function of N times (points) and n orbitals has 2*N*N*n*n numbers: block (t, t') row by row, in a block entry
  * (a, b) row by row, real part before imaginary. Times are N numbers.
  *
+ * Blocks. A block crosses as its rows, its columns and the address of BLOCK_NUMBERS numbers, of which the first 2*rows*columns are its
+ * entries, row by row, real part before imaginary; no call reads past them. A block that is made is written as rows and columns to `shape`,
+ * a slice of 2, and as BLOCK_NUMBERS numbers to `out`, a slice of that length, +0 past its entries. Beside any refusal it is written too, as
+ * 0 by 0 and +0 throughout. Of blocks, questions 1 to 3 are: at least one row and column (1), at most 16 (2), shapes that fit (3); of two
+ * blocks each question is asked of both before the next.
+ *
  * Answers. 0: accepted. Otherwise the number of the first question that was answered no:
  *     1   N at least 2, n at least 1                       9   each input retarded within tolerance: operand, first, second, part = residual
  *     2   N at most 256, n at most 16                      10  every block made during the work finite
  *     3   each lent slice its exact length                 11  the time index below N
- *     4   all times finite                                 12  a, then b, below n
+ *     4   all times finite                                 12  a, then b, below n; of a block, row, then column, inside
  *     5   each time above the one before: first            13  hopping and charge factor finite
  *     6   all full weights finite                          14  the imaginary part's size at most the tolerance: part
  *     7   all entries finite: operand, first = position
  *     8   the tolerance finite and above 0
  * Operands count from 0 in the order of the parameters, times not counted. After 10 every output and scratch slice holds +0 throughout;
- * after any other number nothing lent has changed, but for `places` and `part`.
+ * after any other number nothing lent has changed, but for `places`, `part` and a block's `shape` and `out`.
  *
  * Places. A refusal writes its operand, first and second to `places`, a slice of 3, and its part to `part`, a slice of 1; a place that
  * it does not have is 0. An accepted call leaves both, and a slice of another length is left as it was.
@@ -29,12 +36,95 @@
 #include <stddef.h>
 #include <stdint.h>
 
+/* The numbers of a block: 16 by 16 entries of two parts. */
+#define BLOCK_NUMBERS 512
+
 #ifdef __cplusplus
 extern "C" {
 #endif
 
 /* The norm of re + i*im: the nearest binary64, ties to the even significand; +infinity where a part is infinite, else NaN where one is NaN. */
 double norm_of(double re, double im);
+
+/* The first number of a*b*..*b, `turns` products of size by size blocks; +0 of a block that was refused. For measuring. */
+double product_chain(const double *a, size_t a_len, const double *b, size_t b_len, size_t size, size_t turns);
+
+/* The block of these rows and columns; `numbers` are its 2*rows*columns numbers, of another length 3. Asks 1, 2, 3, 7. */
+uint8_t block_from_numbers(
+    size_t rows, size_t columns,
+    const double *numbers, size_t numbers_len,
+    size_t *shape, size_t shape_len, double *out, size_t out_len,
+    size_t *places, size_t places_len, double *part, size_t part_len);
+
+/* The identity. Asks 1, 2. */
+uint8_t block_identity(
+    size_t size,
+    size_t *shape, size_t shape_len, double *out, size_t out_len,
+    size_t *places, size_t places_len, double *part, size_t part_len);
+
+/* The conjugate transpose, columns by rows. Asks 1, 2, 7. */
+uint8_t block_adjoint(
+    size_t rows, size_t columns, const double *values,
+    size_t *shape, size_t shape_len, double *out, size_t out_len,
+    size_t *places, size_t places_len, double *part, size_t part_len);
+
+/* Each entry times real + i*imaginary, which may be any numbers. Asks 1, 2, 7, 10. */
+uint8_t block_scale(
+    size_t rows, size_t columns, const double *values,
+    double real, double imaginary,
+    size_t *shape, size_t shape_len, double *out, size_t out_len,
+    size_t *places, size_t places_len, double *part, size_t part_len);
+
+/* The matrix product left right, each entry's sum from +0 in index order; 3 unless left has as many columns as right has rows. Asks 1, 2, 3,
+ * 7, 10. */
+uint8_t block_multiply(
+    size_t left_rows, size_t left_columns, const double *left,
+    size_t right_rows, size_t right_columns, const double *right,
+    size_t *shape, size_t shape_len, double *out, size_t out_len,
+    size_t *places, size_t places_len, double *part, size_t part_len);
+
+/* left + right; 3 unless their shapes are the same. Asks 1, 2, 3, 7, 10. */
+uint8_t block_add(
+    size_t left_rows, size_t left_columns, const double *left,
+    size_t right_rows, size_t right_columns, const double *right,
+    size_t *shape, size_t shape_len, double *out, size_t out_len,
+    size_t *places, size_t places_len, double *part, size_t part_len);
+
+/* left - right, alike. */
+uint8_t block_subtract(
+    size_t left_rows, size_t left_columns, const double *left,
+    size_t right_rows, size_t right_columns, const double *right,
+    size_t *shape, size_t shape_len, double *out, size_t out_len,
+    size_t *places, size_t places_len, double *part, size_t part_len);
+
+/* The sum of the diagonal, real and imaginary part to `value`, a slice of 2 (left by a refusal); it may be infinite. 3 unless the block is
+ * square. Asks 1, 2, 3, 7. */
+uint8_t block_trace(
+    size_t rows, size_t columns, const double *values,
+    double *value, size_t value_len,
+    size_t *places, size_t places_len, double *part, size_t part_len);
+
+/* The entry in a row and a column, alike. Asks 1, 2, 7, 12. */
+uint8_t block_get(
+    size_t rows, size_t columns, const double *values,
+    size_t row, size_t column,
+    double *value, size_t value_len,
+    size_t *places, size_t places_len, double *part, size_t part_len);
+
+/* The largest norm of an entry of left - right, written to `value`, a slice of 1 (left by a refusal); it may be infinite. 3 unless their shapes
+ * are the same. Asks 1, 2, 3, 7. */
+uint8_t block_max_difference(
+    size_t left_rows, size_t left_columns, const double *left,
+    size_t right_rows, size_t right_columns, const double *right,
+    double *value, size_t value_len,
+    size_t *places, size_t places_len, double *part, size_t part_len);
+
+/* Whether the block is square and no entry on or above the diagonal less the conjugate of its mirror has a part above the tolerance times the
+ * block's largest part: 1 or 0 to `decided`, a slice of 1 (left by a refusal). Asks 1, 2, 7, 8. */
+uint8_t block_is_hermitian(
+    size_t rows, size_t columns, const double *values, double tolerance,
+    uint8_t *decided, size_t decided_len,
+    size_t *places, size_t places_len, double *part, size_t part_len);
 
 /* out(t,t') = the sum over all s of left(t,s) right(s,t') by full trapezoid weights. Asks 1 to 7, 10. */
 uint8_t time_convolution(
@@ -86,10 +176,26 @@ uint8_t transient_run(
     double *mixed, size_t mixed_len,
     size_t *places, size_t places_len, double *part, size_t part_len);
 
+/* The density -i G^<(t,t) at a time, an n by n block. Asks 1, 2, 3, 7, 11. */
+uint8_t density_matrix(
+    const double *lesser, size_t lesser_len,
+    size_t points, size_t orbitals, size_t time,
+    size_t *shape, size_t shape_len, double *out, size_t out_len,
+    size_t *places, size_t places_len, double *part, size_t part_len);
+
 /* The trace of the density -i G^<(t,t) at a time, written to `value`, a slice of 1 (left by a refusal). Asks 1, 2, 3, 7, then 11, 8, 14. */
 uint8_t particle_number(
     const double *lesser, size_t lesser_len,
     size_t points, size_t orbitals, size_t time, double tolerance,
+    double *value, size_t value_len,
+    size_t *places, size_t places_len, double *part, size_t part_len);
+
+/* The trace of the product of a one-body matrix, lent as an n by n block (of another shape 3; operand 1), with the density, written to `value`.
+ * Asks 1, 2, 3, 7, then 11, 10 (the product), 8, 14. */
+uint8_t one_body_expectation(
+    const double *lesser, size_t lesser_len,
+    size_t points, size_t orbitals, size_t time,
+    size_t rows, size_t columns, const double *values, double tolerance,
     double *value, size_t value_len,
     size_t *places, size_t places_len, double *part, size_t part_len);
 

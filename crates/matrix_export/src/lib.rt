@@ -1,4 +1,6 @@
-// A chain of products for measuring: x ← x·y, so that no product can be left out.
+// A chain of products for measuring: x ← x·y, so that no product can be left out; the operations on blocks are in `blocks`.
+pub mod blocks;
+
 ghost use mathlib.Core.Path.{_≡_};
 ghost use Rattle.matrix_export.specs.Chain.{chained};
 use matrix::DenseMatrix;

@@ -1,7 +1,5 @@
--- The steps of telling a report and a decision: what six stores and one store leave, and what an answer known by its case leaves. Assumes
--- nothing.
+-- The steps of telling a report: what six stores leave, and what an answer known by its case leaves. Assumes nothing.
 use mathlib.Core.Path.{_≡_, refl}
-use Prim.Native.Nat.{ℕ}
 use mathlib.Core.Bool.{cond}
 use mathlib.Core.List.{List, [], _∷_}
 use native.Mathlib.Omega.{arith}
@@ -11,15 +9,12 @@ use lib.Ieee.{Float}
 use borrow.Author.Tests.{eq-eqb, ne-eqb}
 use Rattle.refusal.specs.declared.Refusal.{Refusal}
 use Rattle.refusal.specs.declared.Verdict.the-variants.{Pass, Refused}
-use Rattle.refusal.specs.declared.Decision.{Decision}
-use Rattle.refusal.specs.declared.Decision.the-variants.{Yes, No, Refused as Undecided}
-use Rattle.refusal.specs.Verdict.{numberOf, decisionNumber}
+use Rattle.refusal.specs.Verdict.{numberOf}
 use Rattle.report.specs.declared.ConsistencyReport.{ConsistencyReport}
 use Rattle.report.specs.declared.Reported.{Reported}
 use Rattle.report.specs.declared.Reported.the-variants.{Of, Refused as NotReported}
 use Rattle.report.specs.Calls.{reportedNumber}
-use Rattle.solver_export.specs.Telling.{one}
-use Rattle.solver_export.specs.ToldKeldysh.{withResiduals, withByte, toldResiduals, toldDecision, reportedVerdict, decidedVerdict}
+use Rattle.solver_export.specs.ToldKeldysh.{withResiduals, toldResiduals, reportedVerdict}
 
 six : (xs : List Float) (a b c d e f : Float) → length xs ≡ 6
     → set (set (set (set (set (set xs 0 a) 1 b) 2 c) 3 d) 4 e) 5 f ≡ a ∷ b ∷ c ∷ d ∷ e ∷ f ∷ []
@@ -43,15 +38,6 @@ module _ (x : ConsistencyReport) (xs : List Float) where
   unfolding withResiduals
   residuals-left h = rw (ne-eqb (length xs) 6 h)
 
-module _ (x : ℕ) (xs : List ℕ) where
-  pub byte-written : length xs ≡ 1 → set xs 0 x ≡ withByte x xs
-  unfolding withByte
-  byte-written h = rw (eq-eqb (length xs) 1 h) (one xs _ h)
-
-  pub byte-left : (length xs ≡ 1 → ⊥) → xs ≡ withByte x xs
-  unfolding withByte
-  byte-left h = rw (ne-eqb (length xs) 1 h)
-
 -- a report by its case, and its number
 module _ (o : Reported) where
   pub reported-of : (x : ConsistencyReport) → o ≡ Of x → Pass ≡ reportedVerdict o
@@ -74,35 +60,3 @@ pub number-reported : (o : Reported) → numberOf (reportedVerdict o) ≡ report
 unfolding reportedVerdict reportedNumber numberOf
 number-reported (Of x) = refl
 number-reported (NotReported r) = refl
-
--- a decision by its case, and its number
-module _ (d : Decision) where
-  pub decided-yes : d ≡ Yes → Pass ≡ decidedVerdict d
-  unfolding decidedVerdict
-  decided-yes h = rw h refl
-
-  pub decided-no : d ≡ No → Pass ≡ decidedVerdict d
-  unfolding decidedVerdict
-  decided-no h = rw h refl
-
-  pub decided-refused : (r : Refusal) → d ≡ Undecided r → Refused r ≡ decidedVerdict d
-  unfolding decidedVerdict
-  decided-refused r h = rw h refl
-
-  pub yes-told : (xs : List ℕ) → d ≡ Yes → withByte 1 xs ≡ toldDecision d xs
-  unfolding toldDecision
-  yes-told xs h = rw h refl
-
-  pub no-told : (xs : List ℕ) → d ≡ No → withByte 0 xs ≡ toldDecision d xs
-  unfolding toldDecision
-  no-told xs h = rw h refl
-
-  pub decision-left : (xs : List ℕ) (r : Refusal) → d ≡ Undecided r → xs ≡ toldDecision d xs
-  unfolding toldDecision
-  decision-left xs r h = rw h refl
-
-pub number-decided : (d : Decision) → numberOf (decidedVerdict d) ≡ decisionNumber d
-unfolding decidedVerdict decisionNumber numberOf
-number-decided Yes = refl
-number-decided No = refl
-number-decided (Undecided r) = refl

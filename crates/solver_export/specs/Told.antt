@@ -1,34 +1,13 @@
--- What the slices lent for a refusal's places, and for an observable's number, hold after a call.
-use Prim.Native.Nat.{ℕ}
-use mathlib.Core.Bool.{cond}
-use mathlib.Core.List.{List, [], _∷_}
-use lib.Dec.{eqb}
-use lib.ListN.{length}
+-- A run's answer and an observable's as they are told, and what the slice lent for an observable's number holds after a call.
+use mathlib.Core.List.{List}
 use lib.Ieee.{Float}
-use Rattle.refusal.specs.declared.Refusal.{Refusal}
 use Rattle.refusal.specs.declared.Verdict.{Verdict}
 use Rattle.refusal.specs.declared.Verdict.the-variants.{Pass, Refused}
 use Rattle.transient_run.specs.declared.Solved.{Solved}
 use Rattle.transient_run.specs.declared.Solved.the-variants.{Accepted, Refused as NotSolved}
 use Rattle.observables.specs.declared.Observed.{Observed}
 use Rattle.observables.specs.declared.Observed.the-variants.{Number, NotReal, Refused as NotObserved}
-
--- operand, first and second, where three numbers are lent; a slice of another length is left
-unfoldable pub withPlaces : Refusal → List ℕ → List ℕ
-withPlaces r before = cond (eqb (length before) 3) (r .operand ∷ r .first ∷ r .second ∷ []) before
-
--- a number, where one is lent
-unfoldable pub withNumber : Float → List Float → List Float
-withNumber x before = cond (eqb (length before) 1) (x ∷ []) before
-
--- after an answer: an accepted call leaves both slices
-unfoldable pub toldPlaces : Verdict → List ℕ → List ℕ
-toldPlaces Pass before = before
-toldPlaces (Refused r) before = withPlaces r before
-
-unfoldable pub toldPart : Verdict → List Float → List Float
-toldPart Pass before = before
-toldPart (Refused r) before = withNumber (r .part) before
+use Rattle.telling.specs.Told.{withNumber}
 
 -- a run's answer, and an observable's, told as that of another call; 14 carries the imaginary part
 unfoldable pub solvedVerdict : Solved → Verdict

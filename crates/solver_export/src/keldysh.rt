@@ -1,16 +1,15 @@
-// The calls on all four components. A report's six residuals go to a lent slice of six, a decision to one byte: 1 for yes, 0 for no. A
-// refusal leaves both.
+// The calls on all four components. A report's six residuals go to a lent slice of six, which a refusal leaves.
 ghost use mathlib.Core.Path.{_≡_};
 ghost use Rattle.refusal.specs.Verdict.{numberOf, decisionNumber};
 ghost use Rattle.report.specs.Calls.{consistencyReport, isConsistent, reportedNumber};
 ghost use Rattle.langreth.specs.Calls.{componentsOf, langrethProduct};
-ghost use Rattle.solver_export.specs.Told.{toldPlaces, toldPart};
-ghost use Rattle.solver_export.specs.ToldKeldysh.{withResiduals, withByte, toldResiduals, toldDecision, reportedVerdict, decidedVerdict};
-use crate::tell;
-use refusal::Decision;
+ghost use Rattle.telling.specs.Told.{toldPlaces, toldPart, toldDecision, decidedVerdict};
+ghost use Rattle.solver_export.specs.ToldKeldysh.{withResiduals, toldResiduals, reportedVerdict};
 use refusal::Verdict;
 use report::ConsistencyReport;
 use report::Reported;
+use telling::tell;
+use telling::tell_decision;
 
 // Writes the residuals, if six numbers are lent.
 fn tell_residuals(x: ConsistencyReport, lent: &mut [f64])
@@ -77,37 +76,6 @@ pub extern "C" fn consistency_report(
     tell(reported_verdict(reported), places, part)
 }
 
-// Writes a byte, if one is lent.
-fn tell_byte(x: u8, lent: &mut [u8])
-    ensures { λ _. ⌜ now (lent .exit) ≡ withByte x (now (lent .entry)) ⌝ }
-{
-    if lent.len() == 1 {
-        lent[0] = x;
-    }
-}
-
-// Writes a decision, if there is one.
-fn tell_decision(decision: Decision, decided: &mut [u8])
-    ensures { λ _. ⌜ now (decided .exit) ≡ toldDecision decision (now (decided .entry)) ⌝ }
-{
-    match decision {
-        Decision::Yes => tell_byte(1, decided),
-        Decision::No => tell_byte(0, decided),
-        Decision::Refused(_) => {}
-    }
-}
-
-// A decision's answer as that of another call.
-fn decided_verdict(decision: Decision) -> Verdict
-    ensures { λ r. ⌜ r ≡ decidedVerdict decision ⌝ }
-{
-    match decision {
-        Decision::Yes => Verdict::Pass,
-        Decision::No => Verdict::Pass,
-        Decision::Refused(r) => Verdict::Refused(r),
-    }
-}
-
 // Whether the six residuals are at most the tolerance.
 #[no_mangle]
 pub extern "C" fn is_consistent(
@@ -144,8 +112,7 @@ pub extern "C" fn is_consistent(
         spectral_identity,
     };
     let decision = report.is_consistent(tolerance);
-    tell_decision(decision, decided);
-    tell(decided_verdict(decision), places, part)
+    tell_decision(decision, decided, places, part)
 }
 
 // The four components of a product, into the four outputs.
