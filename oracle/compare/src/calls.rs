@@ -1,5 +1,5 @@
 //! One function for each function compared: a call's inputs, ours, the port's.
-use crate::sides::{filled, outcome, port, refusal, Outcome, LENT};
+use crate::sides::{block_outcome, filled, lent as lent_block, matrix, outcome, port, refusal, Outcome, LENT};
 use crate::source::Source;
 use here::Answer;
 use keldysh_green::{Complex64, ConsistencyReport, DenseMatrix, KeldyshGreen, RealTimeGrid, TwoTimeMatrix};
@@ -159,6 +159,37 @@ pub fn particle_number(source: &mut Source) -> Outcome {
     let (time, tolerance) = (source.below(call.points + 1), source.tolerance());
     let ours = here::particle_number(&call.operands[0], call.points, call.orbitals, time, tolerance);
     let theirs = port(&call).and_then(|(_, x)| keldysh_green::particle_number(&x[0], time, tolerance).map_err(refusal));
+    outcome(ours.map(|x| vec![vec![x]]), theirs.map(|x| vec![vec![x]]))
+}
+
+pub fn density_matrix(source: &mut Source) -> Outcome {
+    let mut call = source.call(&[false]);
+    call.times = (0..call.points).map(|t| t as f64).collect();
+    let time = source.below(call.points + 1);
+    let ours = here::density_matrix(&call.operands[0], call.points, call.orbitals, time);
+    block_outcome(ours, port(&call).and_then(|(_, x)| keldysh_green::density_matrix(&x[0], time).map_err(refusal)))
+}
+
+/// Half of the densities and observables are real.
+pub fn one_body_expectation(source: &mut Source) -> Outcome {
+    let mut call = source.call(&[false]);
+    call.times = (0..call.points).map(|t| t as f64).collect();
+    let (time, tolerance) = (source.below(call.points + 1), source.tolerance());
+    let sound = port(&call).is_ok();
+    let [mut observable] = loop {
+        let blocks = source.blocks([[call.orbitals.max(1); 2]]);
+        // At most one fault a call.
+        if sound || matrix(1, &blocks[0]).is_ok_and(|x| x.rows() == x.columns()) {
+            break blocks;
+        }
+    };
+    if sound && source.one_in(2) {
+        call.operands[0].iter_mut().step_by(2).for_each(|x| *x = 0.0);
+        observable.numbers.iter_mut().skip(1).step_by(2).filter(|x| x.is_finite()).for_each(|x| *x = 0.0);
+    }
+    let ours = here::one_body_expectation(&call.operands[0], call.points, call.orbitals, time, &lent_block(&observable), tolerance);
+    let theirs = port(&call)
+        .and_then(|(_, x)| keldysh_green::one_body_expectation(&x[0], time, &matrix(1, &observable)?, tolerance).map_err(refusal));
     outcome(ours.map(|x| vec![vec![x]]), theirs.map(|x| vec![vec![x]]))
 }
 

@@ -1,5 +1,6 @@
 //! Calls both sides on the same inputs and compares every bit of every number: `compare [CALLS] [SEED]`, CALLS for each function. The port
 //! has the correctly rounded norm in hypot's place.
+mod blocks;
 mod calls;
 mod sides;
 mod source;
@@ -11,7 +12,7 @@ use std::collections::BTreeMap;
 /// Makes one call's inputs and calls both sides.
 type Comparison = fn(&mut Source) -> Outcome;
 
-const COMPARED: [(&str, Comparison); 12] = [
+const COMPARED: [(&str, Comparison); 25] = [
     ("consistency_report", calls::consistency_report),
     ("is_consistent", calls::is_consistent),
     ("langreth_product", calls::langreth_product),
@@ -22,8 +23,21 @@ const COMPARED: [(&str, Comparison); 12] = [
     ("transient_run", calls::transient_run),
     ("particle_number", calls::particle_number),
     ("bond_flow_into", calls::bond_flow_into),
+    ("density_matrix", calls::density_matrix),
+    ("one_body_expectation", calls::one_body_expectation),
     ("norm", calls::norm),
     ("product of blocks", calls::product),
+    ("block_from_numbers", blocks::from_numbers),
+    ("block_identity", blocks::identity),
+    ("block_adjoint", blocks::adjoint),
+    ("block_scale", blocks::scale),
+    ("block_multiply", blocks::multiply),
+    ("block_add", blocks::add),
+    ("block_subtract", blocks::subtract),
+    ("block_trace", blocks::trace),
+    ("block_get", blocks::get),
+    ("block_max_difference", blocks::max_difference),
+    ("block_is_hermitian", blocks::is_hermitian),
 ];
 
 fn main() {

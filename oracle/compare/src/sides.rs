@@ -1,7 +1,7 @@
 //! The two sides of a call, and what is compared of them.
-use crate::source::Call;
-use here::Answer;
-use keldysh_green::{KeldyshError, RealTimeGrid, TwoTimeMatrix};
+use crate::source::{Call, Numbers};
+use here::{Answer, Block};
+use keldysh_green::{Complex64, DenseMatrix, GreenError, KeldyshError, RealTimeGrid, TwoTimeMatrix};
 
 /// What lent slices hold before a call.
 pub const LENT: f64 = -7.25;
@@ -98,4 +98,53 @@ pub fn refusal(error: KeldyshError) -> Answer {
         KeldyshError::NonRealObservable { imaginary } => Answer { part: imaginary, ..by(14) },
         error => panic!("no number for {error:?}"),
     }
+}
+
+/// The block as it is lent, with NaN past its entries: no call reads there.
+pub fn lent(x: &Numbers) -> Block {
+    let mut block = Block::of(x.rows, x.columns, &x.numbers);
+    block.values[x.numbers.len()..].fill(f64::NAN);
+    block
+}
+
+/// The port's block of the same numbers, or the refusal that building it gives. The port has no limits (2), which are asked here.
+pub fn matrix(operand: usize, x: &Numbers) -> Result<DenseMatrix, Answer> {
+    if x.rows.min(x.columns) > 0 && x.rows.max(x.columns) > 16 {
+        return Err(Answer { number: 2, ..NO_PLACES });
+    }
+    let values = x.numbers.chunks(2).map(|z| Complex64::new(z[0], z[1])).collect();
+    DenseMatrix::try_new(x.rows, x.columns, values).map_err(|error| match error {
+        GreenError::NonFinite(_) => {
+            let first = x.numbers.iter().position(|x| !x.is_finite()).expect("a number that is not finite");
+            Answer { number: 7, operand, first, ..NO_PLACES }
+        }
+        error => block_refusal(error),
+    })
+}
+
+/// An error of the port's blocks by document 01's number; what is not finite was made.
+pub fn block_refusal(error: GreenError) -> Answer {
+    let number = match error {
+        GreenError::Empty(_) => 1,
+        GreenError::Shape { .. } | GreenError::Dimensions { .. } => 3,
+        GreenError::InvalidTolerance => 8,
+        GreenError::NonFinite(_) => 10,
+        error => panic!("no number for {error:?}"),
+    };
+    Answer { number, ..NO_PLACES }
+}
+
+/// The outcome of a call that makes a block: its shape and 512 numbers, +0 past its entries, and 0 by 0 and +0 throughout beside a refusal.
+pub fn block_outcome((answer, block): (Answer, Block), port: Result<DenseMatrix, Answer>) -> Outcome {
+    let told = |block: &Block| [vec![block.rows as f64, block.columns as f64], block.values.to_vec()].concat();
+    let port_told = |x: &DenseMatrix| {
+        let numbers: Vec<f64> = x.as_slice().iter().flat_map(|z| [z.re, z.im]).collect();
+        told(&Block::of(x.rows(), x.columns(), &numbers))
+    };
+    if answer.number == 0 {
+        return outcome(Ok(vec![told(&block)]), port.map(|x| vec![port_told(&x)]));
+    }
+    let refused = outcome(Err(answer), port.map(|x| vec![port_told(&x)]));
+    let empty = outcome(Ok(vec![told(&block)]), Ok(vec![told(&Block::of(0, 0, &[]))]));
+    Outcome { number: refused.number, compared: refused.compared + empty.compared, unequal: refused.unequal + empty.unequal }
 }

@@ -86,7 +86,17 @@ const SPECIAL: [f64; 12] = [
     1e150,
 ];
 
-pub struct Source(Xorshift);
+pub struct Source {
+    state: Xorshift,
+    call: u64,
+}
+
+/// A block's shape and its numbers, as many as are lent.
+pub struct Numbers {
+    pub rows: usize,
+    pub columns: usize,
+    pub numbers: Vec<f64>,
+}
 
 impl Source {
     /// The inputs of one call of a run.
@@ -95,11 +105,11 @@ impl Source {
         for _ in 0..8 {
             state.bits();
         }
-        Self(state)
+        Self { state, call }
     }
 
     pub fn below(&mut self, count: usize) -> usize {
-        ((self.0.bits() >> 16) % count as u64) as usize
+        ((self.state.bits() >> 16) % count as u64) as usize
     }
 
     pub fn one_in(&mut self, count: usize) -> bool {
@@ -112,12 +122,12 @@ impl Source {
 
     /// A number of binary exponent `exponent` and any sign and significand.
     fn of_exponent(&mut self, exponent: u64) -> f64 {
-        f64::from_bits(self.0.bits() & !(0x7ff << 52) | exponent << 52)
+        f64::from_bits(self.state.bits() & !(0x7ff << 52) | exponent << 52)
     }
 
     fn number(&mut self, palette: Palette) -> f64 {
         match palette {
-            Palette::Ordinary => self.0.centred(),
+            Palette::Ordinary => self.state.centred(),
             Palette::Whole => self.below(9) as f64 - 4.0,
             Palette::Moderate => {
                 let exponent = 963 + self.below(121) as u64;
@@ -140,7 +150,7 @@ impl Source {
                 self.of_exponent(exponent)
             }
             Palette::Special => self.pick(&SPECIAL),
-            Palette::Sparse if self.one_in(4) => self.0.centred(),
+            Palette::Sparse if self.one_in(4) => self.state.centred(),
             Palette::Sparse => self.pick(&[0.0, -0.0]),
         }
     }
@@ -172,7 +182,7 @@ impl Source {
         let mut times: Vec<f64> = (0..points)
             .map(|_| {
                 let now = time;
-                time += (step * (1.0 + self.0.centred())).max(step / 2.0).max(5e-324);
+                time += (step * (1.0 + self.state.centred())).max(step / 2.0).max(5e-324);
                 now
             })
             .collect();
@@ -205,10 +215,40 @@ impl Source {
         xs
     }
 
-    /// The numbers of a block.
+    /// The numbers of a square block.
     pub fn block(&mut self, size: usize) -> Vec<f64> {
         let palette = self.pick(&PALETTES);
         (0..2 * size * size).map(|_| self.number(palette)).collect()
+    }
+
+    /// Sizes of 1 to 4: from call to call all there are, then 16 for each.
+    pub fn sizes<const COUNT: usize>(&mut self) -> [usize; COUNT] {
+        let all = 1 << (2 * COUNT);
+        let at = self.call as usize % (all + 1);
+        std::array::from_fn(|place| if at == all { 16 } else { 1 + (at >> (2 * place) & 3) })
+    }
+
+    /// Blocks of these shapes. One call in six has one fault: a shape that is empty, too large or another, or a number that is not finite.
+    pub fn blocks<const COUNT: usize>(&mut self, mut shapes: [[usize; 2]; COUNT]) -> [Numbers; COUNT] {
+        let fault = if self.one_in(6) { self.below(6) } else { 6 };
+        let (at, side) = (self.below(COUNT), self.below(2));
+        match fault {
+            0 => shapes[at][side] = 0,
+            1 => shapes[at][side] = self.pick(&[17, 18, usize::MAX]),
+            2 => shapes[at][side] = 1 + shapes[at][side] % 16,
+            _ => {}
+        }
+        let palette = self.pick(&PALETTES);
+        let mut made = shapes.map(|[rows, columns]| {
+            let palette = if self.one_in(8) { self.pick(&PALETTES) } else { palette };
+            let count = 2 * rows.min(16) * columns.min(16);
+            Numbers { rows, columns, numbers: (0..count).map(|_| self.number(palette)).collect() }
+        });
+        if (3..6).contains(&fault) {
+            let place = self.below(made[at].numbers.len());
+            made[at].numbers[place] = self.pick(&[f64::NAN, f64::INFINITY, f64::NEG_INFINITY]);
+        }
+        made
     }
 
     /// A call on operands of which those named retarded are it, or nearly.

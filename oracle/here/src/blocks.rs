@@ -1,19 +1,200 @@
-//! The norm and a chain of products of blocks, which `crates/norm_export` and `crates/matrix_export` export.
+//! The operations on blocks, and a chain of products, which `crates/matrix_export` exports.
+use crate::{answer, measured, Answer};
 
-mod exported {
-    #[link(name = "norm_export", kind = "static")]
-    extern "C" {
-        pub fn norm_of(re: f64, im: f64) -> f64;
-    }
+/// 16 by 16 entries of two parts.
+const NUMBERS: usize = 512;
 
-    #[link(name = "matrix_export", kind = "static")]
-    extern "C" {
-        pub fn product_chain(a: *const f64, a_len: usize, b: *const f64, b_len: usize, size: usize, turns: usize) -> f64;
+/// A block by its rows, its columns and 512 numbers, of which the first 2·rows·columns are its entries.
+#[derive(Debug, Clone, PartialEq)]
+pub struct Block {
+    pub rows: usize,
+    pub columns: usize,
+    pub values: [f64; NUMBERS],
+}
+
+impl Block {
+    /// The block that begins with these numbers, and +0 past them.
+    pub fn of(rows: usize, columns: usize, numbers: &[f64]) -> Self {
+        let mut values = [0.0; NUMBERS];
+        values[..numbers.len()].copy_from_slice(numbers);
+        Self { rows, columns, values }
     }
 }
 
-pub fn norm(re: f64, im: f64) -> f64 {
-    unsafe { exported::norm_of(re, im) }
+mod exported {
+    #[link(name = "matrix_export", kind = "static")]
+    extern "C" {
+        pub fn product_chain(a: *const f64, a_len: usize, b: *const f64, b_len: usize, size: usize, turns: usize) -> f64;
+
+        pub fn block_from_numbers(
+            rows: usize,
+            columns: usize,
+            numbers: *const f64,
+            numbers_len: usize,
+            shape: *mut usize,
+            shape_len: usize,
+            out: *mut f64,
+            out_len: usize,
+            places: *mut usize,
+            places_len: usize,
+            part: *mut f64,
+            part_len: usize,
+        ) -> u8;
+
+        pub fn block_identity(
+            size: usize,
+            shape: *mut usize,
+            shape_len: usize,
+            out: *mut f64,
+            out_len: usize,
+            places: *mut usize,
+            places_len: usize,
+            part: *mut f64,
+            part_len: usize,
+        ) -> u8;
+
+        pub fn block_adjoint(
+            rows: usize,
+            columns: usize,
+            values: *const f64,
+            shape: *mut usize,
+            shape_len: usize,
+            out: *mut f64,
+            out_len: usize,
+            places: *mut usize,
+            places_len: usize,
+            part: *mut f64,
+            part_len: usize,
+        ) -> u8;
+
+        pub fn block_scale(
+            rows: usize,
+            columns: usize,
+            values: *const f64,
+            real: f64,
+            imaginary: f64,
+            shape: *mut usize,
+            shape_len: usize,
+            out: *mut f64,
+            out_len: usize,
+            places: *mut usize,
+            places_len: usize,
+            part: *mut f64,
+            part_len: usize,
+        ) -> u8;
+
+        pub fn block_multiply(
+            left_rows: usize,
+            left_columns: usize,
+            left: *const f64,
+            right_rows: usize,
+            right_columns: usize,
+            right: *const f64,
+            shape: *mut usize,
+            shape_len: usize,
+            out: *mut f64,
+            out_len: usize,
+            places: *mut usize,
+            places_len: usize,
+            part: *mut f64,
+            part_len: usize,
+        ) -> u8;
+
+        pub fn block_add(
+            left_rows: usize,
+            left_columns: usize,
+            left: *const f64,
+            right_rows: usize,
+            right_columns: usize,
+            right: *const f64,
+            shape: *mut usize,
+            shape_len: usize,
+            out: *mut f64,
+            out_len: usize,
+            places: *mut usize,
+            places_len: usize,
+            part: *mut f64,
+            part_len: usize,
+        ) -> u8;
+
+        pub fn block_subtract(
+            left_rows: usize,
+            left_columns: usize,
+            left: *const f64,
+            right_rows: usize,
+            right_columns: usize,
+            right: *const f64,
+            shape: *mut usize,
+            shape_len: usize,
+            out: *mut f64,
+            out_len: usize,
+            places: *mut usize,
+            places_len: usize,
+            part: *mut f64,
+            part_len: usize,
+        ) -> u8;
+
+        pub fn block_trace(
+            rows: usize,
+            columns: usize,
+            values: *const f64,
+            value: *mut f64,
+            value_len: usize,
+            places: *mut usize,
+            places_len: usize,
+            part: *mut f64,
+            part_len: usize,
+        ) -> u8;
+
+        pub fn block_get(
+            rows: usize,
+            columns: usize,
+            values: *const f64,
+            row: usize,
+            column: usize,
+            value: *mut f64,
+            value_len: usize,
+            places: *mut usize,
+            places_len: usize,
+            part: *mut f64,
+            part_len: usize,
+        ) -> u8;
+
+        pub fn block_max_difference(
+            left_rows: usize,
+            left_columns: usize,
+            left: *const f64,
+            right_rows: usize,
+            right_columns: usize,
+            right: *const f64,
+            value: *mut f64,
+            value_len: usize,
+            places: *mut usize,
+            places_len: usize,
+            part: *mut f64,
+            part_len: usize,
+        ) -> u8;
+
+        pub fn block_is_hermitian(
+            rows: usize,
+            columns: usize,
+            values: *const f64,
+            tolerance: f64,
+            decided: *mut u8,
+            decided_len: usize,
+            places: *mut usize,
+            places_len: usize,
+            part: *mut f64,
+            part_len: usize,
+        ) -> u8;
+    }
+}
+
+/// A call that is lent room for a block, which it fills beside a refusal too.
+pub(crate) fn made(call: impl FnOnce(&mut [usize; 2], &mut [f64; NUMBERS], &mut [usize; 3], &mut [f64; 1]) -> u8) -> (Answer, Block) {
+    let (mut shape, mut values) = ([usize::MAX; 2], [f64::NAN; NUMBERS]);
+    let answer = answer(|places, part| call(&mut shape, &mut values, places, part));
+    (answer, Block { rows: shape[0], columns: shape[1], values })
 }
 
 /// The first number of a·b·..·b, `turns` products of size by size blocks; of a block that was refused it is +0.
@@ -21,16 +202,213 @@ pub fn product_chain(a: &[f64], b: &[f64], size: usize, turns: usize) -> f64 {
     unsafe { exported::product_chain(a.as_ptr(), a.len(), b.as_ptr(), b.len(), size, turns) }
 }
 
+pub fn block_from_numbers(rows: usize, columns: usize, numbers: &[f64]) -> (Answer, Block) {
+    made(|shape, out, places, part| unsafe {
+        exported::block_from_numbers(
+            rows,
+            columns,
+            numbers.as_ptr(),
+            numbers.len(),
+            shape.as_mut_ptr(),
+            shape.len(),
+            out.as_mut_ptr(),
+            out.len(),
+            places.as_mut_ptr(),
+            places.len(),
+            part.as_mut_ptr(),
+            part.len(),
+        )
+    })
+}
+
+pub fn block_identity(size: usize) -> (Answer, Block) {
+    made(|shape, out, places, part| unsafe {
+        exported::block_identity(
+            size,
+            shape.as_mut_ptr(),
+            shape.len(),
+            out.as_mut_ptr(),
+            out.len(),
+            places.as_mut_ptr(),
+            places.len(),
+            part.as_mut_ptr(),
+            part.len(),
+        )
+    })
+}
+
+pub fn block_adjoint(x: &Block) -> (Answer, Block) {
+    made(|shape, out, places, part| unsafe {
+        exported::block_adjoint(
+            x.rows,
+            x.columns,
+            x.values.as_ptr(),
+            shape.as_mut_ptr(),
+            shape.len(),
+            out.as_mut_ptr(),
+            out.len(),
+            places.as_mut_ptr(),
+            places.len(),
+            part.as_mut_ptr(),
+            part.len(),
+        )
+    })
+}
+
+/// Each entry times a factor, by its real and its imaginary part.
+pub fn block_scale(x: &Block, factor: [f64; 2]) -> (Answer, Block) {
+    made(|shape, out, places, part| unsafe {
+        exported::block_scale(
+            x.rows,
+            x.columns,
+            x.values.as_ptr(),
+            factor[0],
+            factor[1],
+            shape.as_mut_ptr(),
+            shape.len(),
+            out.as_mut_ptr(),
+            out.len(),
+            places.as_mut_ptr(),
+            places.len(),
+            part.as_mut_ptr(),
+            part.len(),
+        )
+    })
+}
+
+/// A call on two blocks that makes a block.
+type Pair = unsafe extern "C" fn(
+    left_rows: usize,
+    left_columns: usize,
+    left: *const f64,
+    right_rows: usize,
+    right_columns: usize,
+    right: *const f64,
+    shape: *mut usize,
+    shape_len: usize,
+    out: *mut f64,
+    out_len: usize,
+    places: *mut usize,
+    places_len: usize,
+    part: *mut f64,
+    part_len: usize,
+) -> u8;
+
+fn pair(call: Pair, left: &Block, right: &Block) -> (Answer, Block) {
+    made(|shape, out, places, part| unsafe {
+        call(
+            left.rows,
+            left.columns,
+            left.values.as_ptr(),
+            right.rows,
+            right.columns,
+            right.values.as_ptr(),
+            shape.as_mut_ptr(),
+            shape.len(),
+            out.as_mut_ptr(),
+            out.len(),
+            places.as_mut_ptr(),
+            places.len(),
+            part.as_mut_ptr(),
+            part.len(),
+        )
+    })
+}
+
+pub fn block_multiply(left: &Block, right: &Block) -> (Answer, Block) {
+    pair(exported::block_multiply, left, right)
+}
+
+pub fn block_add(left: &Block, right: &Block) -> (Answer, Block) {
+    pair(exported::block_add, left, right)
+}
+
+pub fn block_subtract(left: &Block, right: &Block) -> (Answer, Block) {
+    pair(exported::block_subtract, left, right)
+}
+
+/// The sum of the diagonal, by its real and its imaginary part.
+pub fn block_trace(x: &Block) -> Result<[f64; 2], Answer> {
+    measured([0.0; 2], |value, places, part| unsafe {
+        exported::block_trace(
+            x.rows,
+            x.columns,
+            x.values.as_ptr(),
+            value.as_mut_ptr(),
+            value.len(),
+            places.as_mut_ptr(),
+            places.len(),
+            part.as_mut_ptr(),
+            part.len(),
+        )
+    })
+}
+
+/// An entry alike.
+pub fn block_get(x: &Block, row: usize, column: usize) -> Result<[f64; 2], Answer> {
+    measured([0.0; 2], |value, places, part| unsafe {
+        exported::block_get(
+            x.rows,
+            x.columns,
+            x.values.as_ptr(),
+            row,
+            column,
+            value.as_mut_ptr(),
+            value.len(),
+            places.as_mut_ptr(),
+            places.len(),
+            part.as_mut_ptr(),
+            part.len(),
+        )
+    })
+}
+
+pub fn block_max_difference(left: &Block, right: &Block) -> Result<f64, Answer> {
+    let largest = measured([0.0; 1], |value, places, part| unsafe {
+        exported::block_max_difference(
+            left.rows,
+            left.columns,
+            left.values.as_ptr(),
+            right.rows,
+            right.columns,
+            right.values.as_ptr(),
+            value.as_mut_ptr(),
+            value.len(),
+            places.as_mut_ptr(),
+            places.len(),
+            part.as_mut_ptr(),
+            part.len(),
+        )
+    });
+    largest.map(|[largest]| largest)
+}
+
+pub fn block_is_hermitian(x: &Block, tolerance: f64) -> Result<bool, Answer> {
+    let decided = measured([0u8; 1], |decided, places, part| unsafe {
+        exported::block_is_hermitian(
+            x.rows,
+            x.columns,
+            x.values.as_ptr(),
+            tolerance,
+            decided.as_mut_ptr(),
+            decided.len(),
+            places.as_mut_ptr(),
+            places.len(),
+            part.as_mut_ptr(),
+            part.len(),
+        )
+    });
+    decided.map(|decided| decided == [1])
+}
+
 #[cfg(test)]
 mod tests {
-    use super::{norm, product_chain};
+    use super::*;
 
-    /// P1, P2 and P4.
-    #[test]
-    fn norms() {
-        assert_eq!(norm(3.0, 4.0), 5.0);
-        assert_eq!(norm(-0.0, 0.0).to_bits(), 0);
-        assert_eq!(norm(f64::MAX, f64::MAX), f64::INFINITY);
+    const ACCEPTED: Answer = Answer { number: 0, operand: 0, first: 0, second: 0, part: 0.0 };
+
+    fn refused(answer: Answer) -> (Answer, Block) {
+        (answer, Block::of(0, 0, &[]))
     }
 
     /// (1 + 2i)·i·i
@@ -38,5 +416,41 @@ mod tests {
     fn chain() {
         assert_eq!(product_chain(&[1.0, 2.0], &[0.0, 1.0], 1, 2), -1.0);
         assert_eq!(product_chain(&[1.0, 2.0], &[0.0, f64::NAN], 1, 2).to_bits(), 0);
+    }
+
+    #[test]
+    fn made() {
+        let row = Block::of(1, 2, &[1.0, 2.0, 3.0, 4.0]);
+        assert_eq!(block_from_numbers(1, 2, &[1.0, 2.0, 3.0, 4.0]), (ACCEPTED, row.clone()));
+        assert_eq!(block_from_numbers(1, 2, &[1.0, 2.0]), refused(Answer { number: 3, ..ACCEPTED }));
+        assert_eq!(block_from_numbers(1, 1, &[1.0, f64::NAN]), refused(Answer { number: 7, first: 1, ..ACCEPTED }));
+        assert_eq!(block_identity(2), (ACCEPTED, Block::of(2, 2, &[1.0, 0.0, 0.0, 0.0, 0.0, 0.0, 1.0])));
+        assert_eq!(block_identity(0), refused(Answer { number: 1, ..ACCEPTED }));
+        assert_eq!(block_identity(17), refused(Answer { number: 2, ..ACCEPTED }));
+        let column = Block::of(2, 1, &[1.0, -2.0, 3.0, -4.0]);
+        assert_eq!(block_adjoint(&row), (ACCEPTED, column.clone()));
+        assert_eq!(block_scale(&row, [0.0, 1.0]), (ACCEPTED, Block::of(1, 2, &[-2.0, 1.0, -4.0, 3.0])));
+        assert_eq!(block_scale(&row, [f64::MAX, 0.0]), refused(Answer { number: 10, ..ACCEPTED }));
+        // |1 + 2i|² + |3 + 4i|²
+        assert_eq!(block_multiply(&row, &column), (ACCEPTED, Block::of(1, 1, &[30.0, 0.0])));
+        assert_eq!(block_multiply(&row, &row), refused(Answer { number: 3, ..ACCEPTED }));
+        assert_eq!(block_add(&row, &row), (ACCEPTED, Block::of(1, 2, &[2.0, 4.0, 6.0, 8.0])));
+        assert_eq!(block_subtract(&row, &row), (ACCEPTED, Block::of(1, 2, &[])));
+        let not_finite = Block::of(1, 2, &[1.0, 1.0, 1.0, f64::INFINITY]);
+        assert_eq!(block_add(&row, &not_finite), refused(Answer { number: 7, operand: 1, first: 3, ..ACCEPTED }));
+        assert_eq!(block_subtract(&row, &column), refused(Answer { number: 3, ..ACCEPTED }));
+    }
+
+    #[test]
+    fn measured() {
+        let x = Block::of(2, 2, &[1.0, 0.0, 2.0, 3.0, 2.0, -3.0, 4.0, 0.0]);
+        assert_eq!(block_trace(&x), Ok([5.0, 0.0]));
+        assert_eq!(block_get(&x, 1, 0), Ok([2.0, -3.0]));
+        assert_eq!(block_get(&x, 0, 2), Err(Answer { number: 12, ..ACCEPTED }));
+        assert_eq!(block_max_difference(&x, &Block::of(2, 2, &[1.0, 0.0, -1.0, -1.0, 2.0, -3.0, 4.0, 0.0])), Ok(5.0));
+        assert_eq!(block_is_hermitian(&x, 0.5), Ok(true));
+        assert_eq!(block_is_hermitian(&Block::of(1, 2, &[0.0; 4]), 0.5), Ok(false));
+        assert_eq!(block_is_hermitian(&x, 0.0), Err(Answer { number: 8, ..ACCEPTED }));
+        assert_eq!(block_trace(&Block::of(1, 2, &[0.0; 4])), Err(Answer { number: 3, ..ACCEPTED }));
     }
 }

@@ -1,9 +1,14 @@
 //! The functions that `crates/solver_export` exports, over slices, and those of `norm_export` and `matrix_export`.
 mod blocks;
 mod keldysh;
+mod norm;
+mod observed;
 
-pub use blocks::{norm, product_chain};
+pub use blocks::{block_add, block_adjoint, block_from_numbers, block_get, block_identity, block_is_hermitian, block_max_difference};
+pub use blocks::{block_multiply, block_scale, block_subtract, block_trace, product_chain, Block};
 pub use keldysh::{consistency_report, is_consistent, langreth_product};
+pub use norm::norm;
+pub use observed::{bond_flow_into, density_matrix, one_body_expectation, particle_number};
 
 /// An answer: the refusal's number with its places, or 0 where the call is accepted.
 #[derive(Debug, Clone, Copy, PartialEq)]
@@ -129,40 +134,6 @@ mod exported {
             kernel_len: usize,
             mixed: *mut f64,
             mixed_len: usize,
-            places: *mut usize,
-            places_len: usize,
-            part: *mut f64,
-            part_len: usize,
-        ) -> u8;
-
-        pub fn particle_number(
-            lesser: *const f64,
-            lesser_len: usize,
-            points: usize,
-            orbitals: usize,
-            time: usize,
-            tolerance: f64,
-            value: *mut f64,
-            value_len: usize,
-            places: *mut usize,
-            places_len: usize,
-            part: *mut f64,
-            part_len: usize,
-        ) -> u8;
-
-        pub fn bond_flow_into(
-            lesser: *const f64,
-            lesser_len: usize,
-            points: usize,
-            orbitals: usize,
-            time: usize,
-            a: usize,
-            b: usize,
-            real: f64,
-            imaginary: f64,
-            charge: f64,
-            value: *mut f64,
-            value_len: usize,
             places: *mut usize,
             places_len: usize,
             part: *mut f64,
@@ -305,67 +276,9 @@ fn measured<T>(mut value: T, call: impl FnOnce(&mut T, &mut [usize; 3], &mut [f6
     }
 }
 
-/// A number, or the refusal.
-fn observe(call: impl FnOnce(&mut [f64; 1], &mut [usize; 3], &mut [f64; 1]) -> u8) -> Result<f64, Answer> {
-    measured([0.0; 1], call).map(|[value]| value)
-}
-
-pub fn particle_number(lesser: &[f64], points: usize, orbitals: usize, time: usize, tolerance: f64) -> Result<f64, Answer> {
-    observe(|value, places, part| unsafe {
-        exported::particle_number(
-            lesser.as_ptr(),
-            lesser.len(),
-            points,
-            orbitals,
-            time,
-            tolerance,
-            value.as_mut_ptr(),
-            value.len(),
-            places.as_mut_ptr(),
-            places.len(),
-            part.as_mut_ptr(),
-            part.len(),
-        )
-    })
-}
-
-/// The flow into orbital a from b, of a hopping by its real and its imaginary part.
-#[allow(clippy::too_many_arguments)]
-pub fn bond_flow_into(
-    lesser: &[f64],
-    points: usize,
-    orbitals: usize,
-    time: usize,
-    a: usize,
-    b: usize,
-    hopping: [f64; 2],
-    charge: f64,
-) -> Result<f64, Answer> {
-    observe(|value, places, part| unsafe {
-        exported::bond_flow_into(
-            lesser.as_ptr(),
-            lesser.len(),
-            points,
-            orbitals,
-            time,
-            a,
-            b,
-            hopping[0],
-            hopping[1],
-            charge,
-            value.as_mut_ptr(),
-            value.len(),
-            places.as_mut_ptr(),
-            places.len(),
-            part.as_mut_ptr(),
-            part.len(),
-        )
-    })
-}
-
 #[cfg(test)]
 mod tests {
-    use super::{bond_flow_into, causal_volterra_convolution, check_retarded_support, particle_number};
+    use super::{causal_volterra_convolution, check_retarded_support, particle_number};
     use super::{retarded_dyson_with_tolerance, transient_run, Answer};
 
     const ACCEPTED: Answer = Answer { number: 0, operand: 0, first: 0, second: 0, part: 0.0 };
@@ -428,16 +341,5 @@ mod tests {
         assert_eq!(mixed, [0.0, 0.0, 0.0, 1.25, 0.0, 0.0, 0.0, 1.25]);
         assert_eq!(lesser, [0.0, 0.0, 0.0, 0.0, 0.0, 0.0, 0.0, 1.5625]);
         assert_eq!(particle_number(&lesser, 2, 1, 1, 0.5), Ok(1.5625));
-    }
-
-    #[test]
-    fn observables() {
-        let lesser = [0.0, 1.0, 0.0, 0.0, 0.0, 0.0, 2.0, 3.0];
-        assert_eq!(particle_number(&lesser, 2, 1, 0, 0.5), Ok(1.0));
-        assert_eq!(particle_number(&lesser, 2, 1, 1, 0.5), Err(Answer { number: 14, part: -2.0, ..ACCEPTED }));
-        assert_eq!(particle_number(&lesser, 2, 1, 2, 0.5), Err(Answer { number: 11, ..ACCEPTED }));
-        // 2·3·Im(i·(3 − 2i))
-        assert_eq!(bond_flow_into(&lesser, 2, 1, 1, 0, 0, [0.0, 1.0], 3.0), Ok(18.0));
-        assert_eq!(bond_flow_into(&lesser, 2, 1, 1, 0, 1, [0.0, 1.0], 3.0), Err(Answer { number: 12, ..ACCEPTED }));
     }
 }

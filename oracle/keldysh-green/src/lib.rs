@@ -15,7 +15,7 @@ mod observables {
     include!(concat!(env!("PORT"), "/src--keldysh-green--src--observables.rs.txt"));
 }
 
-pub use cluster_green::{Complex64, DenseMatrix};
+pub use cluster_green::{Complex64, DenseMatrix, GreenError};
 pub use error::KeldyshError;
 pub use grid::RealTimeGrid;
 pub use keldysh::{
@@ -24,3 +24,20 @@ pub use keldysh::{
 };
 pub use observables::{bond_flow_into, density_matrix, one_body_expectation, particle_number};
 pub type Result<T> = std::result::Result<T, KeldyshError>;
+
+/// The port's operations on blocks that it keeps to itself.
+pub mod blocks {
+    use crate::{matrix_ops, Complex64, DenseMatrix, Result};
+
+    pub fn add(left: &DenseMatrix, right: &DenseMatrix) -> Result<DenseMatrix> {
+        matrix_ops::add(left, right)
+    }
+
+    pub fn scale(x: &DenseMatrix, factor: Complex64) -> Result<DenseMatrix> {
+        matrix_ops::scale(x, factor)
+    }
+
+    pub fn max_difference(left: &DenseMatrix, right: &DenseMatrix) -> Result<f64> {
+        matrix_ops::max_difference(left, right)
+    }
+}

@@ -1,0 +1,25 @@
+//! The norm, which `crates/norm_export` exports.
+
+mod exported {
+    #[link(name = "norm_export", kind = "static")]
+    extern "C" {
+        pub fn norm_of(re: f64, im: f64) -> f64;
+    }
+}
+
+pub fn norm(re: f64, im: f64) -> f64 {
+    unsafe { exported::norm_of(re, im) }
+}
+
+#[cfg(test)]
+mod tests {
+    use super::norm;
+
+    /// P1, P2 and P4.
+    #[test]
+    fn norms() {
+        assert_eq!(norm(3.0, 4.0), 5.0);
+        assert_eq!(norm(-0.0, 0.0).to_bits(), 0);
+        assert_eq!(norm(f64::MAX, f64::MAX), f64::INFINITY);
+    }
+}
