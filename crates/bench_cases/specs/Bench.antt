@@ -30,6 +30,7 @@ use Rattle.observables.specs.Density.{density}
 use Rattle.observables.specs.Calls.{observed, lesserLines, particleNumber}
 use Rattle.run_file.specs.Program.{printed}
 use Rattle.run_file.specs.P12 as File
+use Rattle.bench_cases.specs.Printing.{retarded-inputs, prints}
 use Rattle.bench_cases.specs.Inputs.{whole, units, largest, half, threeQuarters, above, huge, lesserWith, entry}
 
 -- what outputs and scratch hold before: ones
@@ -72,11 +73,7 @@ pub record BenchCases : Type 0 where
   pub p12-second : entry (transientRun (P12.run defaultTolerance before) .lesser) 2 2 ≡ imaginary (ofBits binary64 0x402c_2000_0000_0000)
   pub p12-text : printed File.file ≡ File.text
 
--- ---- the cases, by computation; P11 and P12 from the stages of the run (specs/P12.antt of `transient_run` and `run_file`)
-
-retarded-inputs : supportLines 3 1 defaultTolerance (readAs 3 1 P12.lower) (readAs 3 1 P12.lower) ≡ Pass
-unfolding supportLines validTolerance retarded retardedAt residual scaleOf ask askAll _then_ largestNorm largestIn largestFrom fold larger norm finite Ieee.ofBits Ieee.div Ieee.lt Ieee.ne Ieee.eq
-retarded-inputs = refl
+-- ---- the cases, by computation; P11 and P12 from the stages of the run (specs/P12.antt of `transient_run`) and Printing.antt
 
 dyson-inputs : inputLines 3 1 P12.times (P12.lower ∷ P12.lower ∷ []) (before ∷ before ∷ []) ≡ Pass
 unfolding inputLines sizeLines allLong operandLines timeLines largeEnough withinLimits fitting finiteTimes risingTimes finiteWeights finiteEntries ask askAll _then_ fullWeight halfStep allBelow finite Ieee.ofBits Ieee.sub Ieee.mul Ieee.lt
@@ -119,5 +116,5 @@ bench-cases =
       p12-answer = rw run-outcome;
       p12-first = rw run-outcome;
       p12-second = rw run-outcome;
-      p12-text = File.prints;
+      p12-text = prints;
     }
