@@ -1,7 +1,7 @@
 //! The consistency report and the Langreth product beside the port's.
 use crate::{line, milliseconds, port, unequal, Numbers, SIZES};
 use keldysh_green::{KeldyshGreen, RealTimeGrid};
-use shared::numbers;
+use shared::{numbers, residuals};
 use std::hint::black_box;
 
 /// Four components: retarded, advanced, lesser, greater. None of the report's identities holds but retarded support.
@@ -39,15 +39,7 @@ fn report(rounds: usize, points: usize, orbitals: usize) -> usize {
     let xs = components(&mut source, points, orbitals);
     let theirs = green(&grid, points, orbitals, &xs);
     let xs = xs.each_ref().map(|xs| &xs[..]);
-    let made = theirs.consistency_report().unwrap();
-    let made = [
-        made.retarded_causality,
-        made.advanced_causality,
-        made.advanced_adjoint,
-        made.lesser_antihermiticity,
-        made.greater_antihermiticity,
-        made.spectral_identity,
-    ];
+    let made = residuals(&theirs.consistency_report().unwrap());
     let differ = unequal(&made, &here::consistency_report(xs, points, orbitals).unwrap());
     measure("consistency_report", rounds, points, orbitals, || {
         let (here, answer) = milliseconds(|| here::consistency_report(black_box(xs), points, orbitals));

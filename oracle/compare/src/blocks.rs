@@ -1,12 +1,7 @@
 //! The operations on blocks: a call's inputs, ours, the port's.
-use crate::sides::{block_outcome, block_refusal, lent, matrix, outcome, refusal, Outcome};
+use crate::sides::{block_outcome, decided, ours, outcome, Outcome};
 use crate::source::Source;
-use here::{Answer, Block};
-use keldysh_green::{blocks, Complex64, DenseMatrix};
-
-fn by(number: u8) -> Answer {
-    Answer { number, operand: 0, first: 0, second: 0, part: 0.0 }
-}
+use judge::Block;
 
 pub fn from_numbers(source: &mut Source) -> Outcome {
     let shape = source.sizes();
@@ -15,79 +10,69 @@ pub fn from_numbers(source: &mut Source) -> Outcome {
     if source.one_in(8) && x.numbers.iter().all(|x| x.is_finite()) {
         x.numbers.resize(2 * source.below(1 + x.numbers.len()), 1.0);
     }
-    block_outcome(here::block_from_numbers(x.rows, x.columns, &x.numbers), matrix(0, &x))
+    let made = here::block_from_numbers(x.rows, x.columns, &x.numbers);
+    block_outcome(made, judge::from_numbers(x.rows, x.columns, &x.numbers))
 }
 
 pub fn identity(source: &mut Source) -> Outcome {
     let size = source.below(18);
-    let port = if size > 16 { Err(by(2)) } else { DenseMatrix::identity(size).map_err(block_refusal) };
-    block_outcome(here::block_identity(size), port)
+    block_outcome(here::block_identity(size), judge::identity(size))
 }
 
 pub fn adjoint(source: &mut Source) -> Outcome {
     let shape = source.sizes();
-    let [x] = source.blocks([shape]);
-    block_outcome(here::block_adjoint(&lent(&x)), matrix(0, &x).map(|x| x.adjoint()))
+    let [x] = source.lent([shape]);
+    block_outcome(here::block_adjoint(&ours(&x)), judge::adjoint(&x))
 }
 
 pub fn scale(source: &mut Source) -> Outcome {
     let shape = source.sizes();
-    let [x] = source.blocks([shape]);
+    let [x] = source.lent([shape]);
     let mut factor = || if source.one_in(32) { source.pick(&[f64::NAN, f64::INFINITY]) } else { source.any() };
     let factor = [factor(), factor()];
-    let port = matrix(0, &x).and_then(|x| blocks::scale(&x, Complex64::new(factor[0], factor[1])).map_err(refusal));
-    block_outcome(here::block_scale(&lent(&x), factor), port)
+    block_outcome(here::block_scale(&ours(&x), factor), judge::scale(&x, factor))
 }
 
-type Ours = fn(&Block, &Block) -> (Answer, Block);
+type Ours = fn(&here::Block, &here::Block) -> (here::Answer, here::Block);
+type Theirs = fn(&Block, &Block) -> judge::Answer<Block>;
 
-/// Both blocks are built before their shapes are compared: a call has one fault at most.
-fn pair(
-    source: &mut Source,
-    shapes: [[usize; 2]; 2],
-    ours: Ours,
-    theirs: impl Fn(&DenseMatrix, &DenseMatrix) -> Result<DenseMatrix, Answer>,
-) -> Outcome {
-    let [x, y] = source.blocks(shapes);
-    let port = matrix(0, &x).and_then(|left| theirs(&left, &matrix(1, &y)?));
-    block_outcome(ours(&lent(&x), &lent(&y)), port)
+fn pair(source: &mut Source, shapes: [[usize; 2]; 2], here: Ours, theirs: Theirs) -> Outcome {
+    let [x, y] = source.lent(shapes);
+    block_outcome(here(&ours(&x), &ours(&y)), theirs(&x, &y))
 }
 
 pub fn multiply(source: &mut Source) -> Outcome {
     let [rows, inner, columns] = source.sizes();
-    pair(source, [[rows, inner], [inner, columns]], here::block_multiply, |x, y| x.multiply(y).map_err(block_refusal))
+    pair(source, [[rows, inner], [inner, columns]], here::block_multiply, judge::multiply)
 }
 
 pub fn add(source: &mut Source) -> Outcome {
     let shape = source.sizes();
-    pair(source, [shape; 2], here::block_add, |x, y| blocks::add(x, y).map_err(refusal))
+    pair(source, [shape; 2], here::block_add, judge::add)
 }
 
 pub fn subtract(source: &mut Source) -> Outcome {
     let shape = source.sizes();
-    pair(source, [shape; 2], here::block_subtract, |x, y| x.subtract(y).map_err(block_refusal))
+    pair(source, [shape; 2], here::block_subtract, judge::subtract)
 }
 
 pub fn trace(source: &mut Source) -> Outcome {
     let [size] = source.sizes();
-    let [x] = source.blocks([[size; 2]]);
-    let port = matrix(0, &x).and_then(|x| x.trace().map_err(block_refusal));
-    outcome(here::block_trace(&lent(&x)).map(|z| vec![z.to_vec()]), port.map(|z| vec![vec![z.re, z.im]]))
+    let [x] = source.lent([[size; 2]]);
+    outcome(here::block_trace(&ours(&x)), judge::trace(&x), |z| z.to_vec())
 }
 
 pub fn get(source: &mut Source) -> Outcome {
     let shape = source.sizes();
-    let [x] = source.blocks([shape]);
+    let [x] = source.lent([shape]);
     let (row, column) = (source.below(shape[0] + 1), source.below(shape[1] + 1));
-    let port = matrix(0, &x).and_then(|x| x.get(row, column).ok_or(by(12)));
-    outcome(here::block_get(&lent(&x), row, column).map(|z| vec![z.to_vec()]), port.map(|z| vec![vec![z.re, z.im]]))
+    outcome(here::block_get(&ours(&x), row, column), judge::get(&x, row, column), |z| z.to_vec())
 }
 
 pub fn max_difference(source: &mut Source) -> Outcome {
     let shape = source.sizes();
-    let [x, y] = source.blocks([shape; 2]);
-    let port = matrix(0, &x).and_then(|left| blocks::max_difference(&left, &matrix(1, &y)?).map_err(refusal));
-    outcome(here::block_max_difference(&lent(&x), &lent(&y)).map(|x| vec![vec![x]]), port.map(|x| vec![vec![x]]))
+    let [x, y] = source.lent([shape; 2]);
+    outcome(here::block_max_difference(&ours(&x), &ours(&y)), judge::max_difference(&x, &y), |x| vec![x])
 }
 
 /// Half of the square blocks are Hermitian, half of those but for one part that is off by some power of two of the largest.
@@ -107,7 +92,6 @@ pub fn is_hermitian(source: &mut Source) -> Outcome {
             x.numbers[place] += largest * source.pick(&[1.0, 0.5, 0.25, 1e-12, 1e-13, f64::EPSILON]);
         }
     }
-    let told = |yes| vec![vec![f64::from(u8::from(yes))]];
-    let port = matrix(0, &x).and_then(|x| x.is_hermitian(tolerance).map_err(block_refusal));
-    outcome(here::block_is_hermitian(&lent(&x), tolerance).map(told), port.map(told))
+    let x = x.lent();
+    outcome(here::block_is_hermitian(&ours(&x), tolerance), judge::is_hermitian(&x, tolerance), decided)
 }

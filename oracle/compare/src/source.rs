@@ -1,4 +1,5 @@
 //! Inputs without a pattern and adversarial ones, the same for the same seed.
+use judge::Block;
 use shared::Xorshift;
 
 /// Sizes, times and operands. At most one of them has a fault.
@@ -10,6 +11,15 @@ pub struct Call {
 }
 
 impl Call {
+    pub fn operands<const COUNT: usize>(&self) -> [&[f64]; COUNT] {
+        std::array::from_fn(|operand| &self.operands[operand][..])
+    }
+
+    /// The length of a function.
+    pub fn length(&self) -> usize {
+        2 * (self.points * self.orbitals).pow(2)
+    }
+
     /// The position of a number's real part.
     fn at(&self, t: usize, u: usize, a: usize, b: usize) -> usize {
         2 * (((t * self.points + u) * self.orbitals + a) * self.orbitals + b)
@@ -96,6 +106,12 @@ pub struct Numbers {
     pub rows: usize,
     pub columns: usize,
     pub numbers: Vec<f64>,
+}
+
+impl Numbers {
+    pub fn lent(&self) -> Block {
+        Block::lent(self.rows, self.columns, &self.numbers)
+    }
 }
 
 impl Source {
@@ -251,6 +267,11 @@ impl Source {
         made
     }
 
+    /// The same as they are lent.
+    pub fn lent<const COUNT: usize>(&mut self, shapes: [[usize; 2]; COUNT]) -> [Block; COUNT] {
+        self.blocks(shapes).map(|x| x.lent())
+    }
+
     /// A call on operands of which those named retarded are it, or nearly.
     pub fn call(&mut self, retarded: &[bool]) -> Call {
         let fault = if self.one_in(8) {
@@ -287,7 +308,7 @@ impl Source {
     /// Four components; half of the calls without a fault satisfy the report's identities as far as rounding lets them.
     pub fn components(&mut self) -> Call {
         let mut call = self.call(&[true, false, false, false]);
-        let length = 2 * (call.points * call.orbitals).pow(2);
+        let length = call.length();
         if call.operands.iter().any(|xs| xs.len() != length || xs.iter().any(|x| !x.is_finite())) || self.one_in(2) {
             return call;
         }

@@ -25,9 +25,9 @@ pub use keldysh::{
 pub use observables::{bond_flow_into, density_matrix, one_body_expectation, particle_number};
 pub type Result<T> = std::result::Result<T, KeldyshError>;
 
-/// The port's operations on blocks that it keeps to itself.
-pub mod blocks {
-    use crate::{matrix_ops, Complex64, DenseMatrix, Result};
+/// What the port keeps to itself: operations on blocks, and the weight of a point in an interval.
+pub mod kept {
+    use crate::{matrix_ops, Complex64, DenseMatrix, RealTimeGrid, Result};
 
     pub fn add(left: &DenseMatrix, right: &DenseMatrix) -> Result<DenseMatrix> {
         matrix_ops::add(left, right)
@@ -39,5 +39,9 @@ pub mod blocks {
 
     pub fn max_difference(left: &DenseMatrix, right: &DenseMatrix) -> Result<f64> {
         matrix_ops::max_difference(left, right)
+    }
+
+    pub fn interval_weight(grid: &RealTimeGrid, point: usize, start: usize, end: usize) -> f64 {
+        grid.interval_weight(point, start, end)
     }
 }

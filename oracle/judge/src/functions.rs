@@ -1,0 +1,159 @@
+//! The calls on times and on two-time functions. Slices lent for what is made, the scratch too, are given by their lengths.
+use crate::lines::{built, functions, functions_of_times, grid, lengths, limits, matrix, refusal, require};
+use crate::{Answer, Block};
+use keldysh_green::{kept, Complex64, ConsistencyReport, KeldyshGreen, RealTimeGrid, TwoTimeMatrix};
+use shared::{numbers, residuals};
+
+/// What a call leaves in each slice that it is lent for it.
+pub type Filled<const COUNT: usize> = Answer<[Vec<f64>; COUNT]>;
+
+pub fn full_weights(points: usize, times: &[f64], lent: [usize; 1]) -> Filled<1> {
+    Ok([grid(points, times, &lent)?.weights().to_vec()])
+}
+
+pub fn interval_weight(points: usize, times: &[f64], point: usize, start: usize, end: usize) -> Answer<f64> {
+    let grid = grid(points, times, &[])?;
+    // The port has no such refusal, and may read past the times.
+    require(end < points, 11)?;
+    Ok(kept::interval_weight(&grid, point, start, end))
+}
+
+/// Times for a call that is lent none: no answer of it depends on them.
+fn any_times(points: usize) -> Vec<f64> {
+    (0..points).map(|t| t as f64).collect()
+}
+
+pub fn time_convolution(points: usize, orbitals: usize, times: &[f64], operands: [&[f64]; 2], lent: [usize; 1]) -> Filled<1> {
+    let (grid, [left, right]) = functions_of_times(points, orbitals, times, operands, &lent)?;
+    Ok([numbers(&keldysh_green::time_convolution(&grid, &left, &right).map_err(refusal)?)])
+}
+
+pub fn causal_volterra_convolution(points: usize, orbitals: usize, times: &[f64], operands: [&[f64]; 2], lent: [usize; 1]) -> Filled<1> {
+    let (grid, [left, right]) = functions_of_times(points, orbitals, times, operands, &lent)?;
+    Ok([numbers(&keldysh_green::causal_volterra_convolution(&grid, &left, &right).map_err(refusal)?)])
+}
+
+/// The port's is private. Dyson with a self-energy of zeros asks it of the free propagator and refuses nothing else.
+pub fn check_retarded_support(points: usize, orbitals: usize, xs: &[f64], tolerance: f64) -> Answer<()> {
+    let [free] = functions(points, orbitals, [xs])?;
+    let [zeros] = functions(points, orbitals, [&vec![0.0; xs.len()]])?;
+    let grid = grid(points, &any_times(points), &[])?;
+    keldysh_green::retarded_dyson_with_tolerance(&grid, &free, &zeros, tolerance).map_err(refusal)?;
+    Ok(())
+}
+
+/// G, and K in the scratch.
+fn dyson(
+    points: usize,
+    orbitals: usize,
+    times: &[f64],
+    operands: [&[f64]; 2],
+    lent: [usize; 2],
+    solve: impl Fn(&RealTimeGrid, &TwoTimeMatrix, &TwoTimeMatrix) -> keldysh_green::Result<TwoTimeMatrix>,
+) -> Filled<2> {
+    let (grid, [free, sigma]) = functions_of_times(points, orbitals, times, operands, &lent)?;
+    let green = solve(&grid, &free, &sigma).map_err(refusal)?;
+    let kernel = keldysh_green::causal_volterra_convolution(&grid, &free, &sigma).map_err(refusal)?;
+    Ok([&green, &kernel].map(numbers))
+}
+
+/// Operands: free propagator, self-energy.
+pub fn retarded_dyson(points: usize, orbitals: usize, times: &[f64], operands: [&[f64]; 2], lent: [usize; 2]) -> Filled<2> {
+    dyson(points, orbitals, times, operands, lent, keldysh_green::retarded_dyson)
+}
+
+/// Operands: free propagator, self-energy.
+pub fn retarded_dyson_with_tolerance(
+    points: usize,
+    orbitals: usize,
+    times: &[f64],
+    operands: [&[f64]; 2],
+    tolerance: f64,
+    lent: [usize; 2],
+) -> Filled<2> {
+    dyson(points, orbitals, times, operands, lent, |grid, free, sigma| {
+        keldysh_green::retarded_dyson_with_tolerance(grid, free, sigma, tolerance)
+    })
+}
+
+/// G^R, G^<, K, X. Operands: free propagator, retarded self-energy, Σ^<.
+pub fn transient_run(points: usize, orbitals: usize, times: &[f64], operands: [&[f64]; 3], tolerance: f64, lent: [usize; 4]) -> Filled<4> {
+    let (grid, [free, sigma, source]) = functions_of_times(points, orbitals, times, operands, &lent)?;
+    let made = shared::transient_run(&grid, &free, &sigma, &source, tolerance).map_err(refusal)?;
+    let kernel = keldysh_green::causal_volterra_convolution(&grid, &free, &sigma).map_err(refusal)?;
+    Ok([&made.green, &made.lesser, &kernel, &made.mixed].map(numbers))
+}
+
+pub fn density_matrix(points: usize, orbitals: usize, lesser: &[f64], time: usize) -> Answer<Block> {
+    let [lesser] = functions(points, orbitals, [lesser])?;
+    Ok(keldysh_green::density_matrix(&lesser, time).map_err(refusal)?.into())
+}
+
+pub fn particle_number(points: usize, orbitals: usize, lesser: &[f64], time: usize, tolerance: f64) -> Answer<f64> {
+    let [lesser] = functions(points, orbitals, [lesser])?;
+    keldysh_green::particle_number(&lesser, time, tolerance).map_err(refusal)
+}
+
+pub fn one_body_expectation(
+    points: usize,
+    orbitals: usize,
+    lesser: &[f64],
+    time: usize,
+    observable: &Block,
+    tolerance: f64,
+) -> Answer<f64> {
+    let (rows, columns) = (observable.rows, observable.columns);
+    limits(Some(points), &[orbitals, rows, columns])?;
+    lengths(points, orbitals, &[lesser], &[])?;
+    require((rows, columns) == (orbitals, orbitals), 3)?;
+    let [lesser] = built(points, orbitals, [lesser])?;
+    let observable = matrix(1, rows, columns, observable.entries())?;
+    keldysh_green::one_body_expectation(&lesser, time, &observable, tolerance).map_err(refusal)
+}
+
+/// The flow into the first of two orbitals from the other, of a hopping by its real and its imaginary part.
+pub fn bond_flow_into(
+    points: usize,
+    orbitals: usize,
+    lesser: &[f64],
+    time: usize,
+    [a, b]: [usize; 2],
+    hopping: [f64; 2],
+    charge: f64,
+) -> Answer<f64> {
+    let [lesser] = functions(points, orbitals, [lesser])?;
+    keldysh_green::bond_flow_into(&lesser, time, a, b, Complex64::new(hopping[0], hopping[1]), charge).map_err(refusal)
+}
+
+/// The port's function of four components: retarded, advanced, lesser, greater.
+fn green(grid: &RealTimeGrid, [retarded, advanced, lesser, greater]: [TwoTimeMatrix; 4]) -> Answer<KeldyshGreen> {
+    KeldyshGreen::try_new(grid.clone(), retarded, advanced, lesser, greater).map_err(refusal)
+}
+
+/// The six residuals in the report's order.
+pub fn consistency_report(points: usize, orbitals: usize, components: [&[f64]; 4]) -> Answer<[f64; 6]> {
+    let components = functions(points, orbitals, components)?;
+    let grid = grid(points, &any_times(points), &[])?;
+    Ok(residuals(&green(&grid, components)?.consistency_report().map_err(refusal)?))
+}
+
+/// Whether six residuals, in the report's order, are at most the tolerance.
+pub fn is_consistent(x: [f64; 6], tolerance: f64) -> Answer<bool> {
+    let report = ConsistencyReport {
+        retarded_causality: x[0],
+        advanced_causality: x[1],
+        advanced_adjoint: x[2],
+        lesser_antihermiticity: x[3],
+        greater_antihermiticity: x[4],
+        spectral_identity: x[5],
+    };
+    report.is_consistent(tolerance).map_err(refusal)
+}
+
+/// The four components. Operands: those of the left function, then those of the right.
+pub fn langreth_product(points: usize, orbitals: usize, times: &[f64], operands: [&[f64]; 8], lent: [usize; 4]) -> Filled<4> {
+    let (grid, [a, b, c, d, e, f, g, h]) = functions_of_times(points, orbitals, times, operands, &lent)?;
+    let (left, right) = (green(&grid, [a, b, c, d])?, green(&grid, [e, f, g, h])?);
+    let made = keldysh_green::langreth_product(&left, &right).map_err(refusal)?;
+    Ok([made.retarded(), made.advanced(), made.lesser(), made.greater()].map(numbers))
+}

@@ -1,0 +1,30 @@
+//! The port's answer to a call, by document 01's numbers. A call may have more than one fault: it is refused by the first line, in document
+//! 01's order, whose answer is no. The port has the correctly rounded norm in hypot's place.
+mod blocks;
+mod functions;
+mod lines;
+
+pub use blocks::{add, adjoint, from_numbers, get, identity, is_hermitian, max_difference, multiply, norm, scale, subtract, trace, Block};
+pub use functions::{bond_flow_into, density_matrix, one_body_expectation, particle_number};
+pub use functions::{causal_volterra_convolution, consistency_report, full_weights, interval_weight, is_consistent, langreth_product};
+pub use functions::{check_retarded_support, retarded_dyson, retarded_dyson_with_tolerance, time_convolution, transient_run, Filled};
+
+/// A refusal: its number and its places, which are 0 where its line has none.
+#[derive(Debug, Clone, Copy, PartialEq)]
+pub struct Refused {
+    pub number: u8,
+    pub operand: usize,
+    pub first: usize,
+    pub second: usize,
+    pub part: f64,
+}
+
+impl Refused {
+    /// A refusal without places.
+    pub const fn by(number: u8) -> Self {
+        Self { number, operand: 0, first: 0, second: 0, part: 0.0 }
+    }
+}
+
+/// What the port makes, or its refusal.
+pub type Answer<T> = Result<T, Refused>;
