@@ -7,6 +7,7 @@ ghost use Rattle.langreth.specs.Calls.{componentsOf, langrethProduct};
 use refusal::Refusal;
 use refusal::Verdict;
 use two_time::layout::clear;
+use two_time::lines::all_fit;
 
 // The Langreth product of two functions by their components: C^R = A^R∘B^R, C^A = A^A∘B^A, C^< = A^R∘B^< + A^<∘B^A, C^> alike. Lines 1
 // to 7, then 10. 4·N³ + N(N+1)(N+2)/3 products of blocks.
@@ -37,7 +38,7 @@ pub fn langreth_product(
         × (now (lesser .exit) ≡ product .out .lesser)
         × (now (greater .exit) ≡ product .out .greater)) ⌝ }
 {
-    let lent = lines::all_fit(retarded, advanced, lesser, greater, points, orbitals);
+    let lent = all_fit(retarded, advanced, lesser, greater, points, orbitals);
     let verdict = lines::input_lines(
         times,
         left_retarded,

@@ -8,27 +8,9 @@ ghost use Rattle.two_time.specs.Calls.{allLong, operandLines, inputLines};
 ghost use Rattle.langreth.specs.Calls.{componentsOf, listed};
 use grid::time_lines;
 use refusal::Verdict;
-use two_time::lines::has_length;
+use two_time::lines::all_fit;
 use two_time::lines::operand;
 use two_time::lines::sizes;
-
-// Whether four components have a function's length.
-pub(crate) fn all_fit(
-    retarded: &[f64],
-    advanced: &[f64],
-    lesser: &[f64],
-    greater: &[f64],
-    points: usize,
-    orbitals: usize,
-) -> bool
-    ensures { λ r. ⌜ r ≡ allLong (lengthOf (min points 256) (min orbitals 16)) (now (retarded .entry) ∷ now (advanced .entry) ∷ now (lesser .entry) ∷ now (greater .entry) ∷ []) ⌝ }
-{
-    let retarded_fits = has_length(points, orbitals, retarded);
-    let advanced_fits = has_length(points, orbitals, advanced);
-    let lesser_fits = has_length(points, orbitals, lesser);
-    let greater_fits = has_length(points, orbitals, greater);
-    retarded_fits & (advanced_fits & (lesser_fits & greater_fits))
-}
 
 // 7, of the four components of one side, whose operands are numbered from `first` on.
 fn entries(

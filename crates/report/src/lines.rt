@@ -6,7 +6,7 @@ ghost use Rattle.report.specs.Lent.{reportLines};
 ghost use Rattle.report.specs.Differences.{numbersFinite};
 use complex::is_finite;
 use refusal::Verdict;
-use two_time::lines::has_length;
+use two_time::lines::all_fit;
 use two_time::lines::operand;
 use two_time::lines::sizes;
 
@@ -21,11 +21,7 @@ pub(crate) fn input_lines(
 ) -> Verdict
     ensures { λ r. ⌜ r ≡ reportLines points orbitals (now (retarded .entry)) (now (advanced .entry)) (now (lesser .entry)) (now (greater .entry)) ⌝ }
 {
-    let retarded_fits = has_length(points, orbitals, retarded);
-    let advanced_fits = has_length(points, orbitals, advanced);
-    let lesser_fits = has_length(points, orbitals, lesser);
-    let greater_fits = has_length(points, orbitals, greater);
-    let fits = retarded_fits & (advanced_fits & (lesser_fits & greater_fits));
+    let fits = all_fit(retarded, advanced, lesser, greater, points, orbitals);
     let last = operand(2, lesser).then(operand(3, greater));
     let entries = operand(0, retarded).then(operand(1, advanced).then(last));
     sizes(points, orbitals, fits).then(entries)

@@ -16,6 +16,7 @@ use grid::time_lines;
 use refusal::Refusal;
 use refusal::Verdict;
 use two_time::layout::clear;
+use two_time::lines::all_fit;
 use two_time::lines::has_length;
 use two_time::lines::operand;
 use two_time::lines::sizes;
@@ -26,24 +27,6 @@ use two_time::sums::weighted_sums;
 pub enum Solved {
     Accepted,
     Refused(Refusal),
-}
-
-// Whether the outputs and the scratch have a function's length.
-fn lent_fit(
-    green: &[f64],
-    lesser: &[f64],
-    kernel: &[f64],
-    mixed: &[f64],
-    points: usize,
-    orbitals: usize,
-) -> bool
-    ensures { λ r. ⌜ r ≡ allLong (lengthOf (min points 256) (min orbitals 16)) (now (green .entry) ∷ now (lesser .entry) ∷ now (kernel .entry) ∷ now (mixed .entry) ∷ []) ⌝ }
-{
-    let green_fits = has_length(points, orbitals, green);
-    let lesser_fits = has_length(points, orbitals, lesser);
-    let kernel_fits = has_length(points, orbitals, kernel);
-    let mixed_fits = has_length(points, orbitals, mixed);
-    green_fits & (lesser_fits & (kernel_fits & mixed_fits))
 }
 
 // Lines 1 to 9, where `lent` says whether the outputs and the scratch have their length.
@@ -130,7 +113,7 @@ pub fn transient_run(
         × (now (kernel .exit) ≡ transientRun (runOf points orbitals tolerance (now (times .entry)) (now (free .entry)) (now (sigma .entry)) (now (source .entry)) (now (green .entry)) (now (lesser .entry)) (now (kernel .entry)) (now (mixed .entry))) .kernel)
         × (now (mixed .exit) ≡ transientRun (runOf points orbitals tolerance (now (times .entry)) (now (free .entry)) (now (sigma .entry)) (now (source .entry)) (now (green .entry)) (now (lesser .entry)) (now (kernel .entry)) (now (mixed .entry))) .mixed) ⌝ }
 {
-    let lent = lent_fit(green, lesser, kernel, mixed, points, orbitals);
+    let lent = all_fit(green, lesser, kernel, mixed, points, orbitals);
     let verdict = lines(
         times,
         free,

@@ -1,11 +1,13 @@
 // The lines that every call on two-time functions asks of what it is lent (document 01, "Questions in order").
 ghost use mathlib.Core.Path.{_≡_};
+ghost use mathlib.Core.List.{[], _∷_};
 ghost use Prim.Native.Nat.{min};
 ghost use lib.Dec.{eqb};
 ghost use lib.ListN.{length};
 ghost use Rattle.refusal.specs.Verdict.{_then_};
 ghost use Rattle.refusal.specs.Lines.{largeEnough, withinLimits, fitting, finiteEntries};
 ghost use Rattle.two_time.specs.Layout.{lengthOf};
+ghost use Rattle.two_time.specs.Calls.{allLong};
 use crate::layout::function_length;
 use refusal::Verdict;
 use refusal::lines::finite_entries;
@@ -18,6 +20,24 @@ pub fn has_length(points: usize, orbitals: usize, xs: &[f64]) -> bool
     ensures { λ r. ⌜ r ≡ eqb (length (now (xs .entry))) (lengthOf (min points 256) (min orbitals 16)) ⌝ }
 {
     xs.len() == function_length(points, orbitals)
+}
+
+// The same of four slices.
+pub fn all_fit(
+    first: &[f64],
+    second: &[f64],
+    third: &[f64],
+    fourth: &[f64],
+    points: usize,
+    orbitals: usize,
+) -> bool
+    ensures { λ r. ⌜ r ≡ allLong (lengthOf (min points 256) (min orbitals 16)) (now (first .entry) ∷ now (second .entry) ∷ now (third .entry) ∷ now (fourth .entry) ∷ []) ⌝ }
+{
+    let first_fits = has_length(points, orbitals, first);
+    let second_fits = has_length(points, orbitals, second);
+    let third_fits = has_length(points, orbitals, third);
+    let fourth_fits = has_length(points, orbitals, fourth);
+    first_fits & (second_fits & (third_fits & fourth_fits))
 }
 
 // 1, 2 and 3: `fits` says whether each lent slice has its length.

@@ -15,7 +15,7 @@ start c = c .before .before .before .before .before .before .before .before .bef
 -- the verdict is that of the lines
 asked : (c : tie.After-lines) → let x = start c .args in
     c .lines .result ≡ runLines (x .points) (x .orbitals) (x .tolerance) (now (x .times)) (now (x .free)) (now (x .sigma)) (now (x .source)) (now (x .green) ∷ now (x .lesser) ∷ now (x .kernel) ∷ now (x .mixed) ∷ [])
-asked c = let x = start c .args in c .lines .ensures (now (x .green) ∷ now (x .lesser) ∷ now (x .kernel) ∷ now (x .mixed) ∷ []) (c .before .lent-fit .ensures)
+asked c = let x = start c .args in c .lines .ensures (now (x .green) ∷ now (x .lesser) ∷ now (x .kernel) ∷ now (x .mixed) ∷ []) (c .before .all-fit .ensures)
 
 abbrev worked : tie.After-work → tie.After-enum-told
 worked w = w .before .before .before .before .before
@@ -68,7 +68,7 @@ pub transient-run-spec : {M : Type 1} → statement M
 transient-run-spec =
     tie.close
     (tie.spec
-    (λ c κs. search needs)  -- lent-fit-requires
+    (λ c κs. search needs)  -- all-fit-requires
     (λ c κs. search needs)  -- lines-requires
     (λ c. search needs)  -- enum-known-verdict
     (λ c. search needs)  -- enum-told

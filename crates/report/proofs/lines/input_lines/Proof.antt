@@ -6,15 +6,15 @@ use denote.Ref.{now}
 use borrow.Author.Needs.{needs}
 use Rattle.refusal.specs.Verdict.{_then_}
 use Rattle.two_time.specs.Calls.{sizeLines, operandLines}
-use Rattle.two_time.specs.SizeLines.{sizes-asked, fits-last, fits-more}
+use Rattle.two_time.specs.SizeLines.{sizes-asked}
 use Rattle.two_time.specs.Working.{operands-last, operands-more}
 use Rattle.report.proofs.lines.input_lines.Statement.{statement}
 use Rattle.report.proofs.lines.input_lines.Tie as tie
 
-abbrev start : tie.After-has-length4 → tie.Start
-start c = c .before .before .before .before .before .before .before .before
+abbrev start : tie.After-all-fit → tie.Start
+start c = c .before .before .before .before .before
 
-abbrev lengths : tie.After-then3 → tie.After-has-length4
+abbrev lengths : tie.After-then3 → tie.After-all-fit
 lengths c = c .before .before .before .before .before .before .before
 
 -- lines 1 to 3
@@ -22,13 +22,8 @@ sizes : (c : tie.After-sizes) → let x = start (lengths (c .before)) .args in
     c .sizes .result ≡ sizeLines (x .points) (x .orbitals) true (now (x .retarded) ∷ now (x .advanced) ∷ now (x .lesser) ∷ now (x .greater) ∷ [])
 sizes c =
     let g = lengths (c .before) in
-    let l = g .before in
-    let a = l .before in
     let x = start g .args in
-    sizes-asked (x .points) (x .orbitals) _ true _ _
-    (fits-more _ _ _ _ _ _ (a .before .has-length .ensures)
-    (fits-more _ _ _ _ _ _ (a .has-length2 .ensures) (fits-more _ _ _ _ _ _ (l .has-length3 .ensures) (fits-last _ _ _ _ (g .has-length4 .ensures)))))
-    (c .sizes .ensures)
+    sizes-asked (x .points) (x .orbitals) _ true _ _ (g .all-fit .ensures) (c .sizes .ensures)
 
 -- line 7
 entries : (c : tie.After-then3) → let x = start (lengths c) .args in
@@ -48,10 +43,7 @@ pub input-lines-spec : {M : Type 1} → statement M
 input-lines-spec =
     tie.close
     (tie.spec
-    (λ c κs. search needs)  -- has-length-requires
-    (λ c κs. search needs)  -- has-length-requires-2
-    (λ c κs. search needs)  -- has-length-requires-3
-    (λ c κs. search needs)  -- has-length-requires-4
+    (λ c κs. search needs)  -- all-fit-requires
     (λ c κs. search needs)  -- operand-requires
     (λ c κs. search needs)  -- operand-requires-2
     (λ c κs. search needs)  -- then-requires

@@ -1,8 +1,8 @@
--- `langreth::lines::all_fit` meets its contract. Assumes nothing.
+-- `two_time::lines::all_fit` meets its contract. Assumes nothing.
 use borrow.Author.Needs.{needs}
 use Rattle.two_time.specs.SizeLines.{fits-last, fits-more}
-use Rattle.langreth.proofs.lines.all_fit.Statement.{statement}
-use Rattle.langreth.proofs.lines.all_fit.Tie as tie
+use Rattle.two_time.proofs.lines.all_fit.Statement.{statement}
+use Rattle.two_time.proofs.lines.all_fit.Tie as tie
 
 pub all-fit-spec : {M : Type 1} → statement M
 all-fit-spec =
