@@ -6,10 +6,11 @@ import random
 
 from bits import to_bits
 from document01 import DEFAULT_TOLERANCE, LARGEST, function_length
-from solver import solves
-from solver.calls import (
+from replay_calls import solves
+from replay_calls.answers import ran
+from replay_calls.calls import (
     DENSITY, EXPECTATION, FLOW, HUGE, INFINITY, MOST, NAN, NANS, NUMBER, RUN, SMALLEST, Call, beside, by_place,
-    outcome_of_run, some, with_entries,
+    some, with_entries,
 )
 
 ONE = [1.0, 0.0]
@@ -50,7 +51,7 @@ def at_start(orbitals, entries, points=2):
 
 def bench():
     """The particle numbers of P12, and P10."""
-    lesser = outcome_of_run(next(call for call in solves.bench() if call.function == RUN)).lent["lesser"]
+    lesser = ran(next(call for call in solves.bench() if call.function == RUN)).lent["lesser"]
     for time in range(3):
         yield number(3, 1, lesser, time)
         yield density(3, 1, lesser, time)
@@ -63,7 +64,7 @@ def of_runs():
     rng = random.Random(21)
     for points, orbitals in [(3, 1), (3, 2), (2, 3)]:
         call = solves.random_call(RUN, points, orbitals, "plain", "uneven", rng)
-        lesser = outcome_of_run(call).lent["lesser"]
+        lesser = ran(call).lent["lesser"]
         yield from one_each(points, orbitals, lesser, points - 1, 10.0)
         yield number(points, orbitals, lesser, points - 1)
         for a, b in itertools.product(range(min(orbitals, 2)), repeat=2):

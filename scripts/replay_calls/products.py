@@ -5,15 +5,13 @@ import math
 import random
 
 from document01 import (
-    LARGEST, Overflow, added, anti_causal_convolution, causal_convolution, full_convolution, function_length, langreth_product,
-    read,
+    LARGEST, Overflow, added, anti_causal_convolution, causal_convolution, full_convolution, function_length, read,
 )
-from keldysh.reports import ADVANCED, GREATER, HALF_STEP, LESSER, RETARDED, SHAPES, placed, zeros
-from solver.calls import (
-    GRIDS, INFINITY, KINDS, NAN, NOT_FINITE, SMALLEST, Call, other_length, quarters, some, with_entries, with_slices,
+from replay_calls.calls import (
+    GRIDS, HALF_STEP, INFINITY, KINDS, LANGRETH, NAN, NOT_FINITE, SMALLEST, Call, other_length, quarters, some, with_entries,
 )
+from replay_calls.reports import ADVANCED, GREATER, LESSER, RETARDED, SHAPES, placed, zeros
 
-PRODUCT = 2
 # The convolutions by the component of the left operand and of the right one.
 SUMS = {
     "retarded": (RETARDED, RETARDED), "advanced": (ADVANCED, ADVANCED),
@@ -23,22 +21,8 @@ SUMS = {
 ONES = {(t, u): 1.0 for t in range(2) for u in range(2)}
 
 
-# What the program has in each output before the call.
-HELD = (7.5, -0.0, NAN, INFINITY)
-
-
 def product(times, left, right, orbitals=1):
-    return Call(PRODUCT, len(times), orbitals, NAN, [*left, times, *right], last=(len(left[0]),) * 4)
-
-
-def multiplied(call):
-    left, times, right = call.slices[:4], call.slices[4], call.slices[5:]
-    lent = [[value] * length for value, length in zip(HELD, call.last)]
-    outcome = langreth_product(call.points, call.orbitals, times, left, right, *lent)
-    return with_slices(outcome, "retarded", "advanced", "lesser", "greater")
-
-
-ANSWER = {PRODUCT: multiplied}
+    return Call(LANGRETH, len(times), orbitals, 0.0, [*left, times, *right], last=(len(left[0]),) * 4)
 
 
 # ---- Accepted products ---------------------------------------------------------
@@ -177,10 +161,10 @@ def sizes():
     """Lines 1 and 2, each before the next and before all others, and shapes at their limits."""
     slices = [[NAN], [], [1.0], [INFINITY], [0.0, 0.0], [], [], [NAN], []]
     for points, orbitals in SHAPES:
-        yield Call(PRODUCT, points, orbitals, NAN, slices, last=(1, 0, 3, 2))
-    yield Call(PRODUCT, 1, 1, NAN, [[1.0, 1.0]] * 4 + [[0.0]] + [[1.0, 1.0]] * 4, last=(2, 2, 2, 2))
+        yield Call(LANGRETH, points, orbitals, 0.0, slices, last=(1, 0, 3, 2))
+    yield Call(LANGRETH, 1, 1, 0.0, [[1.0, 1.0]] * 4 + [[0.0]] + [[1.0, 1.0]] * 4, last=(2, 2, 2, 2))
     for points in (0, 2):
-        yield Call(PRODUCT, points, 1, NAN, [[]] * 9, last=(0, 0, 0, 0))
+        yield Call(LANGRETH, points, 1, 0.0, [[]] * 9, last=(0, 0, 0, 0))
 
 
 def lengths():

@@ -4,21 +4,17 @@ import itertools
 import math
 import random
 
-from document01 import LARGEST, Refusal, Report, consistency_report, function_length, is_consistent, lay_out, read, table
-from solver.calls import (
-    HUGE, INFINITY, KINDS, MOST, NAN, NOT_FINITE, SMALLEST, Call, answer, beside, by_place, number, other_length, some,
-    with_entries,
+from document01 import LARGEST, Report, consistency_report, function_length, lay_out, read, table
+from replay_calls.calls import (
+    CONSISTENT, HALF_STEP, HUGE, INFINITY, KINDS, MOST, NAN, NOT_FINITE, REPORT, SMALLEST, WRONG_TOLERANCES, Call, beside,
+    by_place, other_length, some, with_entries,
 )
 
-REPORT, CONSISTENT = 0, 1
 # The components in call order.
 RETARDED, ADVANCED, LESSER, GREATER = range(4)
-# Half the distance from the largest number to the next power of two.
-HALF_STEP = 2.0**970
 # Points and orbitals that line 1 refuses, that line 2 does, and that neither does.
 SHAPES = [(0, 1), (1, 1), (2, 0), (0, 0), (1, 17), (257, 0), (0, MOST), (MOST, 0)]
 SHAPES += [(257, 1), (2, 17), (257, 17), (MOST, 1), (2, MOST), (HUGE, HUGE), (256, 1), (2, 16), (256, 16)]
-WRONG_TOLERANCES = [0.0, -0.0, -0.5, -SMALLEST, -LARGEST, *NOT_FINITE]
 
 
 def report(components, points=2, orbitals=1, tolerance=0.5):
@@ -27,28 +23,6 @@ def report(components, points=2, orbitals=1, tolerance=0.5):
 
 def consistent(residuals, tolerance):
     return Call(CONSISTENT, 0, 0, tolerance, [residuals])
-
-
-# ---- What a call answers -------------------------------------------------------
-
-
-def decision(value):
-    return answer(value) if isinstance(value, Refusal) else ("yes" if value else "no")
-
-
-def reported(call):
-    """The residuals, then the decision by the tolerance."""
-    value = consistency_report(call.points, call.orbitals, *call.slices)
-    if isinstance(value, Refusal):
-        return [answer(value)]
-    return [*map(number, value), decision(is_consistent(value, call.tolerance))]
-
-
-def decided(call):
-    return [decision(is_consistent(Report(*call.slices[0]), call.tolerance))]
-
-
-ANSWER = {REPORT: reported, CONSISTENT: decided}
 
 
 # ---- Components ----------------------------------------------------------------

@@ -6,7 +6,7 @@ import random
 from document01 import (
     DEFAULT_TOLERANCE, LARGEST, Overflow, causal_convolution, first_sums, function_length, lesser_function, place, read, solve,
 )
-from solver.calls import (
+from replay_calls.calls import (
     DYSON, DYSON_DEFAULT, GRIDS, HUGE, INFINITY, KINDS, MOST, NAN, NANS, NOT_FINITE, RUN, SMALLEST, Call, beside, by_place, held,
     other_length, quarters, some, with_entries,
 )
@@ -24,8 +24,8 @@ def call(function, times, free, sigma, source=None, orbitals=1, tolerance=DEFAUL
     if function == RUN:
         operands.append([0.0, 1.0] * (count // 2) if source is None else source)
     lent = SLICES[function] - 1 - len(operands)
-    # The call without a tolerance reads none: what is written for it is a NaN.
-    asked = NAN if function == DYSON_DEFAULT else tolerance
+    # The call without a tolerance reads none: what is written for it is 0, which line 8 would refuse.
+    asked = 0.0 if function == DYSON_DEFAULT else tolerance
     return Call(function, len(times), orbitals, asked, [times, *operands, *(held(count) for _ in range(lent))])
 
 
@@ -245,7 +245,7 @@ def not_retarded():
 
 
 def refused(function, points, orbitals, slices, tolerance=NAN):
-    return Call(function, points, orbitals, tolerance, slices)
+    return Call(function, points, orbitals, 0.0 if function == DYSON_DEFAULT else tolerance, slices)
 
 
 def sizes():

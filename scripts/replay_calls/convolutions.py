@@ -5,7 +5,7 @@ import math
 import random
 
 from document01 import LARGEST, SMALLEST_NORMAL, function_length, place
-from solver.calls import (
+from replay_calls.calls import (
     CAUSAL, FULL, GRIDS, HUGE, INFINITY, KINDS, MOST, NAN, NANS, NOT_FINITE, SMALLEST, SUPPORT, Call, beside, by_place, held,
     other_length, quarters, some, with_entries,
 )

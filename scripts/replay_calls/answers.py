@@ -1,0 +1,248 @@
+"""What a call answers by the reference's plain reading of document 01, as the program replay prints it."""
+
+import functools
+
+from bits import from_bits, to_bits
+from document01 import (
+    ACCEPTED, Block, Refusal, Report, add, adjoint, bond_flow_into, causal_volterra_convolution, consistency_report,
+    density_matrix, entry, from_numbers, full_weights, function_length, identity, interval_weight, is_consistent, is_hermitian,
+    langreth_product, line_8, max_difference, norm, one_body_expectation, particle_number, product, retarded_dyson,
+    retarded_dyson_with_tolerance, retarded_support, scale, subtract, time_convolution, trace, transient_run,
+)
+from replay_calls.calls import (
+    ADD, ADJOINT, CAUSAL, CONSISTENT, DENSITY, DIFFERENCE, DYSON, DYSON_DEFAULT, EXPECTATION, FLOW, FROM_NUMBERS, FULL, GET,
+    HERMITIAN, IDENTITY, INFINITY, INTERVAL, LANGRETH, MADE, MOST_IN_BLOCK, MOST_STORED, MULTIPLY, NAN, NORM, NUMBER, REPORT,
+    RUN, SCALE, SUBTRACT, SUPPORT, TRACE, WEIGHTS,
+)
+
+# What the program has in each output of a Langreth product before the call.
+HELD = (7.5, -0.0, NAN, INFINITY)
+# What stands for an answer that is not worked out here.
+LEFT_OUT = "?"
+
+# ---- Answers as text -----------------------------------------------------------
+
+
+def number(x):
+    return "nan" if x != x else format(to_bits(x), "016x")
+
+
+def answer(value):
+    if value is ACCEPTED:
+        return "accepted"
+    if isinstance(value, bool):
+        return "yes" if value else "no"
+    if isinstance(value, float):
+        return number(value)
+    if not isinstance(value, Refusal):
+        return " ".join(map(number, value))
+    if value.number == 14:
+        return f"not-real {number(value.part)}"
+    places = (value.number, value.operand, value.first, value.second)
+    return f"refused {' '.join(map(str, places))} {number(value.part)}"
+
+
+def with_slices(outcome):
+    """An answer, then each output and scratch slice."""
+    return [answer(outcome.answer), *(number(x) for numbers in outcome.lent.values() for x in numbers)]
+
+
+def with_block(value, block):
+    """An answer, then the block by its rows, its columns and its numbers up to the last one that is not +0."""
+    numbers = list(map(number, block.numbers))
+    while numbers and numbers[-1] == number(0.0):
+        numbers.pop()
+    return [answer(value), str(block.rows), str(block.columns), *numbers]
+
+
+# ---- Calls that leave numbers in lent slices -----------------------------------
+
+
+def convolved(convolution):
+    return lambda call: convolution(call.points, call.orbitals, *call.slices)
+
+
+def solved(call):
+    times, free, sigma, *lent = call.slices
+    return retarded_dyson_with_tolerance(call.points, call.orbitals, times, free, sigma, call.tolerance, *lent)
+
+
+def solved_by_default(call):
+    return retarded_dyson(call.points, call.orbitals, *call.slices)
+
+
+def ran(call):
+    times, free, sigma, source, *lent = call.slices
+    return transient_run(call.points, call.orbitals, times, free, sigma, source, call.tolerance, *lent)
+
+
+def multiplied(call, held=HELD):
+    left, times, right = call.slices[:4], call.slices[4], call.slices[5:]
+    lent = [[value] * length for value, length in zip(held, call.last)]
+    return langreth_product(call.points, call.orbitals, times, left, right, *lent)
+
+
+def weighed(call):
+    return full_weights(call.points, *call.slices)
+
+
+OUTCOME = {
+    FULL: convolved(time_convolution), CAUSAL: convolved(causal_volterra_convolution), DYSON: solved,
+    DYSON_DEFAULT: solved_by_default, RUN: ran, LANGRETH: multiplied, WEIGHTS: weighed,
+}
+
+# ---- Other calls ---------------------------------------------------------------
+
+
+def supported(call):
+    return [answer(retarded_support(call.points, call.orbitals, *call.slices, call.tolerance))]
+
+
+def dense(call):
+    return with_block(*density_matrix(call.points, call.orbitals, *call.slices, *call.more))
+
+
+def counted(call):
+    return [answer(particle_number(call.points, call.orbitals, *call.slices, *call.more, call.tolerance))]
+
+
+def expected(call):
+    lesser, numbers = call.slices
+    time, rows, columns = call.more
+    block = lent_block(Block(rows, columns, numbers))
+    return [answer(one_body_expectation(call.points, call.orbitals, lesser, time, block, call.tolerance))]
+
+
+def flowed(call):
+    time, a, b, *factors = call.more
+    re, im, charge = map(from_bits, factors)
+    return [answer(bond_flow_into(call.points, call.orbitals, *call.slices, time, a, b, (re, im), charge))]
+
+
+def reported(call):
+    """The residuals, then the decision by the tolerance."""
+    value = consistency_report(call.points, call.orbitals, *call.slices)
+    if isinstance(value, Refusal):
+        return [answer(value)]
+    return [answer(value), answer(is_consistent(value, call.tolerance))]
+
+
+def decided(call):
+    return [answer(is_consistent(Report(*call.slices[0]), call.tolerance))]
+
+
+def normed(call):
+    return [answer(norm(tuple(map(from_bits, call.more))))]
+
+
+def lent_block(block):
+    """A block as it is lent: NaN past the numbers that are stored."""
+    return block._replace(numbers=block.numbers + [NAN] * (MOST_IN_BLOCK - len(block.numbers)))
+
+
+def made_block(operation):
+    return lambda call: with_block(*operation(*map(lent_block, call.slices)))
+
+
+def measured(operation):
+    return lambda call: [answer(operation(*map(lent_block, call.slices), *call.last))]
+
+
+def built(call):
+    return with_block(*from_numbers(*call.more, *call.slices))
+
+
+def one_on_diagonal(call):
+    return with_block(*identity(*call.more))
+
+
+def scaled(call):
+    return with_block(*scale(lent_block(*call.slices), tuple(map(from_bits, call.last))))
+
+
+def hermitian(call):
+    return [answer(is_hermitian(lent_block(*call.slices), call.tolerance))]
+
+
+def weighed_within(call):
+    return [answer(interval_weight(call.points, *call.slices, *call.more))]
+
+
+ANSWER = {function: (lambda call, outcome=outcome: with_slices(outcome(call))) for function, outcome in OUTCOME.items()} | {
+    SUPPORT: supported, DENSITY: dense, NUMBER: counted, EXPECTATION: expected, FLOW: flowed, REPORT: reported,
+    CONSISTENT: decided, NORM: normed, FROM_NUMBERS: built, IDENTITY: one_on_diagonal, ADJOINT: made_block(adjoint),
+    SCALE: scaled, MULTIPLY: made_block(product), ADD: made_block(add), SUBTRACT: made_block(subtract), TRACE: measured(trace),
+    GET: measured(entry), DIFFERENCE: measured(max_difference), HERMITIAN: hermitian, INTERVAL: weighed_within,
+}
+
+# ---- Calls whose numbers are made ----------------------------------------------
+
+WORD = 2**64 - 1
+
+
+def next_state(state):
+    state ^= state << 13 & WORD
+    state ^= state >> 7
+    return state ^ state << 17 & WORD
+
+
+@functools.cache
+def made(points, orbitals, seed):
+    """The times, and the function that stands for every operand: +0 above the diagonal."""
+    state = seed
+
+    def draw():
+        nonlocal state
+        state = next_state(state)
+        return from_bits(0x3FF << 52 | state >> 12) - 1.5
+
+    times, time = [], 0.0
+    for _ in range(points):
+        time = time + (draw() * 0.1 + 0.15)
+        times.append(time)
+    block = 2 * orbitals * orbitals
+    places = ((t, u) for t in range(points) for u in range(points))
+    return times, [draw() if t >= u else 0.0 for t, u in places for _ in range(block)]
+
+
+def digest(numbers):
+    state = 0x9E37_79B9_7F4A_7C15
+    for x in numbers:
+        state = next_state(state ^ to_bits(x))
+    return format(state, "016x")
+
+
+# How many of the slices are two-time operands, and how many are lent to be written.
+OPERANDS = {FULL: 2, CAUSAL: 2, SUPPORT: 1, DYSON: 2, DYSON_DEFAULT: 2, RUN: 3, DENSITY: 1, NUMBER: 1, FLOW: 1, REPORT: 4}
+WRITTEN = {FULL: 1, CAUSAL: 1, DYSON: 2, DYSON_DEFAULT: 2, RUN: 4}
+
+
+def with_made(call):
+    """The call of function k whose numbers are made; a Langreth product's outputs are told by their lengths."""
+    function = call.function - MADE
+    seed, *more = call.more
+    times, numbers = made(call.points, call.orbitals, seed)
+    if function == LANGRETH:
+        return call._replace(function=function, slices=[*[numbers] * 4, times, *[numbers] * 4], last=(len(numbers),) * 4)
+    slices = [numbers] * OPERANDS[function] + [[7.5] * len(numbers)] * WRITTEN.get(function, 0)
+    if function in WRITTEN:
+        slices = [times, *slices]
+    return call._replace(function=function, slices=slices, more=tuple(more))
+
+
+def of_made(call):
+    """What a call of 64 + k answers, a lent slice by its digest. Long sums over times are left out."""
+    function = call.function - MADE
+    if function not in OUTCOME:
+        return ANSWER[function](with_made(call))
+    refused = function in (DYSON, RUN) and line_8(call.tolerance)
+    if function_length(call.points, call.orbitals) > MOST_STORED and not refused:
+        return [LEFT_OUT]
+    stored = with_made(call)
+    outcome = multiplied(stored, (7.5,) * 4) if function == LANGRETH else OUTCOME[function](stored)
+    return [answer(outcome.answer), *map(digest, outcome.lent.values())]
+
+
+def line(index, call):
+    answers = ANSWER[call.function] if call.function < MADE else of_made
+    return " ".join([str(index), *answers(call)])

@@ -1,0 +1,145 @@
+"""A call of the program replay: its words, and numbers to make calls of. answers.py has what it answers by the reference."""
+
+import itertools
+import math
+import random
+from typing import NamedTuple
+
+from bits import from_bits, to_bits
+from document01 import LARGEST, SMALLEST_NORMAL, Block, function_length, place
+
+NAN = math.nan
+INFINITY = math.inf
+SMALLEST = 5e-324
+# Half the distance from the largest number to the next power of two.
+HALF_STEP = 2.0**970
+HUGE = 2**63
+MOST = 2**64 - 1
+# NaNs of other bits: with a sign, quiet and signalling, least and largest.
+NANS = [from_bits(bits) for bits in (0xFFF8 << 48, 0x7FF0 << 48 | 1, 0xFFF0 << 48 | 1, 2**63 - 1, 2**64 - 1)]
+NOT_FINITE = [NAN, INFINITY, -INFINITY, *NANS]
+WRONG_TOLERANCES = [0.0, -0.0, -0.5, -SMALLEST, -LARGEST, *NOT_FINITE]
+
+# The functions by their numbers in the list.
+NAMES = [
+    "time_convolution", "causal_volterra_convolution", "check_retarded_support", "retarded_dyson_with_tolerance",
+    "retarded_dyson", "transient_run", "density_matrix", "particle_number", "one_body_expectation", "bond_flow_into",
+    "consistency_report", "is_consistent", "langreth_product", "norm", "from_numbers", "identity", "adjoint", "scale",
+    "multiply", "add", "subtract", "trace", "get", "max_difference", "is_hermitian", "full_weights", "interval_weight",
+]
+FULL, CAUSAL, SUPPORT, DYSON, DYSON_DEFAULT, RUN, DENSITY, NUMBER, EXPECTATION, FLOW = range(10)
+REPORT, CONSISTENT, LANGRETH, NORM, FROM_NUMBERS, IDENTITY, ADJOINT, SCALE = range(10, 18)
+MULTIPLY, ADD, SUBTRACT, TRACE, GET, DIFFERENCE, HERMITIAN, WEIGHTS, INTERVAL = range(18, 27)
+# Function k at a size that is too large to be stored has the number MADE + k: its numbers are made from a seed.
+MADE = 64
+# How many numbers a slice of the list has at most, and a block.
+MOST_STORED = 1024
+MOST_IN_BLOCK = 512
+
+
+class Call(NamedTuple):
+    """A call by the function's number; `more` are the words after the tolerance's, `slices` are in the order in which the
+    program reads them (a block among them by its shape and the numbers that are stored), and `last` are the words after
+    them."""
+
+    function: int
+    points: int
+    orbitals: int
+    tolerance: float
+    slices: list = []
+    more: tuple = ()
+    last: tuple = ()
+
+
+def words(call):
+    """The call as it stands in the list."""
+    rows = [[call.function, call.points, call.orbitals, to_bits(call.tolerance), *call.more]]
+    for numbers in call.slices:
+        shape = []
+        if isinstance(numbers, Block):
+            *shape, numbers = numbers
+        assert len(numbers) <= MOST_STORED
+        rows.append([*shape, len(numbers), *map(to_bits, numbers)])
+    rows += [call.last] if call.last else []
+    return "".join(" ".join(format(word, "016x") for word in row) + "\n" for row in rows)
+
+
+# ---- Numbers, times and functions ----------------------------------------------
+
+
+def wide(rng):
+    return math.ldexp(rng.uniform(-1, 1), rng.randrange(-300, 300))
+
+
+def subnormal(rng):
+    return math.copysign(from_bits(rng.getrandbits(rng.randrange(1, 54))), rng.uniform(-1, 1))
+
+
+EDGES = [0.0, -0.0, SMALLEST, -SMALLEST, SMALLEST_NORMAL, 1.0, -1.0, 1e-160, -1e-160, 1e150, math.nextafter(1.0, 2.0), 1 / 3]
+
+KINDS = {
+    "plain": lambda rng: rng.uniform(-1, 1),
+    "whole": lambda rng: float(rng.randrange(-4, 5)),
+    "signs": lambda rng: rng.choice([0.0, -0.0, 0.0, -0.0, 1.0, -1.0]),
+    "zeros": lambda rng: rng.choice([0.0, -0.0]),
+    "wide": wide,
+    "subnormal": subnormal,
+    "edges": lambda rng: rng.choice(EDGES),
+}
+
+
+def some(kind, count, rng):
+    return [KINDS[kind](rng) for _ in range(count)]
+
+
+def held(count):
+    """What an output slice holds before: nothing of it may stay."""
+    return list(itertools.islice(itertools.cycle([7.5, -0.0, NAN, -1.25, INFINITY]), count))
+
+
+def other_length(slices, at, change):
+    """The slices, the one at `at` a number shorter or longer."""
+    changed = slices[at][:-1] if change < 0 else slices[at] + [NAN]
+    return [*slices[:at], changed, *slices[at + 1 :]]
+
+
+def quarters(points):
+    return [0.25 * index for index in range(points)]
+
+
+def uneven(points):
+    rng = random.Random(points)
+    return list(itertools.accumulate([rng.uniform(-3, 3)] + [rng.uniform(0.01, 2) for _ in range(points - 1)]))
+
+
+GRIDS = {
+    "count": lambda points: [float(index) for index in range(points)],
+    "quarters": quarters,
+    "uneven": uneven,
+    "below zero": lambda points: [-1000.0 + index / 3 for index in range(points)],
+    "across": lambda points: [-0.0 if index == 1 else index - 1.0 for index in range(points)],
+    # Half of the smallest number is 0.
+    "smallest steps": lambda points: [SMALLEST * index for index in range(points)],
+    "subnormal": lambda points: [SMALLEST * (3 * index * index - 7) for index in range(points)],
+    "next numbers": lambda points: [from_bits(to_bits(1.0) + index) for index in range(points)],
+    "long": lambda points: [LARGEST / points * (index - points / 2) for index in range(points)],
+}
+
+
+def with_entries(points, orbitals, entries, other=0.0):
+    """A function that has these complex numbers at (t, u, a, b), and elsewhere `other`."""
+    numbers = [other] * function_length(points, orbitals)
+    for at, (re, im) in entries.items():
+        begin = place(points, orbitals, *at)
+        numbers[begin : begin + 2] = [re, im]
+    return numbers
+
+
+def by_place(points, values):
+    """A function of one orbital: `values` has a real number, or a complex one, for a place (t, u)."""
+    pairs = {(t, u, 0, 0): value if isinstance(value, tuple) else (value, 0.0) for (t, u), value in values.items()}
+    return with_entries(points, 1, pairs)
+
+
+def beside(x):
+    return [math.nextafter(x, 0.0), x, math.nextafter(x, INFINITY)]
