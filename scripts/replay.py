@@ -1,4 +1,4 @@
-"""Writes the calls that the program replay runs (crates/replay/stdin), and says how many each function has and by which
+"""Writes the calls that the program replay runs (crates/replay/stdin), and tells how many each function has and by which
 numbers they are refused. replay_calls/ has the calls by theme.
 
 What the program is to print (crates/replay/stdout) is what the unchanged Rust answers; oracle/replay/run --write stores it.
@@ -15,71 +15,83 @@ ROOT = pathlib.Path(__file__).resolve().parent.parent
 FOLDER = ROOT / "crates" / "replay"
 sys.path.insert(0, str(ROOT / "reference"))
 
-from replay_calls import convolutions, observables, products, reports, solves
-from replay_calls.answers import LEFT_OUT, line
-from replay_calls.calls import MADE, NAMES, words
+from replay_calls import blocks, convolutions, grids, limits, made, norms, observables, products, reports, solves
+from replay_calls.answers import LEFT_OUT, line, refusal
+from replay_calls.calls import MADE, NAMES, QUESTIONS, words
 
-THEMES = [convolutions, solves, observables, reports, products]
+THEMES = [convolutions, solves, observables, reports, products, norms, blocks, grids, limits, made]
 
 
 def calls_of(theme):
     return [call for make in theme.CASES for call in make()]
 
 
-def refusal(answer):
-    """The number of a line's refusal, or None; the report's decision may be one after the residuals."""
-    parts = answer.split()
-    if "refused" in parts:
-        return int(parts[parts.index("refused") + 1])
-    return 14 if "not-real" in parts else None
+# ---- Counts --------------------------------------------------------------------
 
 
-def print_counts(themes, calls, answers):
-    """The calls by theme, and by function how many are refused by which number."""
-    for theme, made in themes.items():
-        print(f"{theme:13} {len(made):5} calls")
+def counts_of(calls, lines):
+    """By function, how many calls are refused by which number; None counts those that are not refused."""
     counts = collections.defaultdict(collections.Counter)
-    for call, answer in zip(calls, answers):
-        counts[call.function][refusal(answer)] += 1
-    for function, count in sorted(counts.items()):
-        name = NAMES[function % MADE] + (", made" if function >= MADE else "")
+    for call, text in zip(calls, lines):
+        counts[call.function][refusal(text)] += 1
+    return dict(sorted(counts.items()))
+
+
+def table_of(themes, counts):
+    """Two tables: calls by theme, and by function."""
+    rows = ["| theme | calls |", "|---|---|"]
+    rows += [f"| `{theme}` | {len(calls):,} |" for theme, calls in themes.items()]
+    rows += ["", "| function | | calls | not refused | refused, how many by which number |", "|---|---|---|---|---|"]
+    for function, count in counts.items():
         refused = ", ".join(f"{count[number]} by {number}" for number in sorted(set(count) - {None}))
-        print(f"{function:3} {name:35} {sum(count.values()):5} calls{', refused ' if refused else ''}{refused}")
-    print(f"{len(calls)} calls")
+        name = f"`{NAMES[function % MADE]}`" + (", made" if function >= MADE else "")
+        rows.append(f"| {function} | {name} | {sum(count.values())} | {count[None]} | {refused} |")
+    return "\n".join(rows) + "\n"
 
 
-def differences(answers, stored):
-    """The indices of lines that are not what is stored, and how many lines are compared."""
-    asked = [index for index, answer in enumerate(answers) if not answer.endswith(f" {LEFT_OUT}")]
-    return [index for index in asked if stored[index] != answers[index]], len(asked)
+def uncovered(counts):
+    """Questions that no call of a function answers by no, and numbers that none of its questions has."""
+    for function, questions in QUESTIONS.items():
+        for number in sorted((set(counts[function]) - {None}) ^ set(questions)):
+            yield f"{NAMES[function]}: {counts[function][number]} calls refused by {number}"
 
 
-def check(text, answers):
-    """What is stored for the calls; ends the program if the list is another one, and tells each line that differs."""
+# ---- What is stored ------------------------------------------------------------
+
+
+def check(text, lines, themes, calls):
+    """Compares what is stored, and tells what differs; whether all of it agrees."""
     if (FOLDER / "stdin").read_text() != text:
         sys.exit("crates/replay/stdin is not the list that this program makes")
     stored = (FOLDER / "stdout").read_text().splitlines()
-    if len(stored) != len(answers):
-        sys.exit(f"crates/replay/stdout has {len(stored)} lines, for {len(answers)} calls")
-    differ, asked = differences(answers, stored)
+    if len(stored) != len(lines):
+        sys.exit(f"crates/replay/stdout has {len(stored)} lines, for {len(lines)} calls")
+    asked = [index for index, worked_out in enumerate(lines) if not worked_out.endswith(f" {LEFT_OUT}")]
+    differ = [index for index in asked if stored[index] != lines[index]]
     for index in differ:
-        print(f"differs: {stored[index][:200]}\n   here: {answers[index][:200]}")
-    print(f"{asked - len(differ)} lines agree, {len(differ)} differ, {len(answers) - asked} are not worked out here")
-    return stored, bool(differ)
+        print(f"stored {stored[index][:200]}\nhere   {lines[index][:200]}")
+    print(f"{len(asked) - len(differ)} lines agree, {len(differ)} differ, {len(lines) - len(asked)} are not worked out here")
+    told = table_of(themes, counts_of(calls, stored)) in (FOLDER / "CALLS.md").read_text()
+    if not told:
+        print("crates/replay/CALLS.md has other counts")
+    return not differ and told
 
 
 def main():
     themes = {theme.__name__.split(".")[-1]: calls_of(theme) for theme in THEMES}
-    calls = [call for made in themes.values() for call in made]
+    calls = [call for made_here in themes.values() for call in made_here]
     text = "".join(map(words, calls))
-    answers = [line(index, call) for index, call in enumerate(calls)]
+    lines = [line(index, call) for index, call in enumerate(calls)]
+    counts = counts_of(calls, lines)
+    missing = list(uncovered(counts))
+    if missing:
+        sys.exit("\n".join(missing))
     if sys.argv[1:] == ["--check"]:
-        stored, failed = check(text, answers)
-        print_counts(themes, calls, stored)
-        sys.exit(failed)
+        sys.exit(not check(text, lines, themes, calls))
     FOLDER.mkdir(exist_ok=True)
     (FOLDER / "stdin").write_text(text)
-    print_counts(themes, calls, answers)
+    print(table_of(themes, counts))
+    print(f"{len(calls)} calls, {len(text)} bytes")
 
 
 if __name__ == "__main__":

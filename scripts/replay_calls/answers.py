@@ -243,6 +243,17 @@ def of_made(call):
     return [answer(outcome.answer), *map(digest, outcome.lent.values())]
 
 
+# ---- Lines ---------------------------------------------------------------------
+
+
 def line(index, call):
     answers = ANSWER[call.function] if call.function < MADE else of_made
     return " ".join([str(index), *answers(call)])
+
+
+def refusal(line):
+    """The number by which a line refuses, or None; the report's decision may refuse after the residuals."""
+    parts = line.split()
+    if "refused" in parts:
+        return int(parts[parts.index("refused") + 1])
+    return 14 if "not-real" in parts else None

@@ -30,6 +30,18 @@ NAMES = [
 FULL, CAUSAL, SUPPORT, DYSON, DYSON_DEFAULT, RUN, DENSITY, NUMBER, EXPECTATION, FLOW = range(10)
 REPORT, CONSISTENT, LANGRETH, NORM, FROM_NUMBERS, IDENTITY, ADJOINT, SCALE = range(10, 18)
 MULTIPLY, ADD, SUBTRACT, TRACE, GET, DIFFERENCE, HERMITIAN, WEIGHTS, INTERVAL = range(18, 27)
+# The questions of each function by their numbers, in their order; those of a report are followed by that of its decision.
+OF_FUNCTIONS = (1, 2, 3, 4, 5, 6, 7)
+OF_PAIRS = (1, 2, 3, 7)
+QUESTIONS = {
+    FULL: (*OF_FUNCTIONS, 10), CAUSAL: (*OF_FUNCTIONS, 10), SUPPORT: (1, 2, 3, 7, 8, 9), DYSON: (*OF_FUNCTIONS, 8, 9, 10),
+    DYSON_DEFAULT: (*OF_FUNCTIONS, 9, 10), RUN: (*OF_FUNCTIONS, 8, 9, 10), DENSITY: (1, 2, 3, 7, 11),
+    NUMBER: (1, 2, 3, 7, 11, 8, 14), EXPECTATION: (1, 2, 3, 7, 11, 10, 8, 14), FLOW: (1, 2, 3, 7, 13, 12, 11),
+    REPORT: (1, 2, 3, 7, 10, 8), CONSISTENT: (8,), LANGRETH: (*OF_FUNCTIONS, 10), NORM: (), FROM_NUMBERS: (1, 2, 3, 7),
+    IDENTITY: (1, 2), ADJOINT: (1, 2, 7), SCALE: (1, 2, 7, 10), MULTIPLY: (*OF_PAIRS, 10), ADD: (*OF_PAIRS, 10),
+    SUBTRACT: (*OF_PAIRS, 10), TRACE: (1, 2, 3, 7), GET: (1, 2, 7, 12), DIFFERENCE: OF_PAIRS, HERMITIAN: (1, 2, 7, 8),
+    WEIGHTS: (1, 2, 3, 4, 5, 6), INTERVAL: (1, 2, 3, 4, 5, 6, 11),
+}
 # Function k at a size that is too large to be stored has the number MADE + k: its numbers are made from a seed.
 MADE = 64
 # How many numbers a slice of the list has at most, and a block.
