@@ -46,15 +46,25 @@ pub fn next() -> Word {
     Word::Of(value(&bytes))
 }
 
+// The next word as a whole number, and 0 where none is left.
+pub fn whole() -> usize {
+    let Word::Of(n) = next() else {
+        return 0;
+    };
+    n as usize
+}
+
+// The number that has the next word's bits.
+pub fn number() -> f64 {
+    from_bits(whole() as u64)
+}
+
 // Reads a slice, its length and then the bits of its numbers, and answers the length, or 0 where the input ends or the slice is too
 // long.
 pub fn slice(numbers: &mut [f64]) -> usize
     ensures { λ r. ⌜ r ≤ length (now (numbers .entry)) ⌝ }
 {
-    let Word::Of(word) = next() else {
-        return 0;
-    };
-    let count = word as usize;
+    let count = whole();
     if count > numbers.len() {
         return 0;
     }

@@ -7,26 +7,23 @@ use Rattle.show.proofs.words.slice.Statement.{statement}
 use Rattle.show.proofs.words.slice.Tie as tie
 
 abbrev Inv : tie.InvT-loop
-Inv numbers₀ word count i₀ numbers i = (i ≤ count) × (length numbers ≡ length numbers₀)
+Inv numbers₀ count i₀ numbers i = (i ≤ count) × (length numbers ≡ length numbers₀)
 
 abbrev μ : tie.MeasureT-loop
-μ numbers₀ word count i₀ numbers i = count - i
+μ numbers₀ count i₀ numbers i = count - i
 
 pub slice-spec : {M : Type 1} → statement M
 slice-spec =
     tie.close
     (tie.spec Inv μ
-    (λ c κs. search needs)  -- next-requires
-    (λ c. search needs)  -- enum-known-word
-    (λ c. search needs)  -- enum-told
+    (λ c κs. search needs)  -- whole-requires
     (λ c. search needs)  -- returns
-    (λ c. search needs)  -- returns-2
     (λ c. search needs)  -- loop-holds
-    (λ c κs. search needs)  -- next-requires-2
+    (λ c κs. search needs)  -- next-requires
     (λ c. search needs)  -- enum-known-bits
-    (λ c. search needs)  -- enum-told-2
+    (λ c. search needs)  -- enum-told
     (λ c. search needs)  -- same-length
-    (λ c. search needs)  -- returns-3
+    (λ c. search needs)  -- returns-2
     (λ c κs. search needs)  -- from-bits-requires
     (λ c. search needs)  -- mul-numbers
     (λ c. search needs)  -- slice-write-numbers
@@ -34,4 +31,4 @@ slice-spec =
     (λ c. search needs)  -- loop-less
     (λ c. search needs)  -- loop-again
     (λ c. search needs)  -- same-length-2
-    (λ c. search needs))  -- returns-4
+    (λ c. search needs))  -- returns-3
