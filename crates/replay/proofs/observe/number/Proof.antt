@@ -1,0 +1,19 @@
+-- `replay::observe::number` is safe and ends: the slice has at most the array's length. Assumes nothing.
+use mathlib.Core.Path.{sym}
+use lib.Seq.{length-take-le}
+use borrow.Author.Needs.{needs}
+use Rattle.replay.proofs.observe.number.Statement.{statement}
+use Rattle.replay.proofs.observe.number.Tie as tie
+
+pub number-spec : {M : Type 1} → statement M
+number-spec =
+    tie.close
+    (tie.spec
+    (λ c κs. search needs)  -- whole-requires
+    (λ c. search needs)  -- slice-aggregate-slice
+    (λ c κs. search needs)  -- slice-requires
+    (λ c. search needs)  -- array-share-prefix-lesser
+    (λ c. sym (length-take-le _ _ (search needs)))  -- slice-aggregate-particle-number
+    (λ c κs. search needs)  -- particle-number-requires
+    (λ c κs. search needs)  -- observed-requires
+    (λ c. search needs))  -- returns
