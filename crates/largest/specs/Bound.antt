@@ -48,7 +48,10 @@ same-order a b c d l e g = go (decLe a b) (decLe b a)
 by-remainder : (x p : ℕ) → 0 < p → compare (4 * (x * x)) (((2 * (x / p) + 1) * p) ^ 2) ≡ compare (x % p * 2) p
 by-remainder x p P =
     ap₂ compare (sym (square-double x)) (square-power middle)
-    ∙ sym (same-order (x % p * 2) p ((2 * x) * (2 * x)) (middle * middle) (λ h. square-lt (2 * x) middle (omega (arith, parts))) (λ h. ap (λ (y : ℕ). y * y) (let e : 2 * x ≡ middle = omega (arith, parts) in e)) (λ h. square-lt middle (2 * x) (omega (arith, parts))))
+    ∙ sym (same-order (x % p * 2) p ((2 * x) * (2 * x)) (middle * middle)
+    (λ h. square-lt (2 * x) middle (omega (arith, parts)))
+    (λ h. ap (λ (y : ℕ). y * y) (let e : 2 * x ≡ middle = omega (arith, parts) in e))
+    (λ h. square-lt middle (2 * x) (omega (arith, parts))))
   where
     middle : ℕ
     middle = (2 * (x / p) + 1) * p

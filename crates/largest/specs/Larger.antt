@@ -14,7 +14,7 @@ use Rattle.complex.specs.Arithmetic.{larger, plusZero}
 use Rattle.complex.specs.Sum.{largestFrom, largestIn}
 use Rattle.largest.specs.Order.{never-both-below, between, below-nan}
 
--- ---- of two, by the tests
+-- ---- of two
 
 nan-first : (y : Float) → larger nan y ≡ y
 unfolding larger ne
@@ -32,7 +32,7 @@ first x y n h = by-test x y n ∙ ap (λ (b : Bool). cond b y x) h
 
 -- ---- of three
 
--- x below y and y below z, and not
+-- where both steps go up the whole does, and where neither does it does not
 below-both : (x y z : Float) → ne x x ≡ false → lt x y ≡ true → lt y z ≡ true → lt x z ≡ true
 below-both x y z n a b = ⊎-elim (λ (h : lt y x ≡ true). absurd (never-both-below x y a h)) (λ (h : lt x z ≡ true). h) (between y x z n b)
 
@@ -101,7 +101,17 @@ raised m x h = grouped m x plusZero ∙ go (ne x x) refl (lt x plusZero) refl (l
     go false a true b false c = rw (second x plusZero a b, h, first m x (number m h) c)
     go false a false b r c = rw (first x plusZero a b)
 
--- ---- a maximum that goes on from m
+pub raised-from : (m : Float) (n : ℕ) (f : ℕ → Float) → FromZero m → FromZero (largestFrom m n f)
+unfolding largestFrom fold
+raised-from m zero f h = h
+raised-from m (suc n) f h = raised (largestFrom m n f) (f n) (raised-from m n f h)
+
+pub raised-in : (rows columns : ℕ) (f : ℕ → ℕ → Float) → FromZero (largestIn rows columns f)
+unfolding largestIn fold
+raised-in zero columns f = zero-itself
+raised-in (suc rows) columns f = raised-from (largestIn rows columns f) columns (f rows) (raised-in rows columns f)
+
+-- ---- a maximum that goes on from m is the larger of m and that from +0
 
 module _ (m : Float) where
   from-larger : (s : Float) (n : ℕ) (f : ℕ → Float) → largestFrom (larger m s) n f ≡ larger m (largestFrom s n f)

@@ -1,4 +1,5 @@
--- The order of binary64 values, for all of them: what is below what, beside which number, and never both ways. Assumes nothing.
+-- The order of all binary64 values: none is both below another and at least it, and where one is below another any number is above the
+-- first or below the second. Assumes nothing.
 use mathlib.Core.Path.{_≡_, refl, sym, ap, _∙_, subst}
 use mathlib.Core.Logic.{_⊎_, inl, inr, ⊎-elim, ⊎-map}
 use mathlib.Core.Bool.{Bool, true, false, _||_}
@@ -56,7 +57,7 @@ never-both-below x y h k = never-both x y h (first (lt y x) (eq y x) k)
 
 -- ---- below one of two
 
--- x/p below z/r: any y/q is above the one or below the other
+-- of fractions: where x/p is below z/r, y/q is above x/p or below z/r
 module _ (x p y q z r : ℕ) (P : 0 < p) (Q : 0 < q) (R : 0 < r) where
   fractions : x * r < z * p → (x * q < y * p) ⊎ (y * r < z * q)
   fractions h = go (decLe (y * p) (x * q)) (decLe (z * q) (y * r))
@@ -102,7 +103,7 @@ infinity-below nan h = never h
 infinity-below (inf s) h = never h
 infinity-below (fin s m e) h = never h
 
--- of a value below another: any number is above the one or below the other
+-- where x is below z, any number y is above x or below z
 pub between : (x y z : Float) → ne y y ≡ false → lt x z ≡ true → (lt x y ≡ true) ⊎ (lt y z ≡ true)
 unfolding lt ne
 between nan y z n h = never h

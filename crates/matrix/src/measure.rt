@@ -9,7 +9,7 @@ use crate::fill::entry;
 use complex::Complex;
 use complex::abs;
 use complex::max;
-use norm::norm;
+use largest::larger_norm;
 
 // The sum of the diagonal.
 pub(crate) fn diagonal(a: &[f64], size: usize) -> Complex
@@ -34,7 +34,7 @@ pub(crate) fn largest_difference(a: &[f64], b: &[f64], rows: usize, columns: usi
         let i = p / columns;
         let j = p % columns;
         let z = entry(a, columns, i, j).minus(entry(b, columns, i, j));
-        largest = max(largest, norm(z.re, z.im));
+        largest = larger_norm(largest, z.re, z.im);
     }
     largest
 }

@@ -16,11 +16,16 @@ module _ (m : Float) (f : ℕ → Float) where
   unfolding largestFrom
   largest-more k b h a = a ∙ ap₂ larger b h ∙ sym (fold-more k (λ i l. larger l (f i)) m)
 
+-- from any start, and from +0
 module _ (columns : ℕ) (f : ℕ → ℕ → Float) where
+  pub onward-more : (m : Float) (k : ℕ) {before after : Float} → before ≡ fold k (λ a l. largestFrom l columns (f a)) m → after ≡ largestFrom before columns (f k)
+      → after ≡ fold (k + 1) (λ a l. largestFrom l columns (f a)) m
+  onward-more m k b a = a ∙ ap (λ (l : Float). largestFrom l columns (f k)) b ∙ sym (fold-more k (λ i l. largestFrom l columns (f i)) m)
+
   pub rows-none : plusZero ≡ largestIn 0 columns f
   unfolding largestIn fold
   rows-none = refl
 
   pub rows-more : (k : ℕ) {before after : Float} → before ≡ largestIn k columns f → after ≡ largestFrom before columns (f k) → after ≡ largestIn (k + 1) columns f
   unfolding largestIn
-  rows-more k b a = a ∙ ap (λ (l : Float). largestFrom l columns (f k)) b ∙ sym (fold-more k (λ i l. largestFrom l columns (f i)) plusZero)
+  rows-more k b a = onward-more plusZero k b a

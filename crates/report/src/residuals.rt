@@ -1,7 +1,9 @@
 // The residuals of the report: for each identity the largest norm of what it leaves, over the places that it speaks of.
 ghost use mathlib.Core.Path.{_≡_};
 ghost use Prim.Native.Nat.{_<_};
+ghost use Rattle.complex.specs.Arithmetic.{larger};
 ghost use Rattle.complex.specs.Sum.{largestFrom};
+ghost use Rattle.largest.specs.Larger.{FromZero};
 ghost use Rattle.matrix.specs.Operations.{largestNorm, cnorm};
 ghost use Rattle.report.specs.Identities.{deviationOf, residualAt, residualOf, reportOf};
 ghost use Rattle.report.specs.Lent.{Lent};
@@ -9,8 +11,7 @@ use crate::ConsistencyReport;
 use crate::identities::Identity;
 use crate::identities::counts;
 use crate::identities::deviation;
-use complex::max;
-use norm::norm;
+use largest::larger_norm;
 
 // The largest of `largest` and the norms in row a of what is left at (t, u).
 fn row_norm(
@@ -45,12 +46,12 @@ fn row_norm(
             a,
             b,
         );
-        most = max(most, norm(z.re, z.im));
+        most = larger_norm(most, z.re, z.im);
     }
     most
 }
 
-// The largest norm of what is left at (t, u).
+// The largest of `largest` and the norms of what is left at (t, u).
 fn block_norm(
     identity: Identity,
     retarded: &[f64],
@@ -61,14 +62,15 @@ fn block_norm(
     orbitals: usize,
     t: usize,
     u: usize,
+    largest: f64,
 ) -> f64
-    requires { ⌜ (t < points) × (u < points) ⌝ }
+    requires { ⌜ (t < points) × (u < points) × FromZero largest ⌝ }
     requires { ⌜ Lent points orbitals (now retarded) (now advanced) (now lesser) (now greater) ⌝ }
-    ensures { λ r. ⌜ r ≡ largestNorm orbitals orbitals (deviationOf points orbitals (now (retarded .entry)) (now (advanced .entry)) (now (lesser .entry)) (now (greater .entry)) identity t u) ⌝ }
+    ensures { λ r. ⌜ r ≡ larger largest (largestNorm orbitals orbitals (deviationOf points orbitals (now (retarded .entry)) (now (advanced .entry)) (now (lesser .entry)) (now (greater .entry)) identity t u)) ⌝ }
 {
-    let mut largest = 0.0;
+    let mut most = largest;
     for a in 0..orbitals {
-        largest = row_norm(
+        most = row_norm(
             identity,
             retarded,
             advanced,
@@ -79,13 +81,13 @@ fn block_norm(
             t,
             u,
             a,
-            largest,
+            most,
         );
     }
-    largest
+    most
 }
 
-// The same where the place counts, and +0 elsewhere.
+// The same where the place counts, and `largest` elsewhere.
 fn place_norm(
     identity: Identity,
     retarded: &[f64],
@@ -96,10 +98,11 @@ fn place_norm(
     orbitals: usize,
     t: usize,
     u: usize,
+    largest: f64,
 ) -> f64
-    requires { ⌜ (t < points) × (u < points) ⌝ }
+    requires { ⌜ (t < points) × (u < points) × FromZero largest ⌝ }
     requires { ⌜ Lent points orbitals (now retarded) (now advanced) (now lesser) (now greater) ⌝ }
-    ensures { λ r. ⌜ r ≡ residualAt points orbitals (now (retarded .entry)) (now (advanced .entry)) (now (lesser .entry)) (now (greater .entry)) identity t u ⌝ }
+    ensures { λ r. ⌜ r ≡ larger largest (residualAt points orbitals (now (retarded .entry)) (now (advanced .entry)) (now (lesser .entry)) (now (greater .entry)) identity t u) ⌝ }
 {
     if counts(identity, t, u) {
         return block_norm(
@@ -112,9 +115,10 @@ fn place_norm(
             orbitals,
             t,
             u,
+            largest,
         );
     }
-    0.0
+    largest
 }
 
 // The largest of `largest` and what the places (t, u) of one t have.
@@ -129,13 +133,13 @@ fn time_norm(
     t: usize,
     largest: f64,
 ) -> f64
-    requires { ⌜ t < points ⌝ }
+    requires { ⌜ (t < points) × FromZero largest ⌝ }
     requires { ⌜ Lent points orbitals (now retarded) (now advanced) (now lesser) (now greater) ⌝ }
     ensures { λ r. ⌜ r ≡ largestFrom largest points (residualAt points orbitals (now (retarded .entry)) (now (advanced .entry)) (now (lesser .entry)) (now (greater .entry)) identity t) ⌝ }
 {
     let mut most = largest;
     for u in 0..points {
-        let here = place_norm(
+        most = place_norm(
             identity,
             retarded,
             advanced,
@@ -145,8 +149,8 @@ fn time_norm(
             orbitals,
             t,
             u,
+            most,
         );
-        most = max(most, here);
     }
     most
 }

@@ -2,6 +2,8 @@
 ghost use mathlib.Core.Path.{_≡_};
 ghost use Prim.Native.Nat.{_<_, _≤_};
 ghost use lib.ListN.{length};
+ghost use Rattle.complex.specs.Arithmetic.{larger};
+ghost use Rattle.largest.specs.Larger.{FromZero};
 ghost use Rattle.matrix.specs.Operations.{largestNorm};
 ghost use Rattle.two_time.specs.Layout.{readAs, lengthOf};
 ghost use Rattle.two_time.specs.Support.{scaleOf, retarded, retardedPlace};
@@ -11,23 +13,24 @@ use crate::layout::entry;
 use crate::lines::has_length;
 use crate::lines::sizes;
 use complex::max;
-use norm::norm;
+use largest::larger_norm;
 use refusal::Verdict;
 use refusal::lines::retarded_at;
 
-// The largest norm of an entry of block (t, u).
-fn largest_norm(xs: &[f64], stride: usize, orbitals: usize, t: usize, u: usize) -> f64
+// The largest of `largest` and the norms of the entries of block (t, u): a block that does not raise it costs no norm.
+fn largest_norm(xs: &[f64], stride: usize, orbitals: usize, t: usize, u: usize, largest: f64) -> f64
     requires { ⌜ (t < stride) × (u < stride) × (stride ≤ 256) × (orbitals ≤ 16) ⌝ }
     requires { ⌜ lengthOf stride orbitals ≤ length (now xs) ⌝ }
-    ensures { λ r. ⌜ r ≡ largestNorm orbitals orbitals (readAs stride orbitals (now (xs .entry)) t u) ⌝ }
+    requires { ⌜ FromZero largest ⌝ }
+    ensures { λ r. ⌜ r ≡ larger largest (largestNorm orbitals orbitals (readAs stride orbitals (now (xs .entry)) t u)) ⌝ }
 {
-    let mut largest = 0.0;
+    let mut most = largest;
     let count = orbitals * orbitals;
     for m in 0..count {
         let z = entry(xs, stride, orbitals, t, u, m / orbitals, m % orbitals);
-        largest = max(largest, norm(z.re, z.im));
+        most = larger_norm(most, z.re, z.im);
     }
-    largest
+    most
 }
 
 // The largest norm of all entries, at least 2^-1022.
@@ -39,10 +42,7 @@ fn scale_of(xs: &[f64], points: usize, orbitals: usize) -> f64
     let mut largest = 0.0;
     let count = points * points;
     for p in 0..count {
-        largest = max(
-            largest,
-            largest_norm(xs, points, orbitals, p / points, p % points),
-        );
+        largest = largest_norm(xs, points, orbitals, p / points, p % points, largest);
     }
     max(largest, f64::from_bits(0x0010_0000_0000_0000))
 }
@@ -104,7 +104,7 @@ fn row_within(
     ensures { λ r. ⌜ r ≡ askAll points (retardedPlace points orbitals operand tolerance (readAs points orbitals (now (xs .entry))) t) ⌝ }
 {
     for u in t + 1..points {
-        let residual = largest_norm(xs, points, orbitals, t, u) / scale;
+        let residual = largest_norm(xs, points, orbitals, t, u, 0.0) / scale;
         let place = retarded_at(operand, t, u, tolerance, residual);
         let Verdict::Pass = place else {
             return place;

@@ -1,21 +1,17 @@
 -- `matrix::measure::largest_difference` meets its contract: after p turns the first p entries, by rows, are seen. Assumes nothing.
-use mathlib.Core.Path.{_≡_, refl, sym, ap, _∙_}
-use mathlib.Core.Bool.{Bool, true, false, not, _&&_, _||_}
+use mathlib.Core.Path.{_≡_, sym}
 use mathlib.Core.List.{List}
-use Prim.Native.Nat.{ℕ, _+_, _-_, _*_, _/_, _%_, _≤_, _<_}
+use Prim.Native.Nat.{ℕ, _-_, _*_, _/_, _%_, _≤_, _<_}
 use native.Mathlib.Nat.{le-antisymm}
 use native.Mathlib.Omega.{arith}
-use lib.Dec.{ltb}
 use lib.Ieee.{Float}
 use borrow.Author.Needs.{needs}
-use Rattle.lists.specs.Indexed.{fold, allBelow}
+use Rattle.lists.specs.Indexed.{fold}
 use Rattle.lists.specs.Turns.{fold-more, fold-none}
-use Rattle.complex.specs.Arithmetic.{plusZero, larger, csub, conj}
-use Rattle.complex.specs.Sum.{largestIn}
+use Rattle.complex.specs.Arithmetic.{plusZero, larger}
 use Rattle.complex.specs.Agreement.{largest-flat}
-use Rattle.norm.specs.Norm.{norm}
 use Rattle.matrix.specs.Block.{entriesIn}
-use Rattle.matrix.specs.Operations.{cnorm, subtracted, largestNorm, partSize, partAbove, hermitianWithin}
+use Rattle.matrix.specs.Operations.{cnorm, subtracted, largestNorm}
 use Rattle.matrix.proofs.Places.{entries-most, row-below, column-below}
 use Rattle.matrix.proofs.measure.largest_difference.Statement.{statement}
 use Rattle.matrix.proofs.measure.largest_difference.Tie as tie
@@ -53,9 +49,8 @@ largest-difference-spec =
     (λ c κs. (below c .0, below c .1, search needs, search needs))  -- entry-requires
     (λ c κs. (below (c .before) .0, below (c .before) .1, search needs, search needs))  -- entry-requires-2
     (λ c κs. search needs)  -- minus-requires
-    (λ c κs. search needs)  -- norm-requires
-    (λ c κs. search needs)  -- max-requires
-    (λ c. omega (arith, few (c .before .before .before .before .before .before)))  -- add-p
+    (λ c κs. search needs)  -- larger-norm-requires
+    (λ c. omega (arith, few (c .before .before .before .before .before)))  -- add-p
     (λ c. search needs)  -- loop-less
     (λ c. (omega arith, rw fold-more (cc)))  -- loop-again
     (λ c. cc (le-antisymm (c .before .loop .inv .0) (c .loop-test .left), largest-flat (c .before .before .before .before .args .rows) (c .before .before .before .before .args .columns) (seen (c .before .before .before .before .args .a .now) (c .before .before .before .before .args .b .now) (c .before .before .before .before .args .columns)))))  -- returns

@@ -13,4 +13,4 @@ place-norm-spec =
     (λ c κs. search needs)  -- counts-requires
     (λ c κs. search needs)  -- block-norm-requires
     (λ c. rw (sym (c .before .before .counts .ensures) ∙ c .before .if1 .taken) (c .block-norm .ensures))  -- returns
-    (λ c. rw (sym (c .before .counts .ensures) ∙ c .if1 .left)))  -- returns-2
+    (λ c. rw (sym (c .before .counts .ensures) ∙ c .if1 .left) (sym (c .before .before .before .before .before .before .pre .0 .2))))  -- returns-2

@@ -1,10 +1,11 @@
 -- `report::residuals::residual` meets its contract: after t turns the places of the first t times are seen. Assumes nothing.
-use mathlib.Core.Path.{_≡_}
+use mathlib.Core.Path.{_≡_, sym, subst}
 use Prim.Native.Nat.{_-_, _≤_}
 use native.Mathlib.Nat.{le-antisymm}
 use native.Mathlib.Omega.{arith}
 use borrow.Author.Needs.{needs}
 use Rattle.complex.specs.Sum.{largestIn}
+use Rattle.largest.specs.Larger.{FromZero, raised-in}
 use Rattle.report.specs.Identities.{residualAt, residualOf}
 use Rattle.report.specs.Largest.{rows-none, rows-more}
 use Rattle.report.proofs.residuals.residual.Statement.{statement}
@@ -25,7 +26,7 @@ residual-spec =
     Inv-loop
     μ-loop
     (λ c. (omega arith, rows-none _ _))  -- loop-holds
-    (λ c κs. search needs)  -- time-norm-requires
+    (λ c κs. ((c .loop-test .taken, subst FromZero (sym (c .before .loop .inv .1)) (raised-in _ _ _)), search needs))  -- time-norm-requires
     (λ c. search needs)  -- add-t
     (λ c. search needs)  -- loop-less
     (λ c. (omega arith, rows-more _ _ _ (c .before .before .loop .inv .1) (c .time-norm .ensures)))  -- loop-again

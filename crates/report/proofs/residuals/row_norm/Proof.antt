@@ -1,5 +1,5 @@
 -- `report::residuals::row_norm` meets its contract: after b turns the first b entries of the row are seen. Assumes nothing.
-use mathlib.Core.Path.{_≡_, ap, _∙_}
+use mathlib.Core.Path.{_≡_, ap}
 use Prim.Native.Nat.{_-_, _≤_}
 use native.Mathlib.Nat.{le-antisymm}
 use native.Mathlib.Omega.{arith}
@@ -31,9 +31,8 @@ row-norm-spec =
     μ-loop
     (λ c. (omega arith, largest-none _ _))  -- loop-holds
     deviation-requires
-    (λ c κs. search needs)  -- norm-requires
-    (λ c κs. search needs)  -- max-requires
+    (λ c κs. search needs)  -- larger-norm-requires
     (λ c. search needs)  -- add-b
     (λ c. search needs)  -- loop-less
-    (λ c. (omega arith, largest-more _ _ _ (c .before .before .before .before .loop .inv .1) (c .before .norm .ensures ∙ ap cnorm (c .before .before .deviation .ensures)) (c .max .ensures)))  -- loop-again
+    (λ c. (omega arith, largest-more _ _ _ (c .before .before .before .loop .inv .1) (ap cnorm (c .before .deviation .ensures)) (c .larger-norm .ensures)))  -- loop-again
     (λ c. cc (le-antisymm (c .before .loop .inv .0) (c .loop-test .left))))  -- returns

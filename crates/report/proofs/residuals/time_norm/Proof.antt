@@ -1,10 +1,11 @@
 -- `report::residuals::time_norm` meets its contract: after u turns the first u places are seen. Assumes nothing.
-use mathlib.Core.Path.{_≡_}
+use mathlib.Core.Path.{_≡_, refl, sym, subst}
 use Prim.Native.Nat.{_-_, _≤_}
 use native.Mathlib.Nat.{le-antisymm}
 use native.Mathlib.Omega.{arith}
 use borrow.Author.Needs.{needs}
 use Rattle.complex.specs.Sum.{largestFrom}
+use Rattle.largest.specs.Larger.{FromZero, raised-from}
 use Rattle.report.specs.Identities.{residualAt}
 use Rattle.report.specs.Largest.{largest-none, largest-more}
 use Rattle.report.proofs.residuals.time_norm.Statement.{statement}
@@ -17,6 +18,11 @@ Inv-loop identity retarded advanced lesser greater points orbitals t largest mos
 abbrev μ-loop : tie.MeasureT-loop
 μ-loop identity retarded advanced lesser greater points orbitals t largest most₀ u₀ most u = points - u
 
+place-norm-requires : tie.Need-place-norm-requires Inv-loop μ-loop
+place-norm-requires c κs =
+    let h = c .before .before .before .before .before .before .pre in
+    ((h .0 .0, c .loop-test .taken, subst FromZero (sym (c .before .loop .inv .1)) (raised-from _ _ _ (h .0 .1))), h .1)
+
 pub time-norm-spec : {M : Type 1} → statement M
 time-norm-spec =
     tie.close
@@ -24,9 +30,8 @@ time-norm-spec =
     Inv-loop
     μ-loop
     (λ c. (omega arith, largest-none _ _))  -- loop-holds
-    (λ c κs. search needs)  -- place-norm-requires
-    (λ c κs. search needs)  -- max-requires
+    place-norm-requires
     (λ c. search needs)  -- add-u
     (λ c. search needs)  -- loop-less
-    (λ c. (omega arith, largest-more _ _ _ (c .before .before .before .loop .inv .1) (c .before .place-norm .ensures) (c .max .ensures)))  -- loop-again
+    (λ c. (omega arith, largest-more _ _ _ (c .before .before .loop .inv .1) refl (c .place-norm .ensures)))  -- loop-again
     (λ c. cc (le-antisymm (c .before .loop .inv .0) (c .loop-test .left))))  -- returns

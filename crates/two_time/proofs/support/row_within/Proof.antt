@@ -7,6 +7,7 @@ use borrow.Author.Needs.{needs}
 use Rattle.refusal.specs.declared.Verdict.the-variants.{Pass}
 use Rattle.refusal.specs.Agreement.{all-asked}
 use Rattle.refusal.specs.Search.{first-refused}
+use Rattle.largest.specs.Larger.{zero-itself}
 use Rattle.two_time.specs.Layout.{readAs}
 use Rattle.two_time.specs.Support.{retardedPlace}
 use Rattle.two_time.specs.AskingSupport.{not-asked, place-asked}
@@ -33,7 +34,7 @@ row-within-spec =
     (tie.spec Inv-loop μ-loop
     (λ c. search needs)  -- add-u
     (λ c. (omega arith, omega arith, λ k l. not-asked _ _ _ _ _ _ k (omega arith)))  -- loop-holds
-    (λ c κs. search needs)  -- largest-norm-requires
+    (λ c κs. (search needs, (search needs, zero-itself)))  -- largest-norm-requires
     (λ c κs. search needs)  -- retarded-at-requires
     (λ c. search needs)  -- enum-told
     (λ c. search needs)  -- enum-told-2

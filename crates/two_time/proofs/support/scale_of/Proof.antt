@@ -1,5 +1,5 @@
 -- `two_time::support::scale_of` meets its contract: after p turns the first p blocks, by rows, are seen. Assumes nothing.
-use mathlib.Core.Path.{_≡_, sym, ap, ap₂, _∙_}
+use mathlib.Core.Path.{_≡_, refl, sym, ap, ap₂, _∙_, subst}
 use mathlib.Core.List.{List}
 use Prim.Native.Nat.{ℕ, _-_, _/_, _%_, _≤_}
 use native.Mathlib.Nat.{le-antisymm}
@@ -13,6 +13,7 @@ use Rattle.complex.specs.Arithmetic.{plusZero, larger}
 use Rattle.complex.specs.Sum.{largestIn}
 use Rattle.complex.specs.Agreement.{largest-flat}
 use Rattle.norm.specs.Sizes.{at-most-infinity}
+use Rattle.largest.specs.Larger.{FromZero, zero-itself, raised}
 use Rattle.matrix.specs.Operations.{largestNorm}
 use Rattle.two_time.specs.Layout.{readAs}
 use Rattle.two_time.specs.Support.{scaleOf}
@@ -27,7 +28,7 @@ seen xs points orbitals t u = largestNorm orbitals orbitals (readAs points orbit
 
 abbrev Inv-loop : tie.InvT-loop
 Inv-loop xs points orbitals largest₀ count p₀ largest p =
-    (p ≤ count) × (largest ≡ fold p (λ q l. larger l (seen xs points orbitals (q / points) (q % points))) plusZero)
+    (p ≤ count) × FromZero largest × (largest ≡ fold p (λ q l. larger l (seen xs points orbitals (q / points) (q % points))) plusZero)
 
 abbrev μ-loop : tie.MeasureT-loop
 μ-loop xs points orbitals largest₀ count p₀ largest p = count - p
@@ -40,7 +41,7 @@ sizes : (c : tie.After-shared-slice-known Inv-loop μ-loop) → let x = c .befor
 sizes c = let h = c .before .pre .0 in sized _ _ (h .1) (h .2)
 
 -- after the loop all blocks are seen
-all : (c : tie.After-max2 Inv-loop μ-loop) → let x = c .before .before .before .before .args in c .before .before .loop .largest ≡ largestIn (x .points) (x .points) (seen (x .xs .now) (x .points) (x .orbitals))
+all : (c : tie.After-max Inv-loop μ-loop) → let x = c .before .before .before .before .args in c .before .before .loop .largest ≡ largestIn (x .points) (x .points) (seen (x .xs .now) (x .points) (x .orbitals))
 all c =
     let x = c .before .before .before .before .args in
     cc (le-antisymm (c .before .before .loop .inv .0) (c .before .loop-test .left), largest-flat (x .points) (x .points) (seen (x .xs .now) (x .points) (x .orbitals)))
@@ -53,16 +54,15 @@ scale-of-spec =
     Inv-loop
     μ-loop
     (λ c. let s = sizes c in omega arith)  -- mul-count
-    (λ c. (omega arith, sym (fold-none _ plusZero)))  -- loop-holds
+    (λ c. (omega arith, zero-itself, sym (fold-none _ plusZero)))  -- loop-holds
     (λ c. flat c .some)  -- div-largest-norm
     (λ c. flat c .some)  -- rem-largest-norm
     (λ c κs.
     let h = c .before .before .before .pre in
-    ((flat c .row, flat c .column, h .0 .1, h .0 .2), h .1))  -- largest-norm-requires
-    (λ c κs. search needs)  -- max-requires
-    (λ c. let s = sizes (c .before .before .before .before) in omega arith)  -- add-p
+    ((flat c .row, flat c .column, h .0 .1, h .0 .2), (h .1, c .before .loop .inv .1)))  -- largest-norm-requires
+    (λ c. let s = sizes (c .before .before .before) in omega arith)  -- add-p
     (λ c. search needs)  -- loop-less
-    (λ c. (omega arith, rw fold-more (c .max .ensures ∙ ap₂ larger (c .before .before .before .loop .inv .1) (c .before .largest-norm .ensures))))  -- loop-again
+    (λ c. let i = c .before .before .loop .inv in (omega arith, subst FromZero (sym (c .largest-norm .ensures)) (raised _ _ (i .1)), rw fold-more (c .largest-norm .ensures ∙ ap₂ larger (i .2) refl)))  -- loop-again
     (λ c. at-most-infinity _ (lit≤ tt))  -- float-from-bits-max
-    (λ c κs. search needs)  -- max-requires-2
-    (λ c. c .max2 .ensures ∙ ap (λ (l : Float). larger l _) (all c)))  -- returns
+    (λ c κs. search needs)  -- max-requires
+    (λ c. c .max .ensures ∙ ap (λ (l : Float). larger l _) (all c)))  -- returns
