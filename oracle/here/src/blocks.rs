@@ -1,5 +1,5 @@
 //! The operations on blocks, and a chain of products, which `crates/matrix_export` exports.
-use crate::{answer, measured, Answer};
+use crate::{answer, decided, measured, Answer, NUMBER};
 
 /// 16 by 16 entries of two parts.
 const NUMBERS: usize = 512;
@@ -329,7 +329,7 @@ pub fn block_subtract(left: &Block, right: &Block) -> (Answer, Block) {
 
 /// The sum of the diagonal, by its real and its imaginary part.
 pub fn block_trace(x: &Block) -> Result<[f64; 2], Answer> {
-    measured([0.0; 2], |value, places, part| unsafe {
+    measured([NUMBER; 2], |value, places, part| unsafe {
         exported::block_trace(
             x.rows,
             x.columns,
@@ -346,7 +346,7 @@ pub fn block_trace(x: &Block) -> Result<[f64; 2], Answer> {
 
 /// An entry alike.
 pub fn block_get(x: &Block, row: usize, column: usize) -> Result<[f64; 2], Answer> {
-    measured([0.0; 2], |value, places, part| unsafe {
+    measured([NUMBER; 2], |value, places, part| unsafe {
         exported::block_get(
             x.rows,
             x.columns,
@@ -364,7 +364,7 @@ pub fn block_get(x: &Block, row: usize, column: usize) -> Result<[f64; 2], Answe
 }
 
 pub fn block_max_difference(left: &Block, right: &Block) -> Result<f64, Answer> {
-    let largest = measured([0.0; 1], |value, places, part| unsafe {
+    let largest = measured([NUMBER; 1], |value, places, part| unsafe {
         exported::block_max_difference(
             left.rows,
             left.columns,
@@ -384,7 +384,7 @@ pub fn block_max_difference(left: &Block, right: &Block) -> Result<f64, Answer> 
 }
 
 pub fn block_is_hermitian(x: &Block, tolerance: f64) -> Result<bool, Answer> {
-    let decided = measured([0u8; 1], |decided, places, part| unsafe {
+    decided(|decided, places, part| unsafe {
         exported::block_is_hermitian(
             x.rows,
             x.columns,
@@ -397,15 +397,14 @@ pub fn block_is_hermitian(x: &Block, tolerance: f64) -> Result<bool, Answer> {
             part.as_mut_ptr(),
             part.len(),
         )
-    });
-    decided.map(|decided| decided == [1])
+    })
 }
 
 #[cfg(test)]
 mod tests {
     use super::*;
 
-    const ACCEPTED: Answer = Answer { number: 0, operand: 0, first: 0, second: 0, part: 0.0 };
+    const ACCEPTED: Answer = Answer::ACCEPTED;
 
     fn refused(answer: Answer) -> (Answer, Block) {
         (answer, Block::of(0, 0, &[]))

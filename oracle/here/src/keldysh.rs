@@ -1,5 +1,5 @@
 //! The calls on all four components: retarded, advanced, lesser, greater, in this order.
-use crate::{answer, measured, Answer};
+use crate::{answer, decided, measured, Answer, NUMBER};
 
 mod exported {
     #[link(name = "solver_export", kind = "static")]
@@ -78,8 +78,20 @@ mod exported {
 
 /// The six residuals: retarded and advanced causality, advanced adjoint, lesser and greater anti-Hermiticity, spectral identity.
 pub fn consistency_report(components: [&[f64]; 4], points: usize, orbitals: usize) -> Result<[f64; 6], Answer> {
+    measured([NUMBER; 6], |residuals, places, part| consistency_report_told(components, points, orbitals, residuals, places, part))
+}
+
+/// The same with slices of any lengths for what is told.
+pub fn consistency_report_told(
+    components: [&[f64]; 4],
+    points: usize,
+    orbitals: usize,
+    residuals: &mut [f64],
+    places: &mut [usize],
+    part: &mut [f64],
+) -> u8 {
     let [retarded, advanced, lesser, greater] = components;
-    measured([0.0; 6], |residuals, places, part| unsafe {
+    unsafe {
         exported::consistency_report(
             retarded.as_ptr(),
             retarded.len(),
@@ -98,12 +110,17 @@ pub fn consistency_report(components: [&[f64]; 4], points: usize, orbitals: usiz
             part.as_mut_ptr(),
             part.len(),
         )
-    })
+    }
 }
 
 /// Whether six residuals, in the report's order, are at most the tolerance.
 pub fn is_consistent(residuals: [f64; 6], tolerance: f64) -> Result<bool, Answer> {
-    let decided = measured([0u8; 1], |decided, places, part| unsafe {
+    decided(|decided, places, part| is_consistent_told(residuals, tolerance, decided, places, part))
+}
+
+/// The same with slices of any lengths for what is told.
+pub fn is_consistent_told(residuals: [f64; 6], tolerance: f64, decided: &mut [u8], places: &mut [usize], part: &mut [f64]) -> u8 {
+    unsafe {
         exported::is_consistent(
             residuals[0],
             residuals[1],
@@ -119,8 +136,7 @@ pub fn is_consistent(residuals: [f64; 6], tolerance: f64) -> Result<bool, Answer
             part.as_mut_ptr(),
             part.len(),
         )
-    });
-    decided.map(|decided| decided == [1])
+    }
 }
 
 pub fn langreth_product(
@@ -175,7 +191,7 @@ mod tests {
     use super::{consistency_report, is_consistent, langreth_product};
     use crate::Answer;
 
-    const ACCEPTED: Answer = Answer { number: 0, operand: 0, first: 0, second: 0, part: 0.0 };
+    const ACCEPTED: Answer = Answer::ACCEPTED;
 
     #[test]
     fn report() {

@@ -6,9 +6,9 @@ mod observed;
 
 pub use blocks::{block_add, block_adjoint, block_from_numbers, block_get, block_identity, block_is_hermitian, block_max_difference};
 pub use blocks::{block_multiply, block_scale, block_subtract, block_trace, product_chain, Block};
-pub use keldysh::{consistency_report, is_consistent, langreth_product};
+pub use keldysh::{consistency_report, consistency_report_told, is_consistent, is_consistent_told, langreth_product};
 pub use norm::norm;
-pub use observed::{bond_flow_into, density_matrix, one_body_expectation, particle_number};
+pub use observed::{bond_flow_into, density_matrix, density_matrix_told, one_body_expectation, particle_number, particle_number_told};
 
 /// An answer: the refusal's number with its places, or 0 where the call is accepted.
 #[derive(Debug, Clone, Copy, PartialEq)]
@@ -20,11 +20,25 @@ pub struct Answer {
     pub part: f64,
 }
 
-/// A call that is lent three places and one part. What an accepted call leaves there is 0.
+impl Answer {
+    const ACCEPTED: Self = Self { number: 0, operand: 0, first: 0, second: 0, part: 0.0 };
+
+    /// In place of the answer of a call that wrote what it is to leave: a number that no call has.
+    const WRITTEN: Self = Self { number: u8::MAX, ..Self::ACCEPTED };
+}
+
+/// What slices of places, and slices of numbers, hold before a call.
+const PLACE: usize = usize::MAX - 7;
+const NUMBER: f64 = -7.25;
+
+/// A call that is lent three places and one part, which an accepted call leaves.
 fn answer(call: impl FnOnce(&mut [usize; 3], &mut [f64; 1]) -> u8) -> Answer {
-    let (mut places, mut part) = ([0; 3], [0.0; 1]);
-    let number = call(&mut places, &mut part);
-    Answer { number, operand: places[0], first: places[1], second: places[2], part: part[0] }
+    let (mut places, mut part) = ([PLACE; 3], [NUMBER; 1]);
+    match call(&mut places, &mut part) {
+        0 if (places, part) == ([PLACE; 3], [NUMBER]) => Answer::ACCEPTED,
+        0 => Answer::WRITTEN,
+        number => Answer { number, operand: places[0], first: places[1], second: places[2], part: part[0] },
+    }
 }
 
 /// A slice crosses as its address and its length.
@@ -266,13 +280,21 @@ pub fn transient_run(
     })
 }
 
-/// What the call writes, or the refusal.
-fn measured<T>(mut value: T, call: impl FnOnce(&mut T, &mut [usize; 3], &mut [f64; 1]) -> u8) -> Result<T, Answer> {
-    let answer = answer(|places, part| call(&mut value, places, part));
-    if answer.number == 0 {
-        Ok(value)
-    } else {
-        Err(answer)
+/// What the call writes, or the refusal, which leaves what was lent for it.
+fn measured<T: Copy + PartialEq>(held: T, call: impl FnOnce(&mut T, &mut [usize; 3], &mut [f64; 1]) -> u8) -> Result<T, Answer> {
+    let mut value = held;
+    match answer(|places, part| call(&mut value, places, part)) {
+        Answer::ACCEPTED => Ok(value),
+        refused if value == held => Err(refused),
+        _ => Err(Answer::WRITTEN),
+    }
+}
+
+/// The same of a decision, 1 or 0.
+fn decided(call: impl FnOnce(&mut [u8; 1], &mut [usize; 3], &mut [f64; 1]) -> u8) -> Result<bool, Answer> {
+    match measured([u8::MAX], call)? {
+        [yes @ 0..=1] => Ok(yes == 1),
+        _ => Err(Answer::WRITTEN),
     }
 }
 
@@ -281,7 +303,7 @@ mod tests {
     use super::{causal_volterra_convolution, check_retarded_support, particle_number};
     use super::{retarded_dyson_with_tolerance, transient_run, Answer};
 
-    const ACCEPTED: Answer = Answer { number: 0, operand: 0, first: 0, second: 0, part: 0.0 };
+    const ACCEPTED: Answer = Answer::ACCEPTED;
 
     /// P8: entries (0,0) (0,1) (1,0) (1,1) of one orbital.
     #[test]

@@ -1,6 +1,6 @@
 //! The observables.
 use crate::blocks::{made, Block};
-use crate::{measured, Answer};
+use crate::{measured, Answer, NUMBER};
 
 mod exported {
     #[link(name = "solver_export", kind = "static")]
@@ -77,12 +77,27 @@ mod exported {
 
 /// A number, or the refusal.
 fn observe(call: impl FnOnce(&mut [f64; 1], &mut [usize; 3], &mut [f64; 1]) -> u8) -> Result<f64, Answer> {
-    measured([0.0; 1], call).map(|[value]| value)
+    measured([NUMBER; 1], call).map(|[value]| value)
 }
 
 /// The density matrix at a time.
 pub fn density_matrix(lesser: &[f64], points: usize, orbitals: usize, time: usize) -> (Answer, Block) {
-    made(|shape, out, places, part| unsafe {
+    made(|shape, out, places, part| density_matrix_told(lesser, points, orbitals, time, shape, out, places, part))
+}
+
+/// The same with slices of any lengths for what is told.
+#[allow(clippy::too_many_arguments)]
+pub fn density_matrix_told(
+    lesser: &[f64],
+    points: usize,
+    orbitals: usize,
+    time: usize,
+    shape: &mut [usize],
+    out: &mut [f64],
+    places: &mut [usize],
+    part: &mut [f64],
+) -> u8 {
+    unsafe {
         exported::density_matrix(
             lesser.as_ptr(),
             lesser.len(),
@@ -98,11 +113,26 @@ pub fn density_matrix(lesser: &[f64], points: usize, orbitals: usize, time: usiz
             part.as_mut_ptr(),
             part.len(),
         )
-    })
+    }
 }
 
 pub fn particle_number(lesser: &[f64], points: usize, orbitals: usize, time: usize, tolerance: f64) -> Result<f64, Answer> {
-    observe(|value, places, part| unsafe {
+    observe(|value, places, part| particle_number_told(lesser, points, orbitals, time, tolerance, value, places, part))
+}
+
+/// The same with slices of any lengths for what is told.
+#[allow(clippy::too_many_arguments)]
+pub fn particle_number_told(
+    lesser: &[f64],
+    points: usize,
+    orbitals: usize,
+    time: usize,
+    tolerance: f64,
+    value: &mut [f64],
+    places: &mut [usize],
+    part: &mut [f64],
+) -> u8 {
+    unsafe {
         exported::particle_number(
             lesser.as_ptr(),
             lesser.len(),
@@ -117,7 +147,7 @@ pub fn particle_number(lesser: &[f64], points: usize, orbitals: usize, time: usi
             part.as_mut_ptr(),
             part.len(),
         )
-    })
+    }
 }
 
 /// The expectation of a one-body matrix.
@@ -189,7 +219,7 @@ mod tests {
     use super::{bond_flow_into, density_matrix, one_body_expectation, particle_number};
     use crate::{Answer, Block};
 
-    const ACCEPTED: Answer = Answer { number: 0, operand: 0, first: 0, second: 0, part: 0.0 };
+    const ACCEPTED: Answer = Answer::ACCEPTED;
 
     #[test]
     fn observables() {
