@@ -33,13 +33,9 @@ pub fn causal_volterra_convolution(points: usize, orbitals: usize, times: &[f64]
     Ok([numbers(&keldysh_green::causal_volterra_convolution(&grid, &left, &right).map_err(refusal)?)])
 }
 
-/// The port's is private. Dyson with a self-energy of zeros asks it of the free propagator and refuses nothing else.
 pub fn check_retarded_support(points: usize, orbitals: usize, xs: &[f64], tolerance: f64) -> Answer<()> {
-    let [free] = functions(points, orbitals, [xs])?;
-    let [zeros] = functions(points, orbitals, [&vec![0.0; xs.len()]])?;
-    let grid = grid(points, &any_times(points), &[])?;
-    keldysh_green::retarded_dyson_with_tolerance(&grid, &free, &zeros, tolerance).map_err(refusal)?;
-    Ok(())
+    let [xs] = functions(points, orbitals, [xs])?;
+    kept::check_retarded_support(&xs, tolerance).map_err(refusal)
 }
 
 /// G, and K in the scratch.

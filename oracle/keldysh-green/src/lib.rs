@@ -7,6 +7,12 @@ mod grid {
 }
 mod keldysh {
     include!(concat!(env!("PORT"), "/src--keldysh-green--src--keldysh.rs.txt"));
+
+    /// What Dyson asks of the free propagator.
+    pub fn check_retarded_support(function: &TwoTimeMatrix, tolerance: f64) -> Result<()> {
+        validate_tolerance(tolerance)?;
+        validate_retarded_support(function, "free retarded propagator", tolerance)
+    }
 }
 mod matrix_ops {
     include!(concat!(env!("PORT"), "/src--keldysh-green--src--matrix_ops.rs.txt"));
@@ -25,8 +31,9 @@ pub use keldysh::{
 pub use observables::{bond_flow_into, density_matrix, one_body_expectation, particle_number};
 pub type Result<T> = std::result::Result<T, KeldyshError>;
 
-/// What the port keeps to itself: operations on blocks, and the weight of a point in an interval.
+/// What the port keeps to itself: operations on blocks, the weight of a point in an interval, the support test.
 pub mod kept {
+    pub use crate::keldysh::check_retarded_support;
     use crate::{matrix_ops, Complex64, DenseMatrix, RealTimeGrid, Result};
 
     pub fn add(left: &DenseMatrix, right: &DenseMatrix) -> Result<DenseMatrix> {
