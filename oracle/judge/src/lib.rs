@@ -3,6 +3,7 @@
 mod blocks;
 mod functions;
 mod lines;
+pub mod stages;
 
 pub use blocks::{add, adjoint, from_numbers, get, identity, is_hermitian, max_difference, multiply, norm, scale, subtract, trace, Block};
 pub use functions::{bond_flow_into, density_matrix, one_body_expectation, particle_number};
