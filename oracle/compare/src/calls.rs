@@ -1,85 +1,176 @@
-//! One function for each function compared: a call's inputs, ours, the port's.
-use crate::sides::{block_outcome, decided, filled, ours, outcome, Outcome, LENT};
+//! The calls on two-time functions: what each takes, ours and the port's.
+use crate::inputs::{Call, Takes};
+use crate::mirrored;
+use crate::sides::{block_outcome, filled, ours, outcome, Outcome, LENT};
 use crate::source::Source;
-use judge::Block;
 
-/// Slices to lend.
-fn lent<const COUNT: usize>(length: usize) -> [Vec<f64>; COUNT] {
-    std::array::from_fn(|_| vec![LENT; length])
+/// A function that is compared.
+pub struct Function {
+    pub name: &'static str,
+    /// Whether each operand is to be retarded.
+    pub retarded: &'static [bool],
+    /// How many slices it is lent for what it makes.
+    pub made: usize,
+    /// What it takes besides.
+    pub takes: &'static [Takes],
+    /// What some calls without a fault are to satisfy.
+    pub arrange: fn(&mut Source, &mut Call),
+    pub compare: fn(&Call) -> Outcome,
 }
 
-pub fn consistency_report(source: &mut Source) -> Outcome {
-    let call = source.components();
+impl Function {
+    pub fn takes(&self, what: Takes) -> bool {
+        self.takes.contains(&what)
+    }
+
+    /// How many slices it is lent: times, operands, those for what it makes.
+    pub fn slices(&self) -> usize {
+        usize::from(self.takes(Takes::Times)) + self.retarded.len() + self.made
+    }
+}
+
+const GRID: &[Takes] = &[Takes::Times];
+const SOLVER: &[Takes] = &[Takes::Times, Takes::Tolerance];
+
+pub const FUNCTIONS: [Function; 11] = [
+    Function {
+        name: "consistency_report",
+        retarded: &[true, false, false, false],
+        made: 0,
+        takes: &[],
+        arrange: mirrored::components,
+        compare: consistency_report,
+    },
+    Function {
+        name: "langreth_product",
+        retarded: &[true, false, false, false, true, false, false, false],
+        made: 4,
+        takes: GRID,
+        arrange: as_drawn,
+        compare: langreth_product,
+    },
+    Function {
+        name: "time_convolution",
+        retarded: &[false; 2],
+        made: 1,
+        takes: GRID,
+        arrange: as_drawn,
+        compare: |call| convolution(call, here::time_convolution, judge::time_convolution),
+    },
+    Function {
+        name: "causal_volterra_convolution",
+        retarded: &[true; 2],
+        made: 1,
+        takes: GRID,
+        arrange: as_drawn,
+        compare: |call| convolution(call, here::causal_volterra_convolution, judge::causal_volterra_convolution),
+    },
+    Function {
+        name: "check_retarded_support",
+        retarded: &[true],
+        made: 0,
+        takes: &[Takes::Tolerance],
+        arrange: as_drawn,
+        compare: check_retarded_support,
+    },
+    Function {
+        name: "retarded_dyson_with_tolerance",
+        retarded: &[true; 2],
+        made: 2,
+        takes: SOLVER,
+        arrange: as_drawn,
+        compare: retarded_dyson_with_tolerance,
+    },
+    Function { name: "transient_run", retarded: &[true, true, false], made: 4, takes: SOLVER, arrange: as_drawn, compare: transient_run },
+    Function {
+        name: "particle_number",
+        retarded: &[false],
+        made: 0,
+        takes: &[Takes::Time, Takes::Tolerance],
+        arrange: as_drawn,
+        compare: particle_number,
+    },
+    Function {
+        name: "bond_flow_into",
+        retarded: &[false],
+        made: 0,
+        takes: &[Takes::Time, Takes::Bond],
+        arrange: as_drawn,
+        compare: bond_flow_into,
+    },
+    Function { name: "density_matrix", retarded: &[false], made: 0, takes: &[Takes::Time], arrange: as_drawn, compare: density_matrix },
+    Function {
+        name: "one_body_expectation",
+        retarded: &[false],
+        made: 0,
+        takes: &[Takes::Time, Takes::Observable, Takes::Tolerance],
+        arrange: half_real,
+        compare: one_body_expectation,
+    },
+];
+
+/// The function of this name.
+pub fn function(name: &str) -> &'static Function {
+    const { &FUNCTIONS }.iter().find(|f| f.name == name).unwrap_or_else(|| panic!("no function {name}"))
+}
+
+fn as_drawn(_: &mut Source, _: &mut Call) {}
+
+/// Half of the densities and observables are real.
+fn half_real(source: &mut Source, call: &mut Call) {
+    if source.one_in(2) {
+        call.operands[0].iter_mut().step_by(2).for_each(|x| *x = 0.0);
+        call.observable.numbers.iter_mut().skip(1).step_by(2).for_each(|x| *x = 0.0);
+    }
+}
+
+/// Slices to lend.
+fn lent<const COUNT: usize>(lengths: [usize; COUNT]) -> [Vec<f64>; COUNT] {
+    lengths.map(|length| vec![LENT; length])
+}
+
+fn consistency_report(call: &Call) -> Outcome {
     let (points, orbitals, components) = (call.points, call.orbitals, call.operands());
     let ours = here::consistency_report(components, points, orbitals);
     outcome(ours, judge::consistency_report(points, orbitals, components), |x| x.to_vec())
 }
 
-pub fn is_consistent(source: &mut Source) -> Outcome {
-    let tolerance = source.tolerance();
-    let near = [0.0, tolerance / 2.0, tolerance, tolerance, f64::from_bits(tolerance.to_bits().wrapping_add(1)), f64::NAN, f64::INFINITY];
-    let within = source.one_in(2);
-    let x: [f64; 6] = std::array::from_fn(|_| match within {
-        true => source.pick(&near[..4]),
-        false if source.one_in(4) => source.pick(&near),
-        false if source.one_in(16) => source.any(),
-        false => source.pick(&near[..4]),
-    });
-    outcome(here::is_consistent(x, tolerance), judge::is_consistent(x, tolerance), decided)
-}
-
-pub fn langreth_product(source: &mut Source) -> Outcome {
-    let call = source.call(&[true, false, false, false, true, false, false, false]);
+fn langreth_product(call: &Call) -> Outcome {
     let (points, orbitals, times, xs) = (call.points, call.orbitals, &call.times, call.operands());
-    let mut out = lent(call.length());
+    let mut out = lent(call.made());
     let (left, right) = ([xs[0], xs[1], xs[2], xs[3]], [xs[4], xs[5], xs[6], xs[7]]);
     let answer = here::langreth_product(times, left, right, points, orbitals, out.each_mut().map(|out| &mut out[..]));
-    filled(answer, out, judge::langreth_product(points, orbitals, times, xs, [call.length(); 4]))
+    filled(answer, out, judge::langreth_product(points, orbitals, times, xs, call.made()))
 }
 
 type Ours = fn(&[f64], &[f64], &[f64], usize, usize, &mut [f64]) -> here::Answer;
 type Theirs = fn(usize, usize, &[f64], [&[f64]; 2], [usize; 1]) -> judge::Filled<1>;
 
-fn convolution(source: &mut Source, retarded: bool, ours: Ours, theirs: Theirs) -> Outcome {
-    let call = source.call(&[retarded; 2]);
+fn convolution(call: &Call, ours: Ours, theirs: Theirs) -> Outcome {
     let (points, orbitals, times, [left, right]) = (call.points, call.orbitals, &call.times, call.operands());
-    let [mut out] = lent(call.length());
+    let [mut out] = lent(call.made());
     let answer = ours(times, left, right, points, orbitals, &mut out);
-    filled(answer, [out], theirs(points, orbitals, times, [left, right], [call.length()]))
+    filled(answer, [out], theirs(points, orbitals, times, [left, right], call.made()))
 }
 
-pub fn time_convolution(source: &mut Source) -> Outcome {
-    convolution(source, false, here::time_convolution, judge::time_convolution)
-}
-
-pub fn causal_volterra_convolution(source: &mut Source) -> Outcome {
-    convolution(source, true, here::causal_volterra_convolution, judge::causal_volterra_convolution)
-}
-
-pub fn check_retarded_support(source: &mut Source) -> Outcome {
-    let call = source.call(&[true]);
-    let (points, orbitals, [xs]) = (call.points, call.orbitals, call.operands());
-    let tolerance = source.tolerance();
+fn check_retarded_support(call: &Call) -> Outcome {
+    let (points, orbitals, [xs], tolerance) = (call.points, call.orbitals, call.operands(), call.tolerance);
     let answer = here::check_retarded_support(xs, points, orbitals, tolerance);
     filled(answer, [], judge::check_retarded_support(points, orbitals, xs, tolerance).map(|()| []))
 }
 
-pub fn retarded_dyson_with_tolerance(source: &mut Source) -> Outcome {
-    let call = source.call(&[true; 2]);
-    let (points, orbitals, times, operands) = (call.points, call.orbitals, &call.times, call.operands());
-    let tolerance = source.tolerance();
-    let [mut green, mut kernel] = lent(call.length());
+fn retarded_dyson_with_tolerance(call: &Call) -> Outcome {
+    let (points, orbitals, times, operands, tolerance) = (call.points, call.orbitals, &call.times, call.operands(), call.tolerance);
+    let [mut green, mut kernel] = lent(call.made());
     let [free, sigma] = operands;
     let answer = here::retarded_dyson_with_tolerance(times, free, sigma, points, orbitals, tolerance, &mut green, &mut kernel);
-    let theirs = judge::retarded_dyson_with_tolerance(points, orbitals, times, operands, tolerance, [call.length(); 2]);
+    let theirs = judge::retarded_dyson_with_tolerance(points, orbitals, times, operands, tolerance, call.made());
     filled(answer, [green, kernel], theirs)
 }
 
-pub fn transient_run(source: &mut Source) -> Outcome {
-    let call = source.call(&[true, true, false]);
-    let (points, orbitals, times, operands) = (call.points, call.orbitals, &call.times, call.operands());
-    let tolerance = source.tolerance();
-    let [mut green, mut lesser, mut kernel, mut mixed] = lent(call.length());
+fn transient_run(call: &Call) -> Outcome {
+    let (points, orbitals, times, operands, tolerance) = (call.points, call.orbitals, &call.times, call.operands(), call.tolerance);
+    let [mut green, mut lesser, mut kernel, mut mixed] = lent(call.made());
     let [free, sigma, lesser_sigma] = operands;
     let answer = here::transient_run(
         times,
@@ -94,63 +185,32 @@ pub fn transient_run(source: &mut Source) -> Outcome {
         &mut kernel,
         &mut mixed,
     );
-    let theirs = judge::transient_run(points, orbitals, times, operands, tolerance, [call.length(); 4]);
+    let theirs = judge::transient_run(points, orbitals, times, operands, tolerance, call.made());
     filled(answer, [green, lesser, kernel, mixed], theirs)
 }
 
-pub fn particle_number(source: &mut Source) -> Outcome {
-    let call = source.call(&[false]);
+fn particle_number(call: &Call) -> Outcome {
     let (points, orbitals, [lesser]) = (call.points, call.orbitals, call.operands());
-    let (time, tolerance) = (source.below(points + 1), source.tolerance());
-    let ours = here::particle_number(lesser, points, orbitals, time, tolerance);
-    outcome(ours, judge::particle_number(points, orbitals, lesser, time, tolerance), |x| vec![x])
+    let ours = here::particle_number(lesser, points, orbitals, call.time, call.tolerance);
+    outcome(ours, judge::particle_number(points, orbitals, lesser, call.time, call.tolerance), |x| vec![x])
 }
 
-pub fn density_matrix(source: &mut Source) -> Outcome {
-    let call = source.call(&[false]);
+fn density_matrix(call: &Call) -> Outcome {
     let (points, orbitals, [lesser]) = (call.points, call.orbitals, call.operands());
-    let time = source.below(points + 1);
-    block_outcome(here::density_matrix(lesser, points, orbitals, time), judge::density_matrix(points, orbitals, lesser, time))
+    let ours = here::density_matrix(lesser, points, orbitals, call.time);
+    block_outcome(ours, judge::density_matrix(points, orbitals, lesser, call.time))
 }
 
-/// Half of the densities and observables are real.
-pub fn one_body_expectation(source: &mut Source) -> Outcome {
-    let mut call = source.call(&[false]);
-    let (points, orbitals) = (call.points, call.orbitals);
-    let (time, tolerance) = (source.below(points + 1), source.tolerance());
-    let [mut observable] = source.blocks([[orbitals.max(1); 2]]);
-    if source.one_in(2) {
-        call.operands[0].iter_mut().step_by(2).filter(|x| x.is_finite()).for_each(|x| *x = 0.0);
-        observable.numbers.iter_mut().skip(1).step_by(2).filter(|x| x.is_finite()).for_each(|x| *x = 0.0);
-    }
-    let ([lesser], observable) = (call.operands(), observable.lent());
-    let here = here::one_body_expectation(lesser, points, orbitals, time, &ours(&observable), tolerance);
-    outcome(here, judge::one_body_expectation(points, orbitals, lesser, time, &observable, tolerance), |x| vec![x])
+fn one_body_expectation(call: &Call) -> Outcome {
+    let (points, orbitals, [lesser], observable) = (call.points, call.orbitals, call.operands(), call.observable.lent());
+    let here = here::one_body_expectation(lesser, points, orbitals, call.time, &ours(&observable), call.tolerance);
+    let theirs = judge::one_body_expectation(points, orbitals, lesser, call.time, &observable, call.tolerance);
+    outcome(here, theirs, |x| vec![x])
 }
 
-pub fn bond_flow_into(source: &mut Source) -> Outcome {
-    let call = source.call(&[false]);
-    let (points, orbitals, [lesser]) = (call.points, call.orbitals, call.operands());
-    let time = source.below(points + 1);
-    let (a, b) = (source.below(orbitals + 1), source.below(orbitals + 1));
-    let mut factor = || if source.one_in(32) { f64::NAN } else { source.any() };
-    let (hopping, charge) = ([factor(), factor()], factor());
-    let ours = here::bond_flow_into(lesser, points, orbitals, time, a, b, hopping, charge);
-    outcome(ours, judge::bond_flow_into(points, orbitals, lesser, time, [a, b], hopping, charge), |x| vec![x])
-}
-
-pub fn norm(source: &mut Source) -> Outcome {
-    let mut part = || if source.one_in(16) { source.pick(&[f64::NAN, f64::INFINITY, f64::NEG_INFINITY]) } else { source.any() };
-    let (re, im) = (part(), part());
-    let im = if source.one_in(4) { im } else { source.near(re) };
-    outcome(Ok(here::norm(re, im)), Ok(judge::norm(re, im)), |x| vec![x])
-}
-
-/// The first number of a product of two blocks; +0 where it is refused.
-pub fn product(source: &mut Source) -> Outcome {
-    let size = 1 + source.below(16);
-    let [a, b] = [(); 2].map(|()| source.block(size));
-    let [x, y] = [&a, &b].map(|xs| Block::lent(size, size, xs));
-    let theirs = judge::multiply(&x, &y).map_or(0.0, |product| product.values[0]);
-    outcome(Ok(here::product_chain(&a, &b, size, 1)), Ok(theirs), |x| vec![x])
+fn bond_flow_into(call: &Call) -> Outcome {
+    let (points, orbitals, [lesser], [a, b]) = (call.points, call.orbitals, call.operands(), call.bond);
+    let ours = here::bond_flow_into(lesser, points, orbitals, call.time, a, b, call.hopping, call.charge);
+    let theirs = judge::bond_flow_into(points, orbitals, lesser, call.time, call.bond, call.hopping, call.charge);
+    outcome(ours, theirs, |x| vec![x])
 }

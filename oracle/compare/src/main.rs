@@ -1,71 +1,106 @@
-//! Calls both sides on the same inputs and compares every bit of every number: `compare [CALLS] [SEED]`, CALLS for each function. The port
-//! has the correctly rounded norm in hypot's place.
+//! Calls both sides on the same inputs and compares every bit of every number: `compare [CALLS] [SEED]`, CALLS for each function in the
+//! random part. `compare CALLS SEED PART FUNCTION CALL` makes one call of those. The port has the correctly rounded norm in hypot's place.
+mod block_inputs;
 mod blocks;
+mod boundaries;
 mod calls;
+mod exhaustive;
+mod inputs;
+mod limits;
+mod mirrored;
+mod others;
+mod random;
 mod sides;
 mod source;
+mod stages;
+mod tally;
+mod told;
+mod tolerances;
 
 use sides::Outcome;
-use source::Source;
-use std::collections::BTreeMap;
+use std::ops::Range;
+use std::process::ExitCode;
+use std::sync::atomic::{AtomicUsize, Ordering};
+use std::time::Instant;
+use tally::Tally;
 
-/// Makes one call's inputs and calls both sides.
-type Comparison = fn(&mut Source) -> Outcome;
+const THREADS: usize = 2;
 
-const COMPARED: [(&str, Comparison); 25] = [
-    ("consistency_report", calls::consistency_report),
-    ("is_consistent", calls::is_consistent),
-    ("langreth_product", calls::langreth_product),
-    ("time_convolution", calls::time_convolution),
-    ("causal_volterra_convolution", calls::causal_volterra_convolution),
-    ("check_retarded_support", calls::check_retarded_support),
-    ("retarded_dyson_with_tolerance", calls::retarded_dyson_with_tolerance),
-    ("transient_run", calls::transient_run),
-    ("particle_number", calls::particle_number),
-    ("bond_flow_into", calls::bond_flow_into),
-    ("density_matrix", calls::density_matrix),
-    ("one_body_expectation", calls::one_body_expectation),
-    ("norm", calls::norm),
-    ("product of blocks", calls::product),
-    ("block_from_numbers", blocks::from_numbers),
-    ("block_identity", blocks::identity),
-    ("block_adjoint", blocks::adjoint),
-    ("block_scale", blocks::scale),
-    ("block_multiply", blocks::multiply),
-    ("block_add", blocks::add),
-    ("block_subtract", blocks::subtract),
-    ("block_trace", blocks::trace),
-    ("block_get", blocks::get),
-    ("block_max_difference", blocks::max_difference),
-    ("block_is_hermitian", blocks::is_hermitian),
-];
-
-fn main() {
-    let mut arguments = std::env::args().skip(1).map(|text| text.parse::<u64>().expect("a count or a seed"));
-    let (calls, seed) = (arguments.next().unwrap_or(2000), arguments.next().unwrap_or(1));
-    println!("{:<29} {:>8} {:>8} {:>12} {:>8}  refused, by number", "function", "calls", "accepted", "numbers", "differ");
-    let mut differ = 0;
-    for (place, (name, call)) in (1..).zip(COMPARED) {
-        differ += run(name, calls, seed.wrapping_add(place << 48), call);
-    }
-    println!("{differ} numbers differ");
-    assert_eq!(differ, 0);
+/// Calls of one function, each made of its index alone.
+pub struct Job {
+    pub part: &'static str,
+    pub function: &'static str,
+    pub calls: u64,
+    pub call: Box<dyn Fn(u64) -> Outcome + Sync>,
 }
 
-/// Prints a line, and one for each call in which a number differs.
-fn run(name: &str, calls: u64, seed: u64, call: Comparison) -> usize {
-    let (mut numbers, mut differ, mut answers) = (0, 0, BTreeMap::new());
-    for index in 0..calls {
-        let outcome = call(&mut Source::of(seed, index));
-        numbers += outcome.compared;
-        differ += outcome.unequal;
-        *answers.entry(outcome.number).or_insert(0) += 1;
-        if outcome.unequal != 0 {
-            println!("{name}, call {index}: {} of {} differ, refusal {}", outcome.unequal, outcome.compared, outcome.number);
-        }
+impl Job {
+    pub fn of(part: &'static str, function: &'static str, calls: u64, call: impl Fn(u64) -> Outcome + Sync + 'static) -> Self {
+        Self { part, function, calls, call: Box::new(call) }
     }
-    let accepted = answers.remove(&0).unwrap_or(0);
-    let refused: Vec<_> = answers.iter().map(|(number, count)| format!("{number}: {count}")).collect();
-    println!("{name:<29} {calls:>8} {accepted:>8} {numbers:>12} {differ:>8}  {}", refused.join(", "));
-    differ
+}
+
+/// All jobs, those with long calls first.
+fn jobs(calls: u64, seed: u64) -> Vec<Job> {
+    let parts = [
+        limits::jobs(seed),
+        boundaries::jobs(seed),
+        stages::jobs(calls / 2, seed),
+        tolerances::jobs(calls / 4, seed),
+        exhaustive::jobs(),
+        told::jobs(seed),
+        random::jobs(calls, seed),
+    ];
+    parts.into_iter().flatten().collect()
+}
+
+fn main() -> ExitCode {
+    let arguments: Vec<String> = std::env::args().skip(1).collect();
+    let number = |at: usize, default| arguments.get(at).map_or(default, |text| text.parse().expect("a count, a seed or an index"));
+    let (calls, seed, start) = (number(0, 20_000), number(1, 1), Instant::now());
+    let mut jobs = jobs(calls, seed);
+    let mut tally = if let [_, _, part, function, _] = &arguments[..] {
+        jobs.retain(|job| (job.part, job.function) == (part, function));
+        one_call(&jobs, number(4, 0))
+    } else {
+        run(&jobs)
+    };
+    tally.print(seed);
+    let total = tally.total();
+    println!("{} calls, {} numbers, {} differ, {} seconds", total.calls, total.numbers, total.differ, start.elapsed().as_secs());
+    ExitCode::from(u8::from(total.differ != 0))
+}
+
+fn one_call(jobs: &[Job], index: u64) -> Tally {
+    let mut tally = Tally::default();
+    jobs.iter().for_each(|job| tally.count(job.part, job.function, index, (job.call)(index)));
+    tally
+}
+
+/// Makes all calls; which thread makes a call changes nothing.
+fn run(jobs: &[Job]) -> Tally {
+    let (chunks, next) = (chunks(jobs), AtomicUsize::new(0));
+    let work = || {
+        let mut tally = Tally::default();
+        while let Some((job, indices)) = chunks.get(next.fetch_add(1, Ordering::Relaxed)) {
+            indices.clone().for_each(|index| tally.count(job.part, job.function, index, (job.call)(index)));
+        }
+        tally
+    };
+    std::thread::scope(|scope| {
+        let threads: Vec<_> = (0..THREADS).map(|_| scope.spawn(work)).collect();
+        let tallies = threads.into_iter().map(|thread| thread.join().expect("a thread that ends"));
+        tallies.fold(Tally::default(), |mut all, tally| {
+            all.join(tally);
+            all
+        })
+    })
+}
+
+/// A few calls each, one where there are few.
+fn chunks(jobs: &[Job]) -> Vec<(&Job, Range<u64>)> {
+    let of = |job: &Job| (job.calls / 64).clamp(1, 256);
+    jobs.iter()
+        .flat_map(|job| (0..job.calls.div_ceil(of(job))).map(move |k| (job, k * of(job)..((k + 1) * of(job)).min(job.calls))))
+        .collect()
 }

@@ -4,15 +4,33 @@ use judge::Refused;
 /// What lent slices hold before a call.
 pub const LENT: f64 = -7.25;
 
-/// The refusal's number, 0 where both accept; how many numbers are compared, and how many differ.
+/// The number of the port's refusal, or ours where it alone refuses, and 0 where both accept; the part that the refusal carries; how many
+/// numbers are compared, and how many differ; what the call is counted under in its part.
 pub struct Outcome {
     pub number: u8,
+    pub part: f64,
     pub compared: usize,
     pub unequal: usize,
+    pub label: String,
+}
+
+impl Outcome {
+    fn of(refused: Refused, compared: usize, unequal: usize) -> Self {
+        Self { number: refused.number, part: refused.part, compared, unequal, label: String::new() }
+    }
+
+    pub fn under(self, label: impl Into<String>) -> Self {
+        Self { label: label.into(), ..self }
+    }
+
+    /// The same call, of which more was compared.
+    pub fn and(self, other: &Self) -> Self {
+        Self { compared: self.compared + other.compared, unequal: self.unequal + other.unequal, ..self }
+    }
 }
 
 /// Equal in bits, or both NaN, whose bits are free.
-fn same(x: f64, y: f64) -> bool {
+pub fn same(x: f64, y: f64) -> bool {
     x.to_bits() == y.to_bits() || x.is_nan() && y.is_nan()
 }
 
@@ -28,7 +46,7 @@ pub fn outcome<T>(here: Result<T, here::Answer>, port: judge::Answer<T>, numbers
             let (here, port) = (numbers(here), numbers(port));
             assert_eq!(here.len(), port.len());
             let unequal = here.iter().zip(&port).filter(|(x, y)| !same(**x, **y)).count();
-            Outcome { number: 0, compared: here.len(), unequal }
+            Outcome::of(Refused::by(0), here.len(), unequal)
         }
         (Err(here), Err(port)) => {
             let equal = [
@@ -38,9 +56,9 @@ pub fn outcome<T>(here: Result<T, here::Answer>, port: judge::Answer<T>, numbers
                 here.second == port.second,
                 same(here.part, port.part),
             ];
-            Outcome { number: here.number, compared: 5, unequal: equal.iter().filter(|x| !**x).count() }
+            Outcome::of(port, 5, equal.iter().filter(|x| !**x).count())
         }
-        (Ok(_), Err(refused)) | (Err(refused), Ok(_)) => Outcome { number: refused.number, compared: 1, unequal: 1 },
+        (Ok(_), Err(refused)) | (Err(refused), Ok(_)) => Outcome::of(refused, 1, 1),
     }
 }
 
@@ -75,7 +93,5 @@ pub fn block_outcome((answer, block): (here::Answer, here::Block), port: judge::
     if answer.number == 0 {
         return outcome(Ok(block), port, told);
     }
-    let refused = outcome(Err(answer), port, told);
-    let empty = outcome(Ok(block), Ok(ours(&judge::Block::empty())), told);
-    Outcome { number: refused.number, compared: refused.compared + empty.compared, unequal: refused.unequal + empty.unequal }
+    outcome(Err(answer), port, told).and(&outcome(Ok(block), Ok(ours(&judge::Block::empty())), told))
 }
