@@ -84,26 +84,26 @@ fn nearly_hermitian(source: &mut Source, call: &mut BlockCall) {
 
 fn from_numbers(call: &BlockCall) -> Outcome {
     let x = &call.blocks[0];
-    let made = here::block_from_numbers(x.rows, x.columns, &x.numbers);
+    let made = |out: &mut here::Block| here::block_from_numbers(x.rows, x.columns, &x.numbers, out);
     block_outcome(made, judge::from_numbers(x.rows, x.columns, &x.numbers))
 }
 
 fn adjoint(call: &BlockCall) -> Outcome {
     let [x] = call.lent();
-    block_outcome(here::block_adjoint(&ours(&x)), judge::adjoint(&x))
+    block_outcome(|out| here::block_adjoint(&ours(&x), out), judge::adjoint(&x))
 }
 
 fn scale(call: &BlockCall) -> Outcome {
     let [x] = call.lent();
-    block_outcome(here::block_scale(&ours(&x), call.factor), judge::scale(&x, call.factor))
+    block_outcome(|out| here::block_scale(&ours(&x), call.factor, out), judge::scale(&x, call.factor))
 }
 
-type Ours = fn(&here::Block, &here::Block) -> (here::Answer, here::Block);
+type Ours = fn(&here::Block, &here::Block, &mut here::Block) -> here::Answer;
 type Theirs = fn(&Block, &Block) -> judge::Answer<Block>;
 
 fn pair(call: &BlockCall, here: Ours, theirs: Theirs) -> Outcome {
     let [x, y] = call.lent();
-    block_outcome(here(&ours(&x), &ours(&y)), theirs(&x, &y))
+    block_outcome(|out| here(&ours(&x), &ours(&y), out), theirs(&x, &y))
 }
 
 fn trace(call: &BlockCall) -> Outcome {

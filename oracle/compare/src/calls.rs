@@ -197,7 +197,7 @@ fn particle_number(call: &Call) -> Outcome {
 
 fn density_matrix(call: &Call) -> Outcome {
     let (points, orbitals, [lesser]) = (call.points, call.orbitals, call.operands());
-    let ours = here::density_matrix(lesser, points, orbitals, call.time);
+    let ours = |out: &mut here::Block| here::density_matrix(lesser, points, orbitals, call.time, out);
     block_outcome(ours, judge::density_matrix(points, orbitals, lesser, call.time))
 }
 

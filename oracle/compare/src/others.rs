@@ -8,7 +8,7 @@ pub fn norm(re: f64, im: f64) -> Outcome {
 }
 
 pub fn identity(size: usize) -> Outcome {
-    block_outcome(here::block_identity(size), judge::identity(size))
+    block_outcome(|out| here::block_identity(size, out), judge::identity(size))
 }
 
 pub fn is_consistent(x: [f64; 6], tolerance: f64) -> Outcome {

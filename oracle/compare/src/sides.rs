@@ -87,7 +87,9 @@ pub fn ours(x: &judge::Block) -> here::Block {
 }
 
 /// The outcome of a call that makes a block: its shape and 512 numbers, +0 past its entries, and 0 by 0 and +0 throughout beside a refusal.
-pub fn block_outcome((answer, block): (here::Answer, here::Block), port: judge::Answer<judge::Block>) -> Outcome {
+pub fn block_outcome(call: impl FnOnce(&mut here::Block) -> here::Answer, port: judge::Answer<judge::Block>) -> Outcome {
+    let mut block = here::Block::room();
+    let answer = call(&mut block);
     let told = |x: here::Block| [vec![x.rows as f64, x.columns as f64], x.values.to_vec()].concat();
     let port = port.map(|x| ours(&x));
     if answer.number == 0 {

@@ -19,6 +19,11 @@ impl Block {
         values[..numbers.len()].copy_from_slice(numbers);
         Self { rows, columns, values }
     }
+
+    /// Room for a block, which holds none.
+    pub fn room() -> Self {
+        Self { rows: usize::MAX, columns: usize::MAX, values: [f64::NAN; NUMBERS] }
+    }
 }
 
 mod exported {
@@ -190,11 +195,15 @@ mod exported {
     }
 }
 
-/// A call that is lent room for a block, which it fills beside a refusal too.
-pub(crate) fn made(call: impl FnOnce(&mut [usize; 2], &mut [f64; NUMBERS], &mut [usize; 3], &mut [f64; 1]) -> u8) -> (Answer, Block) {
-    let (mut shape, mut values) = ([usize::MAX; 2], [f64::NAN; NUMBERS]);
-    let answer = answer(|places, part| call(&mut shape, &mut values, places, part));
-    (answer, Block { rows: shape[0], columns: shape[1], values })
+/// A call that is lent a block, which it fills beside a refusal too.
+pub(crate) fn filled(
+    out: &mut Block,
+    call: impl FnOnce(&mut [usize; 2], &mut [f64; NUMBERS], &mut [usize; 3], &mut [f64; 1]) -> u8,
+) -> Answer {
+    let mut shape = [out.rows, out.columns];
+    let answer = answer(|places, part| call(&mut shape, &mut out.values, places, part));
+    [out.rows, out.columns] = shape;
+    answer
 }
 
 /// The first number of a·b·..·b, `turns` products of size by size blocks; of a block that was refused it is +0.
@@ -202,8 +211,8 @@ pub fn product_chain(a: &[f64], b: &[f64], size: usize, turns: usize) -> f64 {
     unsafe { exported::product_chain(a.as_ptr(), a.len(), b.as_ptr(), b.len(), size, turns) }
 }
 
-pub fn block_from_numbers(rows: usize, columns: usize, numbers: &[f64]) -> (Answer, Block) {
-    made(|shape, out, places, part| unsafe {
+pub fn block_from_numbers(rows: usize, columns: usize, numbers: &[f64], out: &mut Block) -> Answer {
+    filled(out, |shape, out, places, part| unsafe {
         exported::block_from_numbers(
             rows,
             columns,
@@ -221,8 +230,8 @@ pub fn block_from_numbers(rows: usize, columns: usize, numbers: &[f64]) -> (Answ
     })
 }
 
-pub fn block_identity(size: usize) -> (Answer, Block) {
-    made(|shape, out, places, part| unsafe {
+pub fn block_identity(size: usize, out: &mut Block) -> Answer {
+    filled(out, |shape, out, places, part| unsafe {
         exported::block_identity(
             size,
             shape.as_mut_ptr(),
@@ -237,8 +246,8 @@ pub fn block_identity(size: usize) -> (Answer, Block) {
     })
 }
 
-pub fn block_adjoint(x: &Block) -> (Answer, Block) {
-    made(|shape, out, places, part| unsafe {
+pub fn block_adjoint(x: &Block, out: &mut Block) -> Answer {
+    filled(out, |shape, out, places, part| unsafe {
         exported::block_adjoint(
             x.rows,
             x.columns,
@@ -256,8 +265,8 @@ pub fn block_adjoint(x: &Block) -> (Answer, Block) {
 }
 
 /// Each entry times a factor, by its real and its imaginary part.
-pub fn block_scale(x: &Block, factor: [f64; 2]) -> (Answer, Block) {
-    made(|shape, out, places, part| unsafe {
+pub fn block_scale(x: &Block, factor: [f64; 2], out: &mut Block) -> Answer {
+    filled(out, |shape, out, places, part| unsafe {
         exported::block_scale(
             x.rows,
             x.columns,
@@ -294,8 +303,8 @@ type Pair = unsafe extern "C" fn(
     part_len: usize,
 ) -> u8;
 
-fn pair(call: Pair, left: &Block, right: &Block) -> (Answer, Block) {
-    made(|shape, out, places, part| unsafe {
+fn pair(call: Pair, left: &Block, right: &Block, out: &mut Block) -> Answer {
+    filled(out, |shape, out, places, part| unsafe {
         call(
             left.rows,
             left.columns,
@@ -315,16 +324,16 @@ fn pair(call: Pair, left: &Block, right: &Block) -> (Answer, Block) {
     })
 }
 
-pub fn block_multiply(left: &Block, right: &Block) -> (Answer, Block) {
-    pair(exported::block_multiply, left, right)
+pub fn block_multiply(left: &Block, right: &Block, out: &mut Block) -> Answer {
+    pair(exported::block_multiply, left, right, out)
 }
 
-pub fn block_add(left: &Block, right: &Block) -> (Answer, Block) {
-    pair(exported::block_add, left, right)
+pub fn block_add(left: &Block, right: &Block, out: &mut Block) -> Answer {
+    pair(exported::block_add, left, right, out)
 }
 
-pub fn block_subtract(left: &Block, right: &Block) -> (Answer, Block) {
-    pair(exported::block_subtract, left, right)
+pub fn block_subtract(left: &Block, right: &Block, out: &mut Block) -> Answer {
+    pair(exported::block_subtract, left, right, out)
 }
 
 /// The sum of the diagonal, by its real and its imaginary part.
@@ -410,6 +419,11 @@ mod tests {
         (answer, Block::of(0, 0, &[]))
     }
 
+    fn told(call: impl FnOnce(&mut Block) -> Answer) -> (Answer, Block) {
+        let mut out = Block::room();
+        (call(&mut out), out)
+    }
+
     /// (1 + 2i)·i·i
     #[test]
     fn chain() {
@@ -420,24 +434,24 @@ mod tests {
     #[test]
     fn made() {
         let row = Block::of(1, 2, &[1.0, 2.0, 3.0, 4.0]);
-        assert_eq!(block_from_numbers(1, 2, &[1.0, 2.0, 3.0, 4.0]), (ACCEPTED, row.clone()));
-        assert_eq!(block_from_numbers(1, 2, &[1.0, 2.0]), refused(Answer { number: 3, ..ACCEPTED }));
-        assert_eq!(block_from_numbers(1, 1, &[1.0, f64::NAN]), refused(Answer { number: 7, first: 1, ..ACCEPTED }));
-        assert_eq!(block_identity(2), (ACCEPTED, Block::of(2, 2, &[1.0, 0.0, 0.0, 0.0, 0.0, 0.0, 1.0])));
-        assert_eq!(block_identity(0), refused(Answer { number: 1, ..ACCEPTED }));
-        assert_eq!(block_identity(17), refused(Answer { number: 2, ..ACCEPTED }));
+        assert_eq!(told(|out| block_from_numbers(1, 2, &[1.0, 2.0, 3.0, 4.0], out)), (ACCEPTED, row.clone()));
+        assert_eq!(told(|out| block_from_numbers(1, 2, &[1.0, 2.0], out)), refused(Answer { number: 3, ..ACCEPTED }));
+        assert_eq!(told(|out| block_from_numbers(1, 1, &[1.0, f64::NAN], out)), refused(Answer { number: 7, first: 1, ..ACCEPTED }));
+        assert_eq!(told(|out| block_identity(2, out)), (ACCEPTED, Block::of(2, 2, &[1.0, 0.0, 0.0, 0.0, 0.0, 0.0, 1.0])));
+        assert_eq!(told(|out| block_identity(0, out)), refused(Answer { number: 1, ..ACCEPTED }));
+        assert_eq!(told(|out| block_identity(17, out)), refused(Answer { number: 2, ..ACCEPTED }));
         let column = Block::of(2, 1, &[1.0, -2.0, 3.0, -4.0]);
-        assert_eq!(block_adjoint(&row), (ACCEPTED, column.clone()));
-        assert_eq!(block_scale(&row, [0.0, 1.0]), (ACCEPTED, Block::of(1, 2, &[-2.0, 1.0, -4.0, 3.0])));
-        assert_eq!(block_scale(&row, [f64::MAX, 0.0]), refused(Answer { number: 10, ..ACCEPTED }));
+        assert_eq!(told(|out| block_adjoint(&row, out)), (ACCEPTED, column.clone()));
+        assert_eq!(told(|out| block_scale(&row, [0.0, 1.0], out)), (ACCEPTED, Block::of(1, 2, &[-2.0, 1.0, -4.0, 3.0])));
+        assert_eq!(told(|out| block_scale(&row, [f64::MAX, 0.0], out)), refused(Answer { number: 10, ..ACCEPTED }));
         // |1 + 2i|² + |3 + 4i|²
-        assert_eq!(block_multiply(&row, &column), (ACCEPTED, Block::of(1, 1, &[30.0, 0.0])));
-        assert_eq!(block_multiply(&row, &row), refused(Answer { number: 3, ..ACCEPTED }));
-        assert_eq!(block_add(&row, &row), (ACCEPTED, Block::of(1, 2, &[2.0, 4.0, 6.0, 8.0])));
-        assert_eq!(block_subtract(&row, &row), (ACCEPTED, Block::of(1, 2, &[])));
+        assert_eq!(told(|out| block_multiply(&row, &column, out)), (ACCEPTED, Block::of(1, 1, &[30.0, 0.0])));
+        assert_eq!(told(|out| block_multiply(&row, &row, out)), refused(Answer { number: 3, ..ACCEPTED }));
+        assert_eq!(told(|out| block_add(&row, &row, out)), (ACCEPTED, Block::of(1, 2, &[2.0, 4.0, 6.0, 8.0])));
+        assert_eq!(told(|out| block_subtract(&row, &row, out)), (ACCEPTED, Block::of(1, 2, &[])));
         let not_finite = Block::of(1, 2, &[1.0, 1.0, 1.0, f64::INFINITY]);
-        assert_eq!(block_add(&row, &not_finite), refused(Answer { number: 7, operand: 1, first: 3, ..ACCEPTED }));
-        assert_eq!(block_subtract(&row, &column), refused(Answer { number: 3, ..ACCEPTED }));
+        assert_eq!(told(|out| block_add(&row, &not_finite, out)), refused(Answer { number: 7, operand: 1, first: 3, ..ACCEPTED }));
+        assert_eq!(told(|out| block_subtract(&row, &column, out)), refused(Answer { number: 3, ..ACCEPTED }));
     }
 
     #[test]

@@ -1,5 +1,5 @@
 //! The observables.
-use crate::blocks::{made, Block};
+use crate::blocks::{filled, Block};
 use crate::{measured, Answer, NUMBER};
 
 mod exported {
@@ -81,8 +81,8 @@ fn observe(call: impl FnOnce(&mut [f64; 1], &mut [usize; 3], &mut [f64; 1]) -> u
 }
 
 /// The density matrix at a time.
-pub fn density_matrix(lesser: &[f64], points: usize, orbitals: usize, time: usize) -> (Answer, Block) {
-    made(|shape, out, places, part| density_matrix_told(lesser, points, orbitals, time, shape, out, places, part))
+pub fn density_matrix(lesser: &[f64], points: usize, orbitals: usize, time: usize, out: &mut Block) -> Answer {
+    filled(out, |shape, out, places, part| density_matrix_told(lesser, points, orbitals, time, shape, out, places, part))
 }
 
 /// The same with slices of any lengths for what is told.
@@ -235,8 +235,11 @@ mod tests {
     #[test]
     fn density() {
         let lesser = [0.0, 1.0, 0.0, 0.0, 0.0, 0.0, 2.0, 3.0];
-        assert_eq!(density_matrix(&lesser, 2, 1, 1), (ACCEPTED, Block::of(1, 1, &[3.0, -2.0])));
-        assert_eq!(density_matrix(&lesser, 2, 1, 2), (Answer { number: 11, ..ACCEPTED }, Block::of(0, 0, &[])));
+        let mut out = Block::room();
+        assert_eq!(density_matrix(&lesser, 2, 1, 1, &mut out), ACCEPTED);
+        assert_eq!(out, Block::of(1, 1, &[3.0, -2.0]));
+        assert_eq!(density_matrix(&lesser, 2, 1, 2, &mut out), Answer { number: 11, ..ACCEPTED });
+        assert_eq!(out, Block::of(0, 0, &[]));
     }
 
     #[test]
