@@ -7,6 +7,7 @@ mod exported {
     }
 }
 
+#[inline]
 pub fn norm(re: f64, im: f64) -> f64 {
     unsafe { exported::norm_of(re, im) }
 }

@@ -1,0 +1,80 @@
+//! The convolutions, the support test, Dyson and the transient run.
+use crate::inputs::Inputs;
+use crate::measure::{Bench, Times};
+use keldysh_green::{RealTimeGrid, TwoTimeMatrix};
+use shared::numbers;
+use std::hint::black_box;
+
+const TOLERANCE: f64 = 1e-12;
+
+type Ours = fn(&[f64], &[f64], &[f64], usize, usize, &mut [f64]) -> here::Answer;
+type Theirs = fn(&RealTimeGrid, &TwoTimeMatrix, &TwoTimeMatrix) -> keldysh_green::Result<TwoTimeMatrix>;
+
+pub fn time_convolution(bench: &mut Bench, points: usize, orbitals: usize) -> Times {
+    convolution(bench, Inputs::new(points, orbitals, [false; 2]), here::time_convolution, keldysh_green::time_convolution)
+}
+
+pub fn causal_volterra_convolution(bench: &mut Bench, points: usize, orbitals: usize) -> Times {
+    let inputs = Inputs::new(points, orbitals, [true; 2]);
+    convolution(bench, inputs, here::causal_volterra_convolution, keldysh_green::causal_volterra_convolution)
+}
+
+fn convolution(bench: &mut Bench, inputs: Inputs<2>, ours: Ours, theirs: Theirs) -> Times {
+    let (grid, [left, right]) = (inputs.grid(), inputs.built());
+    let here = |out: &mut [f64]| {
+        let [left, right] = black_box(&inputs.functions);
+        ours(&inputs.times, left, right, inputs.points, inputs.orbitals, out)
+    };
+    let port = || theirs(&grid, black_box(&left), &right);
+    let mut out = inputs.room();
+    assert_eq!(here(&mut out).number, 0);
+    bench.same(&out, &numbers(&port().unwrap()));
+    bench.measure(|| here(&mut out), port, || (inputs.grid(), inputs.built()))
+}
+
+/// No number is made.
+pub fn check_retarded_support(bench: &mut Bench, points: usize, orbitals: usize) -> Times {
+    let inputs = Inputs::new(points, orbitals, [true]);
+    let [function] = inputs.built();
+    let here = || here::check_retarded_support(black_box(&inputs.functions[0]), points, orbitals, TOLERANCE);
+    let port = || keldysh_green::kept::check_retarded_support(black_box(&function), TOLERANCE);
+    assert_eq!(here().number, 0);
+    port().unwrap();
+    bench.measure(here, port, || inputs.built())
+}
+
+/// G, and K, which the port does not give: there it is a convolution of its own.
+pub fn retarded_dyson_with_tolerance(bench: &mut Bench, points: usize, orbitals: usize) -> Times {
+    let inputs = Inputs::new(points, orbitals, [true; 2]);
+    let (grid, [free, sigma]) = (inputs.grid(), inputs.built());
+    let here = |green: &mut [f64], kernel: &mut [f64]| {
+        let [free, sigma] = black_box(&inputs.functions);
+        here::retarded_dyson_with_tolerance(&inputs.times, free, sigma, points, orbitals, TOLERANCE, green, kernel)
+    };
+    let port = || keldysh_green::retarded_dyson_with_tolerance(&grid, black_box(&free), &sigma, TOLERANCE);
+    let (mut green, mut kernel) = (inputs.room(), inputs.room());
+    assert_eq!(here(&mut green, &mut kernel).number, 0);
+    bench.same(&green, &numbers(&port().unwrap()));
+    bench.same(&kernel, &numbers(&keldysh_green::causal_volterra_convolution(&grid, &free, &sigma).unwrap()));
+    bench.measure(|| here(&mut green, &mut kernel), port, || (inputs.grid(), inputs.built()))
+}
+
+/// G^R, G^< and X, and K alike. The port has no transient run: there it is composed of its operations.
+pub fn transient_run(bench: &mut Bench, points: usize, orbitals: usize) -> Times {
+    let inputs = Inputs::new(points, orbitals, [true, true, false]);
+    let (grid, [free, sigma, source]) = (inputs.grid(), inputs.built());
+    let here = |[green, lesser, kernel, mixed]: &mut [Vec<f64>; 4]| {
+        let [free, sigma, source] = black_box(&inputs.functions);
+        here::transient_run(&inputs.times, free, sigma, source, points, orbitals, TOLERANCE, green, lesser, kernel, mixed)
+    };
+    let port = || shared::transient_run(&grid, black_box(&free), &sigma, &source, TOLERANCE);
+    let mut out = [(); 4].map(|()| inputs.room());
+    assert_eq!(here(&mut out).number, 0);
+    let made = port().unwrap();
+    let kernel = keldysh_green::causal_volterra_convolution(&grid, &free, &sigma).unwrap();
+    for (out, made) in out.iter().zip([&made.green, &made.lesser, &kernel, &made.mixed]) {
+        bench.same(out, &numbers(made));
+    }
+    drop(made);
+    bench.measure(|| here(&mut out), port, || (inputs.grid(), inputs.built()))
+}

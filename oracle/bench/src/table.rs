@@ -1,0 +1,72 @@
+//! The tables, in Markdown.
+use crate::measure::Times;
+use crate::norm::{Kind, COUNT};
+
+/// A function's times at each size.
+pub struct Row {
+    pub name: &'static str,
+    pub times: [Times; 5],
+}
+
+/// A unit of time, and its nanoseconds.
+pub type Unit = (&'static str, f64);
+
+/// The ratios, those with the building of the port's inputs, and the times here.
+pub fn functions(title: &str, sizes: [String; 5], (unit, size): Unit, rows: &[Row]) {
+    if rows.is_empty() {
+        return;
+    }
+    println!("### {title}\n\nRatio of a call here to the port's call:\n");
+    table(&sizes, rows, |times| Some(ratio(times.here / times.port)));
+    println!("Ratio of a call here to the building of the port's inputs from the same numbers and the port's call:\n");
+    table(&sizes, rows, |times| times.build.map(|build| ratio(times.here / (build + times.port))));
+    println!("Time of a call here, in {unit}:\n");
+    table(&sizes, rows, |times| Some(significant(times.here / size)));
+}
+
+/// A row has no place in a table in which it has no cells.
+fn table(sizes: &[String; 5], rows: &[Row], cell: impl Fn(&Times) -> Option<String>) {
+    head("function", sizes);
+    for row in rows {
+        if let Some(cells) = row.times.iter().map(&cell).collect::<Option<Vec<_>>>() {
+            line(&format!("`{}`", row.name), &cells);
+        }
+    }
+    println!();
+}
+
+pub fn norms(kinds: &[Kind]) {
+    if kinds.is_empty() {
+        return;
+    }
+    println!("### The norm, beside the platform's hypot\n");
+    let differ = format!("differ in bits, of {COUNT}");
+    head("parts", &["ratio", "ns a call here", "ns a call of hypot", &differ].map(String::from));
+    for kind in kinds {
+        line(kind.name, &[ratio(kind.here / kind.port), significant(kind.here), significant(kind.port), kind.differ.to_string()]);
+    }
+    println!();
+}
+
+fn head(first: &str, cells: &[String]) {
+    line(first, cells);
+    println!("|---|{}", "---:|".repeat(cells.len()));
+}
+
+fn line(first: &str, cells: &[String]) {
+    println!("| {first} | {} |", cells.join(" | "));
+}
+
+fn ratio(x: f64) -> String {
+    if x < 10.0 {
+        format!("{x:.2}")
+    } else {
+        format!("{x:.0}")
+    }
+}
+
+/// Three digits, or all before the point.
+fn significant(x: f64) -> String {
+    let decimals = (2 - x.log10().floor() as i32).max(0) as usize;
+    format!("{x:.decimals$}")
+}
