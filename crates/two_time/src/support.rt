@@ -17,7 +17,7 @@ use largest::larger_norm;
 use refusal::Verdict;
 use refusal::lines::retarded_at;
 
-// The largest of `largest` and the norms of the entries of block (t, u): a block that does not raise it costs no norm.
+// The largest of `largest` and the norms of the entries of block (t, u).
 fn largest_norm(xs: &[f64], stride: usize, orbitals: usize, t: usize, u: usize, largest: f64) -> f64
     requires { ⌜ (t < stride) × (u < stride) × (stride ≤ 256) × (orbitals ≤ 16) ⌝ }
     requires { ⌜ lengthOf stride orbitals ≤ length (now xs) ⌝ }
