@@ -13,6 +13,17 @@ mod keldysh {
         validate_tolerance(tolerance)?;
         validate_retarded_support(function, "free retarded propagator", tolerance)
     }
+
+    /// The sum of left(t, s)·right(s, u) over s from start to end, by the weights of that interval.
+    pub fn interval_sum(
+        grid: &RealTimeGrid,
+        left: &TwoTimeMatrix,
+        right: &TwoTimeMatrix,
+        [t, u]: [usize; 2],
+        [start, end]: [usize; 2],
+    ) -> Result<DenseMatrix> {
+        weighted_product_sum(grid, left, right, t, u, start, end, true)
+    }
 }
 mod matrix_ops {
     include!(concat!(env!("PORT"), "/src--keldysh-green--src--matrix_ops.rs.txt"));
@@ -31,9 +42,9 @@ pub use keldysh::{
 pub use observables::{bond_flow_into, density_matrix, one_body_expectation, particle_number};
 pub type Result<T> = std::result::Result<T, KeldyshError>;
 
-/// What the port keeps to itself: operations on blocks, the weight of a point in an interval, the support test.
+/// What the port keeps to itself: operations on blocks, the weight of a point in an interval, the sum over an interval, the support test.
 pub mod kept {
-    pub use crate::keldysh::check_retarded_support;
+    pub use crate::keldysh::{check_retarded_support, interval_sum};
     use crate::{matrix_ops, Complex64, DenseMatrix, RealTimeGrid, Result};
 
     pub fn add(left: &DenseMatrix, right: &DenseMatrix) -> Result<DenseMatrix> {
