@@ -1,5 +1,5 @@
 -- `grid::finite_weights` meets its contract: with fewer times than points a weight is a NaN, and else after i turns the first i are tested. Assumes nothing.
-use mathlib.Core.Path.{_≡_, refl}
+use mathlib.Core.Path.{_≡_, refl, _∙_}
 use Prim.Native.Nat.{_≤_, _-_}
 use native.Mathlib.Nat.{le-antisymm}
 use native.Mathlib.Omega.{arith}
@@ -31,6 +31,6 @@ finite-weights-spec =
     (λ c κs. search needs)  -- is-finite-requires
     (λ c. search needs)  -- add-i
     (λ c. search needs)  -- loop-less
-    (λ c. (omega arith, rw all-more (cc)))  -- loop-again
+    (λ c. (omega arith, rw (c .is-finite .ensures, c .before .full-weight .ensures, c .before .before .before .loop .inv .1, all-more)))  -- loop-again
     (λ c κs. search needs)  -- numbered-requires-2
-    (λ c. cc (le-antisymm (c .before .before .loop .inv .0) (c .before .loop-test .left))))  -- returns-2
+    (λ c. c .numbered2 .ensures ∙ rw (c .before .before .loop .inv .1, le-antisymm (c .before .before .loop .inv .0) (c .before .loop-test .left))))  -- returns-2

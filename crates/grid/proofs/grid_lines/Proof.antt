@@ -1,4 +1,5 @@
 -- `grid::grid_lines` meets its contract: it asks the lines of `gridLines` in their order. Assumes nothing.
+use mathlib.Core.Path.{_≡_, _∙_}
 use borrow.Author.Needs.{needs}
 use Rattle.grid.specs.Calls.{gridLines}
 use Rattle.grid.proofs.grid_lines.Statement.{statement}
@@ -16,4 +17,4 @@ grid-lines-spec =
     (λ c κs. search needs)  -- then-requires
     (λ c κs. search needs)  -- then-requires-2
     (λ c κs. search needs)  -- then-requires-3
-    (λ c. cc))  -- returns
+    (λ c. let t = c .before .before .before in c .then3 .ensures ∙ rw (c .before .then2 .ensures, c .before .before .then .ensures, t .time-lines .ensures, t .before .large-enough .ensures, t .before .before .fitting .ensures, t .before .before .before .within-limits .ensures)))  -- returns

@@ -6,4 +6,4 @@ use Rattle.grid.proofs.half_step.Tie as tie
 
 pub half-step-spec : {M : Type 1} → statement M
 unfolding halfStep
-half-step-spec = tie.close (tie.spec (λ c κs. search needs) (λ c κs. search needs) (λ c. cc))
+half-step-spec = tie.close (tie.spec (λ c κs. search needs) (λ c κs. search needs) (λ c. rw (c .time-at2 .ensures, c .before .time-at .ensures)))

@@ -1,9 +1,18 @@
 -- `grid::interval_weight` meets its contract: a weight where the questions pass, and else their refusal. Assumes nothing.
+use mathlib.Core.Path.{_≡_, sym, ap₂, _∙_}
+use denote.Ref.{now}
 use borrow.Author.Needs.{needs}
+use Rattle.refusal.specs.Verdict.{_then_}
+use Rattle.refusal.specs.Lines.{timeBelow}
 use Rattle.refusal.specs.Measuring.{measured-yes, measured-no}
 use Rattle.grid.specs.Calls.{checkTimes, intervalWeightOf}
 use Rattle.grid.proofs.interval_weight.Statement.{statement}
 use Rattle.grid.proofs.interval_weight.Tie as tie
+
+-- the questions in their order
+asked : (c : tie.After-then) → let x = c .before .before .before .before .args in
+    c .then .result ≡ (checkTimes (x .points) (now (x .times)) then timeBelow (x .end) (x .points))
+asked c = c .then .ensures ∙ ap₂ _then_ (c .before .check-times .ensures) (c .before .before .time-below .ensures)
 
 pub interval-weight-spec : {M : Type 1} → statement M
 unfolding intervalWeightOf checkTimes
@@ -16,5 +25,5 @@ interval-weight-spec =
     (λ c. search needs)  -- enum-told
     (λ c κs. search needs)  -- trapezoid-weight-requires
     (λ c. search needs)  -- enum-known-verdict
-    (λ c. measured-yes (cc) (c .trapezoid-weight .ensures))  -- returns
-    (λ c. measured-no _ (cc)))  -- returns-2
+    (λ c. let told = c .before in measured-yes (sym (asked (told .before .before)) ∙ told .enum-told .given .1) (c .trapezoid-weight .ensures))  -- returns
+    (λ c. let told = c .before in measured-no _ (sym (asked (told .before .before)) ∙ told .verdict .given .1)))  -- returns-2

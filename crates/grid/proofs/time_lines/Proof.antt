@@ -1,4 +1,5 @@
 -- `grid::time_lines` meets its contract: it asks the lines of `timeLines` in their order. Assumes nothing.
+use mathlib.Core.Path.{_≡_, _∙_}
 use borrow.Author.Needs.{needs}
 use Rattle.grid.specs.Calls.{timeLines}
 use Rattle.grid.proofs.time_lines.Statement.{statement}
@@ -14,4 +15,4 @@ time-lines-spec =
     (λ c κs. search needs)  -- finite-weights-requires
     (λ c κs. search needs)  -- then-requires
     (λ c κs. search needs)  -- then-requires-2
-    (λ c. cc))  -- returns
+    (λ c. let w = c .before .before in c .then2 .ensures ∙ rw (c .before .then .ensures, w .finite-weights .ensures, w .before .finite-times .ensures, w .before .before .rising-times .ensures)))  -- returns

@@ -15,7 +15,11 @@ use Rattle.observables.proofs.bond_flow_into.Tie as tie
 asked : (c : tie.After-then4) → let x = c .before .before .before .before .before .before .before .before .before .before .args in
     c .then4 .result ≡ (lesserLines (x .points) (x .orbitals) (now (x .lesser)) then finiteFactors (x .hopping) (x .charge)
     then (orbitalBelow (x .a) (x .orbitals) then orbitalBelow (x .b) (x .orbitals)) then timeBelow (x .time) (x .points))
-asked c = cc
+asked c =
+    let l = c .before .before in
+    let n = l .before .before in
+    let o = n .before .before in
+    c .then4 .ensures ∙ rw (c .before .then3 .ensures, l .lesser-lines .ensures, l .before .finite-factors .ensures, n .then2 .ensures, n .before .time-below .ensures, o .then .ensures, o .before .orbital-below2 .ensures, o .before .before .orbital-below .ensures)
 
 pub bond-flow-into-spec : {M : Type 1} → statement M
 unfolding bondFlowInto

@@ -11,6 +11,9 @@ ran c = c .before .before .before .before .before .before .before .before .befor
 abbrev start : tie.After-transient-run → tie.Start
 start c = c .before .before .before .before .before .before .before .before .before .before .before .before .before .before .before .before .before .before .before .before .before .before .before .before .before .before .before .before .before .before .before .before .before
 
+abbrev decoded : tie.After-transient-run → tie.After-bodies
+decoded t = t .before .before .before .before .before .before .before .before .before .before .before .before .before .before .before .before .before .before
+
 returns : tie.Need-returns
 returns c =
     let t = ran c in
@@ -29,13 +32,13 @@ solve-spec =
     (λ c κs. search needs)  -- tolerance-requires
     (λ c κs. search needs)  -- transient-run-requires
     (λ c κs. let few = start (c .before .before .before .before .before .before .before .before .before .before) .pre .1 .0 in (few .0, few .1, few .3))  -- answer-text-requires
-    (λ c. search needs)  -- same-length
-    (λ c. search needs)  -- same-length-2
-    (λ c. search needs)  -- same-length-3
-    (λ c. search needs)  -- same-length-4
-    (λ c. search needs)  -- same-length-5
-    (λ c. search needs)  -- same-length-6
-    (λ c. search needs)  -- same-length-7
-    (λ c. search needs)  -- same-length-8
-    (λ c. search needs)  -- same-length-9
+    (λ c. decoded (ran c) .bodies .kept .1 .1 .1 .0)  -- same-length
+    (λ c. decoded (ran c) .bodies .kept .1 .1 .1 .1 .0)  -- same-length-2
+    (λ c. decoded (ran c) .bodies .kept .1 .1 .1 .1 .1 .0)  -- same-length-3
+    (λ c. decoded (ran c) .bodies .kept .1 .1 .1 .1 .1 .1 .0)  -- same-length-4
+    (λ c. ran c .transient-run .kept .1 .1 .1 .1 .1 .1 .1 .0)  -- same-length-5
+    (λ c. ran c .transient-run .kept .1 .1 .1 .1 .1 .1 .1 .1 .0)  -- same-length-6
+    (λ c. ran c .transient-run .kept .1 .1 .1 .1 .1 .1 .1 .1 .1 .0)  -- same-length-7
+    (λ c. ran c .transient-run .kept .1 .1 .1 .1 .1 .1 .1 .1 .1 .1 .0)  -- same-length-8
+    (λ c. c .before .before .answer-text .kept .1 .1 .1 .1 .0)  -- same-length-9
     returns)

@@ -23,7 +23,9 @@ use Rattle.matrix.proofs.DenseMatrix.get.Tie as tie
 
 asked : (c : tie.After-then2) → let x = c .before .before .before .before .before .before .before .args in
     c .then2 .result ≡ (blockLines true (x .self) then orbitalBelow (x .row) (x .self .rows) then orbitalBelow (x .column) (x .self .columns))
-asked c = cc
+asked c =
+    let t = c .before .before .before in
+    c .then2 .ensures ∙ rw (c .before .block-lines .ensures, t .then .ensures, t .before .orbital-below2 .ensures, t .before .before .orbital-below .ensures)
 
 passed : (c : tie.After-enum-told) → let x = c .before .before .before .before .before .before .before .before .before .args in
     (blockLines true (x .self) then orbitalBelow (x .row) (x .self .rows) then orbitalBelow (x .column) (x .self .columns)) ≡ Pass

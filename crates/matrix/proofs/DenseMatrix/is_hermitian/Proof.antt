@@ -26,7 +26,7 @@ use Rattle.matrix.proofs.DenseMatrix.is_hermitian.Statement.{statement}
 use Rattle.matrix.proofs.DenseMatrix.is_hermitian.Tie as tie
 
 asked : (c : tie.After-then) → let x = c .before .before .before .before .before .args in c .then .result ≡ (blockLines true (x .self) then validTolerance (x .tolerance))
-asked c = cc
+asked c = c .then .ensures ∙ rw (c .before .valid-tolerance .ensures, c .before .before .block-lines .ensures)
 
 passed : (c : tie.After-enum-told) → let x = c .before .before .before .before .before .before .before .args in (blockLines true (x .self) then validTolerance (x .tolerance)) ≡ Pass
 passed c = sym (asked (c .before .before)) ∙ c .enum-told .given .1

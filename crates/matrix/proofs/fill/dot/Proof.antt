@@ -39,5 +39,5 @@ dot-spec =
     (λ c κs. search needs)  -- plus-requires
     (λ c. search needs)  -- add-k
     (λ c. search needs)  -- loop-less
-    (λ c. (omega arith, rw sum-more (cc)))  -- loop-again
-    (λ c. cc (le-antisymm (c .before .loop .inv .0) (c .loop-test .left))))  -- returns
+    (λ c. (omega arith, let t = c .before in rw (c .plus .ensures, t .times .ensures, t .before .entry2 .ensures, t .before .before .entry .ensures, t .before .before .before .before .loop .inv .1, sum-more)))  -- loop-again
+    (λ c. c .before .loop .inv .1 ∙ rw (le-antisymm (c .before .loop .inv .0) (c .loop-test .left))))  -- returns

@@ -73,7 +73,7 @@ loop-again c =
     let x = k .before .before .before .before .args in (
       omega arith,
       put .kept .0 ∙ k .loop .inv .1,
-      rw all-more (cc),
+      rw (c .before .before .before .before .before .before .is-finite .ensures, e, k .loop .inv .2, all-more),
       cells-next _ _ _ _ _ _ (k .loop .inv .3) e (put .ensures) (omega (arith, few k)),
       next-row (k .loop .p) (x .columns) (k .loop .i) (k .loop .j) _ (k .loop .inv .4) (k .loop .inv .5) (c .before .next-row .ensures),
       next-column (k .loop .p) (x .columns) (k .loop .j) _ (k .loop .inv .5) (c .next-column .ensures),

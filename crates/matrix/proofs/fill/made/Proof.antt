@@ -34,8 +34,8 @@ made-spec =
     (λ c. rw (c .before .enum-told .given .1) (c .entry .ensures))  -- returns
     (λ c. rw (c .before .enum-told2 .given .1, eq-eqb _ _ (c .if1 .taken)))  -- returns-2
     (λ c. rw (c .before .enum-told2 .given .1, ne-eqb _ _ (c .if1 .left)))  -- returns-3
-    (λ c. rw (c .before .before .enum-told3 .given .1) (cc))  -- returns-4
+    (λ c. rw (c .before .before .enum-told3 .given .1, c .conj .ensures, c .before .entry2 .ensures))  -- returns-4
     (λ c. rw (c .before .enum-told4 .given .1) (c .dot .ensures))  -- returns-5
-    (λ c. rw (c .before .before .before .op .given .1) (cc))  -- returns-6
-    (λ c. rw (c .before .before .before .enum-told5 .given .1) (cc))  -- returns-7
-    (λ c. rw (c .before .before .before .enum-told6 .given .1) (cc)))  -- returns-8
+    (λ c. rw (c .before .before .before .op .given .1, c .times .ensures, c .before .entry3 .ensures))  -- returns-6
+    (λ c. rw (c .before .before .before .enum-told5 .given .1, c .plus .ensures, c .before .entry5 .ensures, c .before .before .entry4 .ensures))  -- returns-7
+    (λ c. rw (c .before .before .before .enum-told6 .given .1, c .minus .ensures, c .before .entry7 .ensures, c .before .before .entry6 .ensures)))  -- returns-8

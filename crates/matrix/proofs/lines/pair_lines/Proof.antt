@@ -22,7 +22,7 @@ few c =
 
 returns : tie.Need-returns
 unfolding pairLines
-returns c = sym (then-after _ _ (passed (c .before .before .before)) ∙ cc)
+returns c = sym (then-after _ _ (passed (c .before .before .before)) ∙ sym (c .then .ensures ∙ rw (c .before .finite-entries2 .ensures, c .before .before .finite-entries .ensures)))
 
 returns-2 : tie.Need-returns-2
 unfolding pairLines

@@ -1,4 +1,5 @@
 -- `matrix::lines::shape` meets its contract: its callees' answers in order. Assumes nothing.
+use mathlib.Core.Path.{_≡_, _∙_}
 use borrow.Author.Needs.{needs}
 use Rattle.matrix.proofs.lines.shape.Statement.{statement}
 use Rattle.matrix.proofs.lines.shape.Tie as tie
@@ -12,4 +13,4 @@ shape-spec =
     (λ c κs. search needs)  -- fitting-requires
     (λ c κs. search needs)  -- then-requires
     (λ c κs. search needs)  -- then-requires-2
-    (λ c. cc))  -- returns
+    (λ c. let f = c .before .before in c .then2 .ensures ∙ rw (c .before .then .ensures, f .fitting .ensures, f .before .within-block .ensures, f .before .before .not-empty .ensures)))  -- returns

@@ -1,5 +1,5 @@
 -- `matrix::measure::diagonal` meets its contract: after i turns the sum has the first i entries of the diagonal. Assumes nothing.
-use mathlib.Core.Path.{_≡_, sym}
+use mathlib.Core.Path.{_≡_, sym, _∙_}
 use mathlib.Core.List.{List}
 use Prim.Native.Nat.{ℕ, _-_, _≤_}
 use native.Mathlib.Nat.{le-antisymm}
@@ -32,5 +32,5 @@ diagonal-spec =
     (λ c κs. search needs)  -- plus-requires
     (λ c. search needs)  -- add-i
     (λ c. search needs)  -- loop-less
-    (λ c. (omega arith, rw sum-more (cc)))  -- loop-again
-    (λ c. cc (le-antisymm (c .before .loop .inv .0) (c .loop-test .left))))  -- returns
+    (λ c. (omega arith, rw (c .plus .ensures, c .before .entry .ensures, c .before .before .before .loop .inv .1, sum-more)))  -- loop-again
+    (λ c. c .before .loop .inv .1 ∙ rw (le-antisymm (c .before .loop .inv .0) (c .loop-test .left))))  -- returns

@@ -57,5 +57,5 @@ hermitian-within-spec =
     (λ c κs. search needs)  -- part-above-requires
     (λ c. omega (arith, few (c .before .before .before .before .before .before)))  -- add-p
     (λ c. search needs)  -- loop-less
-    (λ c. (omega arith, rw all-more (cc)))  -- loop-again
-    (λ c. cc (le-antisymm (c .before .loop .inv .0) (c .loop-test .left), all-flat (c .before .before .before .args .size) (c .before .before .before .args .size) (seen (c .before .before .before .args .a .now) (c .before .before .before .args .size) (c .before .before .before .args .threshold)))))  -- returns
+    (λ c. (omega arith, let m = c .before in let e = m .before .before in rw (c .part-above .ensures, m .minus .ensures, m .before .conj .ensures, e .entry2 .ensures, e .before .entry .ensures, e .before .before .before .loop .inv .1, all-more)))  -- loop-again
+    (λ c. c .before .loop .inv .1 ∙ rw (le-antisymm (c .before .loop .inv .0) (c .loop-test .left)) (all-flat (c .before .before .before .args .size) (c .before .before .before .args .size) (seen (c .before .before .before .args .a .now) (c .before .before .before .args .size) (c .before .before .before .args .threshold)))))  -- returns

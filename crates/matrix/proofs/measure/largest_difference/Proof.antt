@@ -1,5 +1,5 @@
 -- `matrix::measure::largest_difference` meets its contract: after p turns the first p entries, by rows, are seen. Assumes nothing.
-use mathlib.Core.Path.{_≡_, sym}
+use mathlib.Core.Path.{_≡_, sym, _∙_}
 use mathlib.Core.List.{List}
 use Prim.Native.Nat.{ℕ, _-_, _*_, _/_, _%_, _≤_, _<_}
 use native.Mathlib.Nat.{le-antisymm}
@@ -52,5 +52,5 @@ largest-difference-spec =
     (λ c κs. search needs)  -- larger-norm-requires
     (λ c. omega (arith, few (c .before .before .before .before .before)))  -- add-p
     (λ c. search needs)  -- loop-less
-    (λ c. (omega arith, rw fold-more (cc)))  -- loop-again
-    (λ c. cc (le-antisymm (c .before .loop .inv .0) (c .loop-test .left), largest-flat (c .before .before .before .before .args .rows) (c .before .before .before .before .args .columns) (seen (c .before .before .before .before .args .a .now) (c .before .before .before .before .args .b .now) (c .before .before .before .before .args .columns)))))  -- returns
+    (λ c. (omega arith, let m = c .before in let e = m .before in rw (c .larger-norm .ensures, m .minus .ensures, e .entry2 .ensures, e .before .entry .ensures, e .before .before .before .loop .inv .1, fold-more)))  -- loop-again
+    (λ c. c .before .loop .inv .1 ∙ rw (le-antisymm (c .before .loop .inv .0) (c .loop-test .left)) (largest-flat (c .before .before .before .before .args .rows) (c .before .before .before .before .args .columns) (seen (c .before .before .before .before .args .a .now) (c .before .before .before .before .args .b .now) (c .before .before .before .before .args .columns)))))  -- returns

@@ -54,5 +54,5 @@ largest-part-spec =
     (λ c κs. search needs)  -- max-requires
     (λ c. omega (arith, few (c .before .before .before .before)))  -- add-p
     (λ c. search needs)  -- loop-less
-    (λ c. (omega arith, rw fold-more (cc)))  -- loop-again
-    (λ c. cc (le-antisymm (c .before .loop .inv .0) (c .loop-test .left), largest-flat (c .before .before .before .args .size) (c .before .before .before .args .size) (seen (c .before .before .before .args .a .now) (c .before .before .before .args .size)))))  -- returns
+    (λ c. (omega arith, let m = c .before in rw (c .max .ensures, m .part-size .ensures, m .before .entry .ensures, m .before .before .before .loop .inv .1, fold-more)))  -- loop-again
+    (λ c. c .before .loop .inv .1 ∙ rw (le-antisymm (c .before .loop .inv .0) (c .loop-test .left)) (largest-flat (c .before .before .before .args .size) (c .before .before .before .args .size) (seen (c .before .before .before .args .a .now) (c .before .before .before .args .size)))))  -- returns

@@ -11,4 +11,4 @@ part-above-spec =
     (tie.spec
     (λ c κs. search needs)  -- abs-requires
     (λ c κs. search needs)  -- abs-requires-2
-    (λ c. cc))  -- returns
+    (λ c. rw (c .abs2 .ensures, c .before .abs .ensures)))  -- returns

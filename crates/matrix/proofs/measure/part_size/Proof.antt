@@ -1,4 +1,5 @@
 -- `matrix::measure::part_size` meets its contract, from its callees'. Assumes nothing.
+use mathlib.Core.Path.{_≡_, _∙_}
 use borrow.Author.Needs.{needs}
 use Rattle.matrix.specs.Operations.{partSize}
 use Rattle.matrix.proofs.measure.part_size.Statement.{statement}
@@ -12,4 +13,4 @@ part-size-spec =
     (λ c κs. search needs)  -- abs-requires
     (λ c κs. search needs)  -- abs-requires-2
     (λ c κs. search needs)  -- max-requires
-    (λ c. cc))  -- returns
+    (λ c. c .max .ensures ∙ rw (c .before .abs2 .ensures, c .before .before .abs .ensures)))  -- returns

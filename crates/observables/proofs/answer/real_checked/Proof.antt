@@ -1,5 +1,5 @@
 -- `observables::answer::real_checked` meets its contract: it asks 8, then 14. Assumes nothing.
-use mathlib.Core.Path.{refl, _∙_}
+use mathlib.Core.Path.{refl, _∙_, _≡_, sym}
 use borrow.Author.Needs.{needs}
 use Rattle.observables.specs.Answering.{observed-yes, observed-no}
 use Rattle.observables.proofs.answer.real_checked.Statement.{statement}
@@ -14,6 +14,6 @@ real-checked-spec =
     (λ c κs. search needs)  -- then-requires
     (λ c. search needs)  -- enum-known-verdict
     (λ c κs. search needs)  -- refused-requires
-    (λ c. c .refused .ensures ∙ observed-no _ _ (cc))  -- returns
+    (λ c. c .refused .ensures ∙ (let v = c .before .before in let t = v .before .before in observed-no _ _ (rw (t .before .valid-tolerance .ensures, t .before .before .real-within .ensures) at (sym (t .then .ensures)) ∙ v .verdict .given .1)))  -- returns
     (λ c. search needs)  -- enum-told
-    (λ c. observed-yes (cc) refl))  -- returns-2
+    (λ c. let t = c .before .before in observed-yes (rw (t .before .valid-tolerance .ensures, t .before .before .real-within .ensures) at (sym (t .then .ensures)) ∙ c .enum-told .given .1) refl))  -- returns-2

@@ -1,4 +1,5 @@
 -- `observables::lines::lesser_time_lines` meets its contract: its callees' answers in order. Assumes nothing.
+use mathlib.Core.Path.{_≡_, _∙_}
 use borrow.Author.Needs.{needs}
 use Rattle.observables.proofs.lines.lesser_time_lines.Statement.{statement}
 use Rattle.observables.proofs.lines.lesser_time_lines.Tie as tie
@@ -10,4 +11,4 @@ lesser-time-lines-spec =
     (λ c κs. search needs)  -- lesser-lines-requires
     (λ c κs. search needs)  -- time-below-requires
     (λ c κs. search needs)  -- then-requires
-    (λ c. cc))  -- returns
+    (λ c. c .then .ensures ∙ rw (c .before .time-below .ensures, c .before .before .lesser-lines .ensures)))  -- returns

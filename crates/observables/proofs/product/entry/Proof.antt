@@ -1,5 +1,5 @@
 -- `observables::product::entry` meets its contract: after k turns the sum has the first k terms of the product's entry. Assumes nothing.
-use mathlib.Core.Path.{_≡_, sym}
+use mathlib.Core.Path.{_≡_, sym, _∙_}
 use mathlib.Core.List.{List}
 use Prim.Native.Nat.{ℕ, _-_, _≤_}
 use native.Mathlib.Nat.{le-antisymm}
@@ -41,5 +41,5 @@ entry-spec =
     (λ c κs. search needs)  -- plus-requires
     (λ c. search needs)  -- add-k
     (λ c. search needs)  -- loop-less
-    (λ c. (omega arith, rw sum-more (cc)))  -- loop-again
-    (λ c. cc (le-antisymm (c .before .loop .inv .0) (c .loop-test .left))))  -- returns
+    (λ c. (omega arith, let t = c .before in rw (c .plus .ensures, t .times .ensures, t .before .entry .ensures, t .before .before .observable-entry .ensures, t .before .before .before .before .loop .inv .1, sum-more)))  -- loop-again
+    (λ c. c .before .loop .inv .1 ∙ rw (le-antisymm (c .before .loop .inv .0) (c .loop-test .left))))  -- returns

@@ -1,5 +1,5 @@
 -- `observables::product::trace` meets its contract: after a turns the sum has the first a entries of the diagonal. Assumes nothing.
-use mathlib.Core.Path.{_≡_, sym}
+use mathlib.Core.Path.{_≡_, sym, _∙_}
 use Prim.Native.Nat.{_-_, _≤_}
 use native.Mathlib.Nat.{le-antisymm}
 use native.Mathlib.Omega.{arith}
@@ -33,5 +33,5 @@ trace-spec =
     (λ c κs. search needs)  -- plus-requires
     (λ c. search needs)  -- add-a
     (λ c. search needs)  -- loop-less
-    (λ c. (omega arith, rw sum-more (cc)))  -- loop-again
-    (λ c. cc (le-antisymm (c .before .loop .inv .0) (c .loop-test .left))))  -- returns
+    (λ c. (omega arith, rw (c .plus .ensures, c .before .entry .ensures, c .before .before .before .loop .inv .1, sum-more)))  -- loop-again
+    (λ c. c .before .loop .inv .1 ∙ rw (le-antisymm (c .before .loop .inv .0) (c .loop-test .left))))  -- returns

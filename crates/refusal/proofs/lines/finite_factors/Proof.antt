@@ -1,4 +1,5 @@
 -- `refusal::lines::finite_factors` meets its contract: it asks the question of `finiteFactors`. Assumes nothing.
+use mathlib.Core.Path.{_≡_, _∙_}
 use borrow.Author.Needs.{needs}
 use Rattle.refusal.specs.Lines.{finiteFactors}
 use Rattle.refusal.proofs.lines.finite_factors.Statement.{statement}
@@ -6,4 +7,4 @@ use Rattle.refusal.proofs.lines.finite_factors.Tie as tie
 
 pub finite-factors-spec : {M : Type 1} → statement M
 unfolding finiteFactors
-finite-factors-spec = tie.close (tie.spec (λ c κs. search needs) (λ c κs. search needs) (λ c κs. search needs) (λ c. cc))
+finite-factors-spec = tie.close (tie.spec (λ c κs. search needs) (λ c κs. search needs) (λ c κs. search needs) (λ c. c .numbered .ensures ∙ rw (c .before .is-finite2 .ensures, c .before .before .is-finite .ensures)))

@@ -1,4 +1,5 @@
 -- `refusal::lines::valid_tolerance` meets its contract: it asks the question of `validTolerance`. Assumes nothing.
+use mathlib.Core.Path.{_≡_, _∙_}
 use borrow.Author.Needs.{needs}
 use Rattle.refusal.specs.Lines.{validTolerance}
 use Rattle.refusal.proofs.lines.valid_tolerance.Statement.{statement}
@@ -6,4 +7,4 @@ use Rattle.refusal.proofs.lines.valid_tolerance.Tie as tie
 
 pub valid-tolerance-spec : {M : Type 1} → statement M
 unfolding validTolerance
-valid-tolerance-spec = tie.close (tie.spec (λ c κs. search needs) (λ c κs. search needs) (λ c. cc))
+valid-tolerance-spec = tie.close (tie.spec (λ c κs. search needs) (λ c κs. search needs) (λ c. c .numbered .ensures ∙ rw (c .before .is-finite .ensures)))

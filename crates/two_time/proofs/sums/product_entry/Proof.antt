@@ -2,7 +2,9 @@
 -- Assumes nothing.
 use mathlib.Core.Path.{_≡_, sym, ap, ap₂, _∙_}
 use mathlib.Core.List.{List}
-use Prim.Native.Nat.{ℕ, _+_, _-_, _≤_}
+use Prim.Native.Nat.{ℕ, _+_, _-_, _*_, _≤_, _<_}
+use mir.Syntax.{w64}
+use mir.Val.{Fits}
 use native.Mathlib.Nat.{le-antisymm}
 use native.Mathlib.Omega.{arith}
 use lib.Ieee.{Float}
@@ -45,6 +47,29 @@ turn c =
     let s = start l in
     walked (s .args .factor) (s .pre .1 .0) (l .loop .k) (l .loop .j) (c .loop-test .taken) (l .loop .inv .3) (l .loop .i) _ (s .pre .0) (l .loop .inv .2) (l .before .right-step .ensures)
 
+-- the sizes of turn k, of plain numbers
+module _ (i : ℕ) {len : ℕ} (h : i + 1 < len) where
+  eight : len ≤ 33554432 → Fits w64 (i * 8)
+  eight m = omega arith
+
+  one : len ≤ 33554432 → Fits w64 (i + 1)
+  one m = omega arith
+
+  next-eight : len ≤ 33554432 → Fits w64 ((i + 1) * 8)
+  next-eight m = omega arith
+
+  onward : {s : ℕ} → s ≤ 32 → len ≤ 33554432 → Fits w64 (i + s)
+  onward a m = omega arith
+
+  two : len ≤ 33554432 → Fits w64 (i + 2)
+  two m = omega arith
+
+  at : {l : ℕ} → len ≤ l → i < l
+  at m = omega arith
+
+  at-next : {l : ℕ} → len ≤ l → i + 1 < l
+  at-next m = omega arith
+
 loop-again : tie.Need-loop-again Inv-loop μ-loop
 loop-again c =
     let r = c .before .before in
@@ -72,17 +97,17 @@ product-entry-spec =
     (λ c κs. let q = c .before .before .before .pre .1 .0 in entry-placed 0 _ q (omega (arith, q .row)) (q .column))  -- right-place-requires
     (λ c κs. c .before .before .before .before .pre .0 .orbitals-most)  -- right-step-requires
     (λ c. (omega arith, sym (sum-none czero _ 0), c .before .before .place .ensures .0, c .before .right-place .ensures))  -- loop-holds
-    (λ c. let t = turn c in omega arith)  -- mul-t19
-    (λ c. let t = turn (c .before) in omega (arith, start (c .before .before) .pre .1 .1 .0))  -- shared-slice-read-t21
-    (λ c. let t = turn (c .before) in omega arith)  -- add-t22
-    (λ c. let t = turn (c .before) in omega arith)  -- mul-t23
-    (λ c. let t = turn (c .before .before) in omega (arith, start (c .before .before .before) .pre .1 .1 .0))  -- shared-slice-read-t25
-    (λ c κs. let t = turn (c .before .before) in omega (arith, start (c .before .before .before) .pre .1 .1 .1))  -- right-number-requires
+    (λ c. let t = turn c in eight _ (t .left) (t .all))  -- mul-t19
+    (λ c. at _ (turn (c .before) .left) (start (c .before .before) .pre .1 .1 .0))  -- shared-slice-read-t21
+    (λ c. let t = turn (c .before) in one _ (t .left) (t .all))  -- add-t22
+    (λ c. let t = turn (c .before) in next-eight _ (t .left) (t .all))  -- mul-t23
+    (λ c. at-next _ (turn (c .before .before) .left) (start (c .before .before .before) .pre .1 .1 .0))  -- shared-slice-read-t25
+    (λ c κs. at-next _ (turn (c .before .before) .right) (start (c .before .before .before) .pre .1 .1 .1))  -- right-number-requires
     (λ c κs. search needs)  -- times-requires
     (λ c κs. search needs)  -- plus-requires
-    (λ c. let t = turn (c .before .before .before .before .before) in omega arith)  -- add-i
-    (λ c. let t = turn (c .before .before .before .before .before) in omega arith)  -- add-j
+    (λ c. let t = turn (c .before .before .before .before .before) in two _ (t .left) (t .all))  -- add-i
+    (λ c. let t = turn (c .before .before .before .before .before) in onward _ (t .right) (t .short) (t .all))  -- add-j
     (λ c. search needs)  -- add-k
     (λ c. search needs)  -- loop-less
     loop-again
-    (λ c. cc (le-antisymm (c .before .loop .inv .0) (c .loop-test .left))))  -- returns
+    (λ c. c .before .loop .inv .1 ∙ rw (le-antisymm (c .before .loop .inv .0) (c .loop-test .left))))  -- returns

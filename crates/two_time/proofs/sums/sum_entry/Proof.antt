@@ -54,13 +54,13 @@ returns : tie.Need-returns Inv-loop μ-loop
 returns c =
     let l = c .before .before in
     let x = start l .args in
-    fine (x .orbitals) (terms l) (x .a) (x .b) (l .before .loop .total) (whole l) (cc)
+    fine (x .orbitals) (terms l) (x .a) (x .b) (l .before .loop .total) (whole l) (rw (c .before .is-finite .ensures) at (c .if1 .taken))
 
 returns-2 : tie.Need-returns-2 Inv-loop μ-loop
 returns-2 c =
     let l = c .before .before in
     let x = start l .args in
-    over (x .orbitals) (terms l) (x .a) (x .b) (l .before .loop .total) (whole l) (cc)
+    over (x .orbitals) (terms l) (x .a) (x .b) (l .before .loop .total) (whole l) (rw (c .before .is-finite .ensures) at (c .if1 .left))
 
 pub sum-entry-spec : {M : Type 1} → statement M
 sum-entry-spec =

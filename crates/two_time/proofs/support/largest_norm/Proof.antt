@@ -56,4 +56,4 @@ largest-norm-spec =
     (λ c. (omega arith, rw fold-more (c .larger-norm .ensures ∙ ap₂ larger (c .before .before .before .loop .inv .1) (ap cnorm (c .before .entry .ensures)))))  -- loop-again
     (λ c.
     let x = c .before .before .before .args in
-    cc (le-antisymm (c .before .loop .inv .0) (c .loop-test .left), places-onward (x .largest) (c .before .before .before .pre .1 .1) (x .orbitals) (x .orbitals) (seen (x .xs .now) (x .stride) (x .orbitals) (x .t) (x .u)))))  -- returns
+    c .before .loop .inv .1 ∙ rw (le-antisymm (c .before .loop .inv .0) (c .loop-test .left)) (places-onward (x .largest) (c .before .before .before .pre .1 .1) (x .orbitals) (x .orbitals) (seen (x .xs .now) (x .stride) (x .orbitals) (x .t) (x .u)))))  -- returns

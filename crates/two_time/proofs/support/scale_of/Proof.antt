@@ -44,7 +44,7 @@ sizes c = let h = c .before .pre .0 in sized _ _ (h .1) (h .2)
 all : (c : tie.After-max Inv-loop μ-loop) → let x = c .before .before .before .before .args in c .before .before .loop .largest ≡ largestIn (x .points) (x .points) (seen (x .xs .now) (x .points) (x .orbitals))
 all c =
     let x = c .before .before .before .before .args in
-    cc (le-antisymm (c .before .before .loop .inv .0) (c .before .loop-test .left), largest-flat (x .points) (x .points) (seen (x .xs .now) (x .points) (x .orbitals)))
+    c .before .before .loop .inv .2 ∙ rw (le-antisymm (c .before .before .loop .inv .0) (c .before .loop-test .left)) (largest-flat (x .points) (x .points) (seen (x .xs .now) (x .points) (x .orbitals)))
 
 pub scale-of-spec : {M : Type 1} → statement M
 unfolding scaleOf
