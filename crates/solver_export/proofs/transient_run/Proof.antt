@@ -6,13 +6,19 @@ use Rattle.solver_export.specs.Telling.{solved-number}
 use Rattle.solver_export.proofs.transient_run.Statement.{statement}
 use Rattle.solver_export.proofs.transient_run.Tie as tie
 
+abbrev told : tie.After-slice-known12 → tie.After-tell
+told c = c .before .before .before .before
+
+abbrev ran : tie.After-slice-known12 → tie.After-transient-run
+ran c = told c .before .before .before .before .before .before .before .before .before .before .before .before
+
 returns : tie.Need-returns
 returns c =
     let t = c .before .before .before .before in
     let o = t .before .before .before in
     let v = o .before .before .before .before .before .before .before .before .before .transient-run .ensures in
-    let told = rw (o .solved-verdict .ensures ∙ ap solvedVerdict (v .0)) at (t .tell .ensures) in
-    (told .0 ∙ solved-number _, v .1, v .2, v .3, v .4, told .1, told .2)
+    let e = rw (o .solved-verdict .ensures ∙ ap solvedVerdict (v .0)) at (t .tell .ensures) in
+    (e .0 ∙ solved-number _, v .1, v .2, v .3, v .4, e .1, e .2)
 
 pub transient-run-spec : {M : Type 1} → statement M
 transient-run-spec =
@@ -21,10 +27,10 @@ transient-run-spec =
     (λ c κs. search needs)  -- transient-run-requires
     (λ c κs. search needs)  -- solved-verdict-requires
     (λ c κs. search needs)  -- tell-requires
-    (λ c. search needs)  -- same-length
-    (λ c. search needs)  -- same-length-2
-    (λ c. search needs)  -- same-length-3
-    (λ c. search needs)  -- same-length-4
-    (λ c. search needs)  -- same-length-5
-    (λ c. search needs)  -- same-length-6
+    (λ c. ran c .transient-run .kept .1 .1 .1 .1 .1 .1 .1 .0)  -- same-length
+    (λ c. ran c .transient-run .kept .1 .1 .1 .1 .1 .1 .1 .1 .0)  -- same-length-2
+    (λ c. ran c .transient-run .kept .1 .1 .1 .1 .1 .1 .1 .1 .1 .0)  -- same-length-3
+    (λ c. ran c .transient-run .kept .1 .1 .1 .1 .1 .1 .1 .1 .1 .1 .0)  -- same-length-4
+    (λ c. told c .tell .kept .1 .0)  -- same-length-5
+    (λ c. told c .tell .kept .1 .1 .0)  -- same-length-6
     returns)

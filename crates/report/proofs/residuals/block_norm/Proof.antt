@@ -1,5 +1,5 @@
 -- `report::residuals::block_norm` meets its contract: after a turns the first a rows of the block are seen. Assumes nothing.
-use mathlib.Core.Path.{_≡_, sym}
+use mathlib.Core.Path.{_≡_, sym, _∙_}
 use mathlib.Core.List.{List}
 use Prim.Native.Nat.{ℕ, _-_, _≤_}
 use native.Mathlib.Nat.{le-antisymm}
@@ -43,4 +43,4 @@ block-norm-spec =
     (λ c.
     let s = c .before .before .before .before .before .before in
     let x = s .args in
-    cc (le-antisymm (c .before .loop .inv .0) (c .loop-test .left), rows-onward (x .largest) (s .pre .0 .2) (x .orbitals) (x .orbitals) (seen (x .points) (x .orbitals) (x .retarded .now) (x .advanced .now) (x .lesser .now) (x .greater .now) (x .identity) (x .t) (x .u)))))  -- returns
+    c .before .loop .inv .1 ∙ rw (le-antisymm (c .before .loop .inv .0) (c .loop-test .left)) (rows-onward (x .largest) (s .pre .0 .2) (x .orbitals) (x .orbitals) (seen (x .points) (x .orbitals) (x .retarded .now) (x .advanced .now) (x .lesser .now) (x .greater .now) (x .identity) (x .t) (x .u)))))  -- returns

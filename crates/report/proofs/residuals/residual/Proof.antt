@@ -1,5 +1,5 @@
 -- `report::residuals::residual` meets its contract: after t turns the places of the first t times are seen. Assumes nothing.
-use mathlib.Core.Path.{_≡_, sym, subst}
+use mathlib.Core.Path.{_≡_, sym, subst, _∙_}
 use Prim.Native.Nat.{_-_, _≤_}
 use native.Mathlib.Nat.{le-antisymm}
 use native.Mathlib.Omega.{arith}
@@ -30,4 +30,4 @@ residual-spec =
     (λ c. search needs)  -- add-t
     (λ c. search needs)  -- loop-less
     (λ c. (omega arith, rows-more _ _ _ (c .before .before .loop .inv .1) (c .time-norm .ensures)))  -- loop-again
-    (λ c. cc (le-antisymm (c .before .loop .inv .0) (c .loop-test .left))))  -- returns
+    (λ c. c .before .loop .inv .1 ∙ rw (le-antisymm (c .before .loop .inv .0) (c .loop-test .left))))  -- returns

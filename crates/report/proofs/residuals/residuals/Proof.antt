@@ -8,12 +8,12 @@ pub residuals-spec : {M : Type 1} → statement M
 residuals-spec =
     tie.close
     (tie.spec
-    (λ c κs. search needs)  -- residual-requires
-    (λ c κs. search needs)  -- residual-requires-2
-    (λ c κs. search needs)  -- residual-requires-3
-    (λ c κs. search needs)  -- residual-requires-4
-    (λ c κs. search needs)  -- residual-requires-5
-    (λ c κs. search needs)  -- residual-requires-6
+    (λ c κs. c .before .before .before .before .pre)  -- residual-requires
+    (λ c κs. c .before .before .before .before .before .pre)  -- residual-requires-2
+    (λ c κs. c .before .before .before .before .before .before .pre)  -- residual-requires-3
+    (λ c κs. c .before .before .before .before .before .before .before .pre)  -- residual-requires-4
+    (λ c κs. c .before .before .before .before .before .before .before .before .pre)  -- residual-requires-5
+    (λ c κs. c .before .before .before .before .before .before .before .before .before .pre)  -- residual-requires-6
     (λ c.
     let g = c .before in
     let l = g .before in

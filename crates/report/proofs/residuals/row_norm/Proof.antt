@@ -1,5 +1,5 @@
 -- `report::residuals::row_norm` meets its contract: after b turns the first b entries of the row are seen. Assumes nothing.
-use mathlib.Core.Path.{_≡_, ap}
+use mathlib.Core.Path.{_≡_, ap, _∙_}
 use Prim.Native.Nat.{_-_, _≤_}
 use native.Mathlib.Nat.{le-antisymm}
 use native.Mathlib.Omega.{arith}
@@ -35,4 +35,4 @@ row-norm-spec =
     (λ c. search needs)  -- add-b
     (λ c. search needs)  -- loop-less
     (λ c. (omega arith, largest-more _ _ _ (c .before .before .before .loop .inv .1) (ap cnorm (c .before .deviation .ensures)) (c .larger-norm .ensures)))  -- loop-again
-    (λ c. cc (le-antisymm (c .before .loop .inv .0) (c .loop-test .left))))  -- returns
+    (λ c. c .before .loop .inv .1 ∙ rw (le-antisymm (c .before .loop .inv .0) (c .loop-test .left))))  -- returns

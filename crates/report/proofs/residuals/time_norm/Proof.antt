@@ -1,5 +1,5 @@
 -- `report::residuals::time_norm` meets its contract: after u turns the first u places are seen. Assumes nothing.
-use mathlib.Core.Path.{_≡_, refl, sym, subst}
+use mathlib.Core.Path.{_≡_, refl, sym, subst, _∙_}
 use Prim.Native.Nat.{_-_, _≤_}
 use native.Mathlib.Nat.{le-antisymm}
 use native.Mathlib.Omega.{arith}
@@ -34,4 +34,4 @@ time-norm-spec =
     (λ c. search needs)  -- add-u
     (λ c. search needs)  -- loop-less
     (λ c. (omega arith, largest-more _ _ _ (c .before .before .loop .inv .1) refl (c .place-norm .ensures)))  -- loop-again
-    (λ c. cc (le-antisymm (c .before .loop .inv .0) (c .loop-test .left))))  -- returns
+    (λ c. c .before .loop .inv .1 ∙ rw (le-antisymm (c .before .loop .inv .0) (c .loop-test .left))))  -- returns

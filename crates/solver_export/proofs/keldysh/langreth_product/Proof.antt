@@ -4,12 +4,18 @@ use borrow.Author.Needs.{needs}
 use Rattle.solver_export.proofs.keldysh.langreth_product.Statement.{statement}
 use Rattle.solver_export.proofs.keldysh.langreth_product.Tie as tie
 
+abbrev told : tie.After-slice-known12 → tie.After-tell
+told c = c .before .before .before .before
+
+abbrev made : tie.After-slice-known12 → tie.After-langreth-product
+made c = told c .before .before .before .before .before .before .before .before .before .before .before
+
 returns : tie.Need-returns
 returns c =
     let t = c .before .before .before .before in
     let v = t .before .before .before .before .before .before .before .before .before .before .before .langreth-product .ensures in
-    let told = rw (v .0) at (t .tell .ensures) in
-    (told .0, v .1, v .2, v .3, v .4, told .1, told .2)
+    let e = rw (v .0) at (t .tell .ensures) in
+    (e .0, v .1, v .2, v .3, v .4, e .1, e .2)
 
 pub langreth-product-spec : {M : Type 1} → statement M
 langreth-product-spec =
@@ -17,10 +23,10 @@ langreth-product-spec =
     (tie.spec
     (λ c κs. search needs)  -- langreth-product-requires
     (λ c κs. search needs)  -- tell-requires
-    (λ c. search needs)  -- same-length
-    (λ c. search needs)  -- same-length-2
-    (λ c. search needs)  -- same-length-3
-    (λ c. search needs)  -- same-length-4
-    (λ c. search needs)  -- same-length-5
-    (λ c. search needs)  -- same-length-6
+    (λ c. made c .langreth-product .kept .1 .1 .1 .1 .1 .1 .1 .1 .1 .1 .1 .0)  -- same-length
+    (λ c. made c .langreth-product .kept .1 .1 .1 .1 .1 .1 .1 .1 .1 .1 .1 .1 .0)  -- same-length-2
+    (λ c. made c .langreth-product .kept .1 .1 .1 .1 .1 .1 .1 .1 .1 .1 .1 .1 .1 .0)  -- same-length-3
+    (λ c. made c .langreth-product .kept .1 .1 .1 .1 .1 .1 .1 .1 .1 .1 .1 .1 .1 .1 .0)  -- same-length-4
+    (λ c. told c .tell .kept .1 .0)  -- same-length-5
+    (λ c. told c .tell .kept .1 .1 .0)  -- same-length-6
     returns)
