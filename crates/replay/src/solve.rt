@@ -126,16 +126,16 @@ pub(crate) fn print_transient(
     answers::output(digested, mixed);
 }
 
-// The transient run: times, free, both self-energies, then G^R, G^<, K and X.
-pub(crate) fn transient(points: usize, orbitals: usize, tolerance: f64) {
-    let mut times = [0.0; 1024];
-    let t = slice(&mut times);
-    let mut free = [0.0; 1024];
-    let f = slice(&mut free);
-    let mut sigma = [0.0; 1024];
-    let s = slice(&mut sigma);
-    let mut source = [0.0; 1024];
-    let e = slice(&mut source);
+// The outputs and the scratch: G^R, G^<, K and X.
+fn with_inputs(
+    times: &[f64],
+    free: &[f64],
+    sigma: &[f64],
+    source: &[f64],
+    points: usize,
+    orbitals: usize,
+    tolerance: f64,
+) {
     let mut green = [0.0; 1024];
     let g = slice(&mut green);
     let mut lesser = [0.0; 1024];
@@ -146,10 +146,10 @@ pub(crate) fn transient(points: usize, orbitals: usize, tolerance: f64) {
     let x = slice(&mut mixed);
     print_transient(
         false,
-        &times[..t],
-        &free[..f],
-        &sigma[..s],
-        &source[..e],
+        times,
+        free,
+        sigma,
+        source,
         points,
         orbitals,
         tolerance,
@@ -157,5 +157,26 @@ pub(crate) fn transient(points: usize, orbitals: usize, tolerance: f64) {
         &mut lesser[..l],
         &mut kernel[..k],
         &mut mixed[..x],
+    );
+}
+
+// The transient run: times, free, both self-energies, then what it leaves.
+pub(crate) fn transient(points: usize, orbitals: usize, tolerance: f64) {
+    let mut times = [0.0; 1024];
+    let t = slice(&mut times);
+    let mut free = [0.0; 1024];
+    let f = slice(&mut free);
+    let mut sigma = [0.0; 1024];
+    let s = slice(&mut sigma);
+    let mut source = [0.0; 1024];
+    let e = slice(&mut source);
+    with_inputs(
+        &times[..t],
+        &free[..f],
+        &sigma[..s],
+        &source[..e],
+        points,
+        orbitals,
+        tolerance,
     );
 }

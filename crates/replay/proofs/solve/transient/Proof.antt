@@ -17,29 +17,13 @@ transient-spec =
     (λ c κs. search needs)  -- slice-requires-3
     (λ c. search needs)  -- slice-aggregate-slice-4
     (λ c κs. search needs)  -- slice-requires-4
-    (λ c. search needs)  -- slice-aggregate-slice-5
-    (λ c κs. search needs)  -- slice-requires-5
-    (λ c. search needs)  -- slice-aggregate-slice-6
-    (λ c κs. search needs)  -- slice-requires-6
-    (λ c. search needs)  -- slice-aggregate-slice-7
-    (λ c κs. search needs)  -- slice-requires-7
-    (λ c. search needs)  -- slice-aggregate-slice-8
-    (λ c κs. search needs)  -- slice-requires-8
     (λ c. search needs)  -- array-share-prefix-times
-    (λ c. sym (length-take-le _ _ (search needs)))  -- slice-aggregate-print-transient
+    (λ c. sym (length-take-le _ _ (search needs)))  -- slice-aggregate-with-inputs
     (λ c. search needs)  -- array-share-prefix-free
-    (λ c. sym (length-take-le _ _ (search needs)))  -- slice-aggregate-print-transient-2
+    (λ c. sym (length-take-le _ _ (search needs)))  -- slice-aggregate-with-inputs-2
     (λ c. search needs)  -- array-share-prefix-sigma
-    (λ c. sym (length-take-le _ _ (search needs)))  -- slice-aggregate-print-transient-3
+    (λ c. sym (length-take-le _ _ (search needs)))  -- slice-aggregate-with-inputs-3
     (λ c. search needs)  -- array-share-prefix-source
-    (λ c. sym (length-take-le _ _ (search needs)))  -- slice-aggregate-print-transient-4
-    (λ c. search needs)  -- array-borrow-prefix-green
-    (λ c. sym (length-take-le _ _ (search needs)))  -- slice-aggregate-print-transient-5
-    (λ c. search needs)  -- array-borrow-prefix-lesser
-    (λ c. sym (length-take-le _ _ (search needs)))  -- slice-aggregate-print-transient-6
-    (λ c. search needs)  -- array-borrow-prefix-kernel
-    (λ c. sym (length-take-le _ _ (search needs)))  -- slice-aggregate-print-transient-7
-    (λ c. search needs)  -- array-borrow-prefix-mixed
-    (λ c. sym (length-take-le _ _ (search needs)))  -- slice-aggregate-print-transient-8
-    (λ c κs. search needs)  -- print-transient-requires
+    (λ c. sym (length-take-le _ _ (search needs)))  -- slice-aggregate-with-inputs-4
+    (λ c κs. search needs)  -- with-inputs-requires
     (λ c. search needs))  -- returns
