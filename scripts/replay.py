@@ -15,11 +15,11 @@ ROOT = pathlib.Path(__file__).resolve().parent.parent
 FOLDER = ROOT / "crates" / "replay"
 sys.path.insert(0, str(ROOT / "reference"))
 
-from replay_calls import blocks, convolutions, grids, limits, made, norms, observables, products, reports, solves
+from replay_calls import blocks, compositions, convolutions, grids, limits, made, norms, observables, products, reports, solves
 from replay_calls.answers import LEFT_OUT, line, refusal
 from replay_calls.calls import MADE, NAMES, QUESTIONS, words
 
-THEMES = [convolutions, solves, observables, reports, products, norms, blocks, grids, limits, made]
+THEMES = [convolutions, solves, observables, reports, products, norms, blocks, grids, limits, made, compositions]
 
 
 def calls_of(theme):

@@ -10,9 +10,9 @@ from document01 import (
     retarded_dyson_with_tolerance, retarded_support, scale, subtract, time_convolution, trace, transient_run,
 )
 from replay_calls.calls import (
-    ADD, ADJOINT, CAUSAL, CONSISTENT, DENSITY, DIFFERENCE, DYSON, DYSON_DEFAULT, EXPECTATION, FLOW, FROM_NUMBERS, FULL, GET,
-    HERMITIAN, IDENTITY, INFINITY, INTERVAL, LANGRETH, MADE, MOST_IN_BLOCK, MOST_STORED, MULTIPLY, NAN, NORM, NUMBER, REPORT,
-    RUN, SCALE, SUBTRACT, SUPPORT, TRACE, WEIGHTS,
+    ADD, ADJOINT, ADJOINT_PLUS, CAUSAL, CONSISTENT, DENSITY, DIFFERENCE, DYSON, DYSON_DEFAULT, EXPECTATION, FLOW, FROM_NUMBERS,
+    FULL, GET, HERMITIAN, IDENTITY, IDENTITY_TIMES, INFINITY, INTERVAL, LANGRETH, MADE, MOST_IN_BLOCK, MOST_STORED, MULTIPLY, NAN,
+    NORM, NUMBER, REPORT, RUN, SCALE, SUBTRACT, SUPPORT, TRACE, WEIGHTS,
 )
 
 # What the program has in each output of a Langreth product before the call.
@@ -164,6 +164,18 @@ def hermitian(call):
     return [answer(is_hermitian(lent_block(*call.slices), call.tolerance))]
 
 
+def identity_times(call):
+    _, unit = identity(*call.more)
+    return with_block(*product(unit, lent_block(*call.slices)))
+
+
+def adjoint_plus(call):
+    block = lent_block(*call.slices)
+    _, flipped = adjoint(block)
+    _, both = add(flipped, block)
+    return [answer(is_hermitian(both, call.tolerance))]
+
+
 def weighed_within(call):
     return [answer(interval_weight(call.points, *call.slices, *call.more))]
 
@@ -173,6 +185,7 @@ ANSWER = {function: (lambda call, outcome=outcome: with_slices(outcome(call))) f
     CONSISTENT: decided, NORM: normed, FROM_NUMBERS: built, IDENTITY: one_on_diagonal, ADJOINT: made_block(adjoint),
     SCALE: scaled, MULTIPLY: made_block(product), ADD: made_block(add), SUBTRACT: made_block(subtract), TRACE: measured(trace),
     GET: measured(entry), DIFFERENCE: measured(max_difference), HERMITIAN: hermitian, INTERVAL: weighed_within,
+    IDENTITY_TIMES: identity_times, ADJOINT_PLUS: adjoint_plus,
 }
 
 # ---- Calls whose numbers are made ----------------------------------------------

@@ -26,10 +26,13 @@ NAMES = [
     "retarded_dyson", "transient_run", "density_matrix", "particle_number", "one_body_expectation", "bond_flow_into",
     "consistency_report", "is_consistent", "langreth_product", "norm", "from_numbers", "identity", "adjoint", "scale",
     "multiply", "add", "subtract", "trace", "get", "max_difference", "is_hermitian", "full_weights", "interval_weight",
+    "identity_times", "adjoint_plus_is_hermitian",
 ]
 FULL, CAUSAL, SUPPORT, DYSON, DYSON_DEFAULT, RUN, DENSITY, NUMBER, EXPECTATION, FLOW = range(10)
 REPORT, CONSISTENT, LANGRETH, NORM, FROM_NUMBERS, IDENTITY, ADJOINT, SCALE = range(10, 18)
 MULTIPLY, ADD, SUBTRACT, TRACE, GET, DIFFERENCE, HERMITIAN, WEIGHTS, INTERVAL = range(18, 27)
+# Two compositions: the identity times a block, and whether the sum of a block and its adjoint is Hermitian.
+IDENTITY_TIMES, ADJOINT_PLUS = range(27, 29)
 # The questions of each function by their numbers, in their order; those of a report are followed by that of its decision.
 OF_FUNCTIONS = (1, 2, 3, 4, 5, 6, 7)
 OF_PAIRS = (1, 2, 3, 7)
@@ -40,7 +43,7 @@ QUESTIONS = {
     REPORT: (1, 2, 3, 7, 10, 8), CONSISTENT: (8,), LANGRETH: (*OF_FUNCTIONS, 10), NORM: (), FROM_NUMBERS: (1, 2, 3, 7),
     IDENTITY: (1, 2), ADJOINT: (1, 2, 7), SCALE: (1, 2, 7, 10), MULTIPLY: (*OF_PAIRS, 10), ADD: (*OF_PAIRS, 10),
     SUBTRACT: (*OF_PAIRS, 10), TRACE: (1, 2, 3, 7), GET: (1, 2, 7, 12), DIFFERENCE: OF_PAIRS, HERMITIAN: (1, 2, 7, 8),
-    WEIGHTS: (1, 2, 3, 4, 5, 6), INTERVAL: (1, 2, 3, 4, 5, 6, 11),
+    WEIGHTS: (1, 2, 3, 4, 5, 6), INTERVAL: (1, 2, 3, 4, 5, 6, 11), IDENTITY_TIMES: OF_PAIRS, ADJOINT_PLUS: (1, 8),
 }
 # Function k at a size that is too large to be stored has the number MADE + k: its numbers are made from a seed.
 MADE = 64

@@ -1,4 +1,5 @@
-// Functions 14 to 24: the operations on blocks. A block is rows, columns and a slice of its numbers; it holds NaNs beyond them.
+// Functions 14 to 24: the operations on blocks; 27 and 28: two compositions of them. A block is rows, columns and a slice of its
+// numbers; it holds NaNs beyond them.
 use crate::answers;
 use complex::Complex;
 use matrix::DenseMatrix;
@@ -50,12 +51,28 @@ fn get(a: DenseMatrix) {
     print_value(a.get(row, column));
 }
 
+// The identity times a block.
+fn identity_times(size: usize, b: DenseMatrix) {
+    let unit = DenseMatrix::identity(size);
+    let left = unit.block;
+    answers::block(left.multiply(b));
+}
+
+// The adjoint of a block plus the block.
+fn adjoint_plus(a: DenseMatrix) -> DenseMatrix {
+    let flipped = a.adjoint();
+    let left = flipped.block;
+    let made = left.add(a);
+    made.block
+}
+
 fn of_one(function: u64, a: DenseMatrix, tolerance: f64) {
     match function {
         16 => answers::block(a.adjoint()),
         17 => scale(a),
         21 => print_value(a.trace()),
         22 => get(a),
+        28 => show::decision(adjoint_plus(a).is_hermitian(tolerance)),
         _ => show::decision(a.is_hermitian(tolerance)),
     }
 }
@@ -69,13 +86,14 @@ fn of_two(function: u64, a: DenseMatrix, b: DenseMatrix) {
     }
 }
 
-// 15 has a size, 18 to 20 and 23 two blocks, 16, 17, 21, 22 and 24 one block first.
+// 15 has a size, 18 to 20 and 23 two blocks, 27 a size and a block, the others one block first.
 pub(crate) fn call(function: u64, tolerance: f64) -> bool {
     match function {
         14 => from_numbers(),
         15 => answers::block(DenseMatrix::identity(words::whole())),
         18 | 19 | 20 | 23 => of_two(function, block(), block()),
-        16 | 17 | 21 | 22 | 24 => of_one(function, block(), tolerance),
+        27 => identity_times(words::whole(), block()),
+        16 | 17 | 21 | 22 | 24 | 28 => of_one(function, block(), tolerance),
         _ => return false,
     }
     true

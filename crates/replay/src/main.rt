@@ -1,7 +1,8 @@
 // Runs the calls of a stored list (document 01), which stands on standard input. A word is 16 hexadecimal digits, a slice its length
 // and then the bits of its numbers. A call begins with four words: the function's number, points, orbitals and the tolerance's bits,
 // 0 where they do not concern the function. Each module says what follows: convolve (functions 0 to 2), solve (3 to 5), observe (6 to
-// 9), components (10 and 12), residuals (11), blocks (14 to 24), weights (25 and 26), made (64 + k). 13 is the norm of two numbers.
+// 9), components (10 and 12), residuals (11), blocks (14 to 24, 27 and 28), weights (25 and 26), made (64 + k). 13 is the norm of
+// two numbers.
 // One line to a call: its index, its answer, and each output and scratch slice afterwards.
 mod answers;
 mod blocks;

@@ -33,6 +33,8 @@ pub fn answer(function: u64, x: &mut Inputs) -> String {
         24 => answered(judge::is_hermitian(&x.block(), x.tolerance), decided),
         25 => full_weights(x),
         26 => interval_weight(x),
+        27 => identity_times(x),
+        28 => answered(adjoint_plus_is_hermitian(x), decided),
         function => panic!("no function {function}"),
     }
 }
@@ -111,6 +113,22 @@ fn langreth_product(x: &mut Inputs) -> String {
 fn pair(x: &mut Inputs, judged: fn(&Block, &Block) -> Answer<Block>) -> String {
     let (left, right) = (x.block(), x.block());
     block(judged(&left, &right))
+}
+
+/// The block that an operation made, or the one beside its refusal.
+fn made(answer: Answer<Block>) -> Block {
+    answer.unwrap_or_else(|_| Block::empty())
+}
+
+fn identity_times(x: &mut Inputs) -> String {
+    let unit = made(judge::identity(x.place()));
+    block(judge::multiply(&unit, &x.block()))
+}
+
+fn adjoint_plus_is_hermitian(x: &mut Inputs) -> Answer<bool> {
+    let lent = x.block();
+    let flipped = made(judge::adjoint(&lent));
+    judge::is_hermitian(&made(judge::add(&flipped, &lent)), x.tolerance)
 }
 
 fn full_weights(x: &mut Inputs) -> String {
