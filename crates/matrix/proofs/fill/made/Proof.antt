@@ -1,7 +1,8 @@
 -- `matrix::fill::made` meets its contract, by the operation that the match found. Assumes nothing.
-use mathlib.Core.Path.{_≡_}
+use mathlib.Core.Path.{_≡_, ap₂, _∙_}
 use borrow.Author.Needs.{needs}
 use borrow.Author.Tests.{eq-eqb, ne-eqb}
+use Rattle.complex.specs.Arithmetic.{cadd, csub}
 use Rattle.matrix.specs.Operations.{scaled, added, subtracted, adjoint, identity}
 use Rattle.matrix.specs.Made.{madeBy}
 use Rattle.matrix.proofs.fill.made.Statement.{statement}
@@ -37,5 +38,5 @@ made-spec =
     (λ c. rw (c .before .before .enum-told3 .given .1, c .conj .ensures, c .before .entry2 .ensures))  -- returns-4
     (λ c. rw (c .before .enum-told4 .given .1) (c .dot .ensures))  -- returns-5
     (λ c. rw (c .before .before .before .op .given .1, c .times .ensures, c .before .entry3 .ensures))  -- returns-6
-    (λ c. rw (c .before .before .before .enum-told5 .given .1, c .plus .ensures, c .before .entry5 .ensures, c .before .before .entry4 .ensures))  -- returns-7
-    (λ c. rw (c .before .before .before .enum-told6 .given .1, c .minus .ensures, c .before .entry7 .ensures, c .before .before .entry6 .ensures)))  -- returns-8
+    (λ c. rw (c .before .before .before .enum-told5 .given .1) (c .plus .ensures ∙ ap₂ cadd (c .before .before .entry4 .ensures) (c .before .entry5 .ensures)))  -- returns-7
+    (λ c. rw (c .before .before .before .enum-told6 .given .1) (c .minus .ensures ∙ ap₂ csub (c .before .before .entry6 .ensures) (c .before .entry7 .ensures))))  -- returns-8

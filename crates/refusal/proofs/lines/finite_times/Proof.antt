@@ -1,5 +1,8 @@
 -- `refusal::lines::finite_times` meets its contract: all are finite where the search reaches the end. Assumes nothing.
+use mathlib.Core.Path.{ap, _∙_}
+use mathlib.Core.Bool.{Bool}
 use borrow.Author.Needs.{needs}
+use Rattle.refusal.specs.Verdict.{ask, by}
 use Rattle.refusal.specs.Lines.{finiteTimes}
 use Rattle.refusal.specs.Search.{prefix-all}
 use Rattle.refusal.proofs.lines.finite_times.Statement.{statement}
@@ -12,4 +15,4 @@ finite-times-spec =
     (tie.spec
     (λ c κs. search needs)  -- finite-prefix-requires
     (λ c κs. search needs)  -- numbered-requires
-    (λ c. rw (c .numbered .ensures, prefix-all _ _ _ (c .before .finite-prefix .ensures))))  -- returns
+    (λ c. c .numbered .ensures ∙ ap (λ (yes : Bool). ask yes (by 4)) (prefix-all _ _ _ (c .before .finite-prefix .ensures))))  -- returns
