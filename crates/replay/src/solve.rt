@@ -126,7 +126,7 @@ pub(crate) fn print_transient(
     answers::output(digested, mixed);
 }
 
-// The outputs and the scratch: G^R, G^<, K and X.
+// Reads what the run leaves, G^R, G^<, K and X, and runs.
 fn with_inputs(
     times: &[f64],
     free: &[f64],
