@@ -1,6 +1,6 @@
 // Complex numbers of two binary64 parts, by value (document 01, "Arithmetic under everything").
 ghost use mathlib.Core.Path.{_≡_};
-ghost use Rattle.complex.specs.Arithmetic.{finite, size, larger, cadd, csub, cmul, conj, cfinite};
+ghost use Rattle.complex.specs.Arithmetic.{real, finite, size, larger, cadd, csub, cmul, conj, cfinite};
 
 pub struct Complex {
     pub re: f64,
@@ -47,6 +47,13 @@ impl Complex {
         ensures { λ r. ⌜ r ≡ record { re = re; im = im } ⌝ }
     {
         Complex { re, im }
+    }
+
+    // x+0i.
+    pub fn real(x: f64) -> Complex
+        ensures { λ r. ⌜ r ≡ real x ⌝ }
+    {
+        Complex::new(x, 0.0)
     }
 
     pub fn plus(self, other: Complex) -> Complex
