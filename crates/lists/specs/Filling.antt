@@ -5,7 +5,7 @@ use Prim.Native.Nat.{ℕ, zero, suc, _+_, _-_, _*_, _≤_, _<_}
 use native.Mathlib.Nat.{le-refl, not-suc-le-zero, le-of-suc-le-suc, sub-zero, suc-sub-suc, zero-sub, le-of-lt, min-eq-left}
 use native.Mathlib.Omega.{arith}
 use native.Mathlib.Numerals.{add-one}
-use lib.ListN.{length, getD, take, drop, set, replicate, length-append, length-take, length-drop, drop-of-length-le}
+use lib.ListN.{length, getD, take, drop, set, replicate, length-append, length-take, drop-of-length-le}
 use lib.Seq.{take-suc, take-at, drop-at, drop-drop}
 use borrow.Rule.Slice.PartMut.{putMid}
 
@@ -17,10 +17,6 @@ module _ {A : Type 0} where
   pub over-none : (d : List A) → over d [] ≡ d
   unfolding over
   over-none d = refl
-
-  pub length-over : (d xs : List A) → length xs ≤ length d → length (over d xs) ≡ length d
-  unfolding over
-  length-over d xs h = simp (length-append, length-drop) (omega arith)
 
   -- a write just past what is written
   over-next : (xs d : List A) (a : A) → length xs < length d → set (over d xs) (length xs) a ≡ over d (xs ++ (a ∷ []))

@@ -1,6 +1,6 @@
 // Refusals by the numbers of document 01, "Questions in order", and the answers that carry them.
 ghost use mathlib.Core.Path.{_≡_};
-ghost use Rattle.refusal.specs.Verdict.{by, _then_, numberOf};
+ghost use Rattle.refusal.specs.Verdict.{by, _then_};
 
 pub mod lines;
 
@@ -59,16 +59,6 @@ impl Verdict {
         match self {
             Verdict::Pass => later,
             Verdict::Refused(r) => Verdict::Refused(r),
-        }
-    }
-
-    // The refusal's number, and 0 where there is none.
-    pub fn number(self) -> u8
-        ensures { λ r. ⌜ r ≡ numberOf self ⌝ }
-    {
-        match self {
-            Verdict::Pass => 0,
-            Verdict::Refused(r) => r.number,
         }
     }
 }
