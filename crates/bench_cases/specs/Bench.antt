@@ -1,12 +1,12 @@
 -- Document 01, "Bench cases (P is proved)". Assumes nothing.
-use mathlib.Core.Path.{_≡_, refl, ap}
-use mathlib.Core.Bool.{true, false}
-use mathlib.Core.List.{List, [], _∷_, map}
-use Prim.Native.Nat.{ℕ, _+_, _-_, _*_, _^_}
-use lib.ListN.{length, replicate}
+use mathlib.Core.Path.{_≡_, refl}
+use mathlib.Core.Bool.{false}
+use mathlib.Core.List.{List, [], _∷_}
+use Prim.Native.Nat.{suc, _+_, _-_, _*_, _^_}
+use lib.ListN.{replicate}
 use lib.Ieee as Ieee
 use lib.Ieee.{Float, inf, binary64, ofBits, toBits}
-use Rattle.lists.specs.Indexed.{fold, join, allBelow}
+use Rattle.lists.specs.Indexed.{fold, allBelow}
 use Rattle.complex.specs.declared.Complex.{Complex}
 use Rattle.complex.specs.Arithmetic.{plusZero, one, finite, size, larger, real, cadd, cmul}
 use Rattle.complex.specs.Sum.{sumFrom, largestFrom, largestIn}
@@ -20,14 +20,14 @@ use Rattle.grid.specs.Calls.{timeLines, gridLines, checkTimes}
 use Rattle.two_time.specs.Layout.{readAs}
 use Rattle.two_time.specs.Support.{scaleOf, residual, retarded}
 use Rattle.two_time.specs.Calls.{allLong, sizeLines, operandLines, inputLines, checkSupport}
-use Rattle.dyson.specs.Calls.{defaultTolerance, supportLines, greenFine, dysonVerdict, dysonWithTolerance, dyson}
+use Rattle.dyson.specs.Calls.{defaultTolerance, greenFine, dysonVerdict, dysonWithTolerance, dyson}
 use Rattle.two_time.specs.Example.{floats}
 use Rattle.transient_run.specs.declared.Solved.the-variants.{Accepted}
 use Rattle.transient_run.specs.Calls.{transientRun}
 use Rattle.transient_run.specs.P12 as P12
 use Rattle.observables.specs.declared.Observed.the-variants.{Number, NotReal}
 use Rattle.observables.specs.Density.{density}
-use Rattle.observables.specs.Calls.{observed, lesserLines, particleNumber}
+use Rattle.observables.specs.Calls.{observedNumber, observed, lesserLines, particleNumber}
 use Rattle.run_file.specs.Program.{printed}
 use Rattle.run_file.specs.P12 as File
 use Rattle.bench_cases.specs.Printing.{retarded-inputs, prints}
@@ -49,6 +49,9 @@ pub record BenchCases : Type 0 where
   pub p4 : norm largest largest ≡ inf false
   -- "P5 norm(2^53 − 2^26 − 1, 6·2^50 + 6·2^25): the root is 10·2^50 + 2^26 + 1, a tie; the norm is 10·2^50 + 2^26."
   pub p5-root : (2 ^ 53 - 2 ^ 26 - 1) ^ 2 + (6 * 2 ^ 50 + 6 * 2 ^ 25) ^ 2 ≡ (10 * 2 ^ 50 + 2 ^ 26 + 1) ^ 2
+  -- the root lies midway between two numbers, which are neighbours: their bits are successive
+  pub p5-tie : 2 * (10 * 2 ^ 50 + 2 ^ 26 + 1) ≡ (10 * 2 ^ 50 + 2 ^ 26) + (10 * 2 ^ 50 + 2 ^ 26 + 2)
+  pub p5-beside : toBits binary64 (whole (10 * 2 ^ 50 + 2 ^ 26 + 2)) ≡ suc (toBits binary64 (whole (10 * 2 ^ 50 + 2 ^ 26)))
   pub p5 : norm (whole (2 ^ 53 - 2 ^ 26 - 1)) (whole (6 * 2 ^ 50 + 6 * 2 ^ 25)) ≡ whole (10 * 2 ^ 50 + 2 ^ 26)
   -- "P6 times 0,0: 5 at 1. P7 times −largest, largest: 6."
   pub p6 : checkTimes 2 (whole 0 ∷ whole 0 ∷ []) ≡ Refused (record { number = 5; operand = 0; first = 1; second = 0; part = plusZero })
@@ -62,6 +65,7 @@ pub record BenchCases : Type 0 where
   -- "P10 imaginary 0.5, tolerance 0.5: a number; 0.75: 14."
   pub p10-number : particleNumber 2 1 (lesserWith half) 0 half ≡ Number (whole 2)
   pub p10-refused : particleNumber 2 1 (lesserWith threeQuarters) 0 half ≡ NotReal threeQuarters
+  pub p10-answers : observedNumber (particleNumber 2 1 (lesserWith half) 0 half) ∷ observedNumber (particleNumber 2 1 (lesserWith threeQuarters) 0 half) ∷ [] ≡ 0 ∷ 14 ∷ []
   -- "P11 times 0,1,2, n=1, free and self-energy 1 on and below the diagonal, +0 above: K(2,0) = 2, G(1,0) = 1.5, G(2,0) = 3.5."
   pub p11-answer : dyson 3 1 P12.times P12.lower P12.lower before before .answer ≡ Pass
   pub p11-kernel : entry (dyson 3 1 P12.times P12.lower P12.lower before before .kernel) 2 0 ≡ real (whole 2)
@@ -92,7 +96,7 @@ run-outcome : transientRun (P12.run defaultTolerance before)
 run-outcome = P12.outcome defaultTolerance before refl retarded-inputs
 
 pub bench-cases : BenchCases
-unfolding norm checkTimes gridLines timeLines checkSupport sizeLines allLong operandLines largeEnough withinLimits fitting finiteTimes risingTimes finiteWeights finiteEntries validTolerance retarded retardedAt residual scaleOf timeBelow realWithin ask askAll _then_ fullWeight halfStep allBelow particleNumber observed lesserLines trace density sumFrom largestNorm largestIn largestFrom fold larger size cadd cmul finite Ieee.ofInt Ieee.ofBits Ieee.neg Ieee.add Ieee.sub Ieee.mul Ieee.div Ieee.lt Ieee.ne Ieee.eq
+unfolding norm checkTimes gridLines timeLines checkSupport sizeLines allLong operandLines largeEnough withinLimits fitting finiteTimes risingTimes finiteWeights finiteEntries validTolerance retarded retardedAt residual scaleOf timeBelow realWithin ask askAll _then_ fullWeight halfStep allBelow particleNumber observed observedNumber lesserLines trace density sumFrom largestNorm largestIn largestFrom fold larger size cadd cmul finite Ieee.ofInt Ieee.ofBits toBits Ieee.neg Ieee.add Ieee.sub Ieee.mul Ieee.div Ieee.lt Ieee.ne Ieee.eq
 bench-cases =
     record {
       p1 = refl;
@@ -100,6 +104,8 @@ bench-cases =
       p3 = refl;
       p4 = refl;
       p5-root = refl;
+      p5-tie = refl;
+      p5-beside = refl;
       p5 = refl;
       p6 = refl;
       p7 = refl;
@@ -109,6 +115,7 @@ bench-cases =
       p9 = refl;
       p10-number = refl;
       p10-refused = refl;
+      p10-answers = refl;
       p11-answer = rw dyson-outcome;
       p11-kernel = rw dyson-outcome;
       p11-first = rw dyson-outcome;

@@ -28,9 +28,9 @@ threeQuarters = ofBits binary64 0x3fe8_0000_0000_0000
 abbrev pub above : Float → List Float
 above x = one ∷ plusZero ∷ x ∷ plusZero ∷ plusZero ∷ plusZero ∷ one ∷ plusZero ∷ []
 
--- P9: "entry (1,0) with both parts largest, entry (0,1) 1", the diagonal +0
+-- P9: "entry (1,0) with both parts largest, entry (0,1) 1"; N, n and the diagonal are P8's
 abbrev pub huge : List Float
-huge = plusZero ∷ plusZero ∷ one ∷ plusZero ∷ largest ∷ largest ∷ plusZero ∷ plusZero ∷ []
+huge = one ∷ plusZero ∷ one ∷ plusZero ∷ largest ∷ largest ∷ one ∷ plusZero ∷ []
 
 -- P10: a lesser function with −x + 2i at (0,0), whose density is 2 + xi
 abbrev pub lesserWith : Float → List Float

@@ -1,12 +1,9 @@
 -- P12's run file makes the program print P12's text: the file passes, its run is P12's, and the text is that of the run's numbers. Assumes
 -- nothing.
 use mathlib.Core.Path.{_≡_, refl}
-use mathlib.Core.Bool.{true, false, _&&_}
-use mathlib.Core.List.{List, [], _∷_, _++_, map}
-use Prim.Native.Nat.{ℕ, zero, suc}
 use lib.ListN.{replicate}
 use lib.Ieee as Ieee
-use lib.Ieee.{binary64, toBits}
+use lib.Ieee.{toBits}
 use Rattle.lists.specs.Indexed.{fold, join}
 use Rattle.complex.specs.Arithmetic.{plusZero, finite, size, larger, cadd, cmul}
 use Rattle.complex.specs.Sum.{sumFrom, largestFrom, largestIn}
