@@ -1,9 +1,9 @@
 -- Observables asked of the lesser functions that two runs left: where the functions agree at the index, the answers are the same.
 -- Assumes nothing.
 use mathlib.Core.Path.{_≡_, refl, sym, ap, ap₂, _∙_}
-use mathlib.Core.Bool.{Bool, true, false, _&&_}
-use mathlib.Core.List.{List, [], _∷_}
-use Prim.Native.Nat.{ℕ, zero, suc, _+_, _*_, _/_, _%_, _≤_, _<_}
+use mathlib.Core.Bool.{true, _&&_}
+use mathlib.Core.List.{List}
+use Prim.Native.Nat.{ℕ, zero, suc, _+_, _*_, _/_, _%_, _<_}
 use native.Mathlib.Nat.{div-add-mod', mod-lt, div-lt-iff-lt-mul, mul-zero}
 use native.Mathlib.Decide.{decLt}
 use native.Mathlib.Omega.{arith}
@@ -11,7 +11,6 @@ use lib.Dec.{ltb, eqb}
 use lib.ListN.{length, getD}
 use lib.Ieee.{Float, nan, binary64, ofBits}
 use borrow.Author.Tests.{lt-ltb, ltb-true, eq-eqb, eqb-true}
-use Rattle.lists.specs.Indexed.{allBelow}
 use Rattle.lists.specs.Agreement.{both, all-agree}
 use Rattle.complex.specs.declared.Complex.{Complex}
 use Rattle.complex.specs.Arithmetic.{plusZero, mul, finite, cfinite, cmul, minusI}
@@ -20,7 +19,7 @@ use Rattle.refusal.specs.declared.Verdict.{Verdict}
 use Rattle.refusal.specs.declared.Verdict.the-variants.{Pass, Refused}
 use Rattle.refusal.specs.Verdict.{by, ask, _then_, askAll}
 use Rattle.refusal.specs.Agreement.{ask-pass, ask-yes, then-pass, then-agree, all-asked, asked-agree}
-use Rattle.refusal.specs.Lines.{largeEnough, notEmpty, withinLimits, withinBlock, fitting, finiteEntries, validTolerance, finiteWork, timeBelow, orbitalBelow, finiteFactors, realWithin}
+use Rattle.refusal.specs.Lines.{largeEnough, withinLimits, fitting, finiteEntries, timeBelow, orbitalBelow, finiteFactors}
 use Rattle.matrix.specs.declared.DenseMatrix.{DenseMatrix}
 use Rattle.matrix.specs.Block.{Entries, entriesOf, countOf}
 use Rattle.matrix.specs.Operations.{product, trace, allFinite}
@@ -29,7 +28,6 @@ use Rattle.two_time.specs.Layout.{TwoTime, readAs, lengthOf, layOutAll}
 use Rattle.two_time.specs.Reading.{length-all, read-back}
 use Rattle.two_time.specs.Finite.{numbers-finite}
 use Rattle.two_time.specs.Calls.{allLong, sizeLines, operandLines}
-use Rattle.observables.specs.declared.Observed.{Observed}
 use Rattle.observables.specs.Density.{density}
 use Rattle.observables.specs.Calls.{observed, lesserLines, lesserBlockLines, particleNumber, oneBodyExpectation, bondFlowInto}
 use Rattle.causality.specs.Statement.{SameBlock}

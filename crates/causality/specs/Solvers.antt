@@ -1,26 +1,24 @@
 -- A solver that asks the run's questions and leaves two functions of places meets demand 3 where those functions read no later data.
 -- Assumes nothing.
-use mathlib.Core.Path.{_≡_, refl, sym, ap, subst, _∙_}
-use mathlib.Core.Bool.{Bool, true, false, _&&_}
+use mathlib.Core.Path.{_≡_, refl, sym, subst, _∙_}
+use mathlib.Core.Bool.{true}
 use mathlib.Core.List.{List, [], _∷_}
-use Prim.Native.Nat.{ℕ, zero, suc, _+_, _≤_, _<_}
-use native.Mathlib.Nat.{le-trans}
+use Prim.Native.Nat.{ℕ, _≤_, _<_}
 use native.Mathlib.Omega.{arith}
-use lib.Ieee.{Float, nan}
-use Rattle.complex.specs.declared.Complex.{Complex}
+use lib.Ieee.{Float}
 use Rattle.complex.specs.Arithmetic.{czero, cfinite}
 use Rattle.refusal.specs.declared.Verdict.{Verdict}
 use Rattle.refusal.specs.declared.Verdict.the-variants.{Pass, Refused}
-use Rattle.refusal.specs.Verdict.{_then_, afterwards}
+use Rattle.refusal.specs.Verdict.{afterwards}
 use Rattle.refusal.specs.Agreement.{then-pass}
 use Rattle.refusal.specs.Lines.{largeEnough, withinLimits}
 use Rattle.matrix.specs.Agreement.{Agree}
 use Rattle.two_time.specs.Layout.{TwoTime, readAs, layOutAll}
 use Rattle.two_time.specs.Reading.{read-back}
 use Rattle.two_time.specs.Calls.{sizeLines, inputLines}
-use Rattle.transient_run.specs.declared.Solved.the-variants.{Accepted, Refused as NotSolved}
-use Rattle.transient_run.specs.Calls.{Run, Outcome, solved, runVerdict}
-use Rattle.causality.specs.Statement.{Solver, of, SameTo, SameBlock, SameRows, ZeroAbove, Demand3}
+use Rattle.transient_run.specs.declared.Solved.the-variants.{Accepted}
+use Rattle.transient_run.specs.Calls.{Run, solved, runVerdict}
+use Rattle.causality.specs.Statement.{Solver, SameTo, SameRows, ZeroAbove, Comparable, Demand3}
 use Rattle.causality.specs.Stages.{RowsTo, SquareTo}
 use Rattle.causality.specs.Asked.{Left, particles-agree, expectations-agree, flows-agree}
 
@@ -96,17 +94,19 @@ module _ (g l : Run → TwoTime) (kernel mixed : Run → List Float) (reads : Re
 
   -- two accepted runs with one n
   Blind : Run → Run → Type 0
-  Blind r r' = (k : ℕ) → k < r .points → k < r' .points → solver r .answer ≡ Accepted → solver r' .answer ≡ Accepted → SameTo k r r' → SameRows k r r' (solver r) (solver r')
+  Blind r r' = (k : ℕ) → Comparable k r r' (solver r .answer ≡ Accepted) (solver r' .answer ≡ Accepted) → SameRows k r r' (solver r) (solver r')
 
   one-n : (r r' : Run) → Blind r (told r' (r .orbitals))
   unfolding Blind solverOf
-  one-n r r₀ k hk hk' acc acc' same =
+  one-n r r₀ k c =
       let r' = told r₀ (r .orbitals) in
-      let v : runVerdict r ≡ Pass = accepted (runVerdict r) acc in
-      let v' : runVerdict r' ≡ Pass = accepted (runVerdict r') acc' in
+      let hk : k < r .points = c .within in
+      let hk' : k < r' .points = c .within' in
+      let v : runVerdict r ≡ Pass = accepted (runVerdict r) (c .accepted) in
+      let v' : runVerdict r' ≡ Pass = accepted (runVerdict r') (c .accepted') in
       let n = r .orbitals in
-      let rows : RowsTo n k (g r) (g r') = reads .retarded k r r₀ hk hk' same in
-      let square : SquareTo n k (l r) (l r') = reads .lesser k r r₀ hk hk' same in
+      let rows : RowsTo n k (g r) (g r') = reads .retarded k r r₀ hk hk' (c .same) in
+      let square : SquareTo n k (l r) (l r') = reads .lesser k r r₀ hk hk' (c .same) in
       let below : (t : ℕ) → t ≤ k → t < r .points = λ t ht. omega arith in
       let below' : (t : ℕ) → t ≤ k → t < r' .points = λ t ht. omega arith in
       rw (left-made (runVerdict r) _ (r .retarded) v, left-made (runVerdict r') _ (r' .retarded) v', left-made (runVerdict r) _ (r .lesser) v, left-made (runVerdict r') _ (r' .lesser) v')
@@ -118,12 +118,16 @@ module _ (g l : Run → TwoTime) (kernel mixed : Run → List Float) (reads : Re
         flows = λ t a b hopping charge ht. flows-agree n (r .points) (r' .points) (l r) (l r') (left r v) (left r' v') t (below t ht) (below' t ht) (square t t ht ht) a b hopping charge;
       })
 
+  blind : (r r' : Run) → Blind r r'
+  unfolding Blind
+  blind r r' k c = equal-n Blind one-n r r' (c .same .orbitals) k c
+
+  zero-above : (r : Run) → solver r .answer ≡ Accepted → ZeroAbove (r .points) (r .orbitals) (solver r .retarded)
+  unfolding solverOf
+  zero-above r acc t u a b less hu ha hb =
+      rw (left-made (runVerdict r) _ (r .retarded) (accepted (runVerdict r) acc))
+      (read-back (r .orbitals) (r .points) (g r) t u a b (omega arith) hu ha hb ∙ reads .above r t u a b less)
+
   pub meets : Demand3 solver
-  unfolding Blind solverOf
-  meets =
-      record {
-        blind = λ k r r' hk hk' acc acc' same. equal-n Blind one-n r r' (same .orbitals) k hk hk' acc acc' same;
-        above = λ r acc t u a b less hu ha hb.
-            let v : runVerdict r ≡ Pass = accepted (runVerdict r) acc in
-            rw (left-made (runVerdict r) _ (r .retarded) v) (read-back (r .orbitals) (r .points) (g r) t u a b (omega arith) hu ha hb ∙ reads .above r t u a b less);
-      }
+  unfolding Blind
+  meets r r' = record { blind = blind r r'; above = zero-above r; above' = zero-above r' }

@@ -1,23 +1,19 @@
 -- Each stage of a run reads only what stands on and below the diagonal in rows to k, or with both indices to k: the four sums, by one lemma.
 -- Assumes nothing.
 use mathlib.Core.Path.{_≡_, refl}
-use mathlib.Core.Bool.{true, false}
 use mathlib.Core.List.{List}
-use Prim.Native.Nat.{ℕ, zero, suc, _+_, _-_, _≤_, _<_}
+use Prim.Native.Nat.{ℕ, zero, suc, _≤_}
 use native.Mathlib.Nat.{le-trans}
 use native.Mathlib.Omega.{arith}
 use lib.Dec.{ltb}
 use lib.Ieee.{Float}
 use borrow.Author.Tests.{ltb-false}
 use Rattle.lists.specs.Agreement.{cond-agree}
-use Rattle.matrix.specs.Block.{Entries}
-use Rattle.matrix.specs.Operations.{adjoint}
 use Rattle.matrix.specs.Agreement.{Agree, adjoint-agree}
 use Rattle.grid.specs.Weights.{intervalWeight}
 use Rattle.grid.specs.Agreement.{AgreeTo, weight-agree}
 use Rattle.two_time.specs.Layout.{TwoTime}
-use Rattle.two_time.specs.WeightedSum.{Terms, weightedSum}
-use Rattle.two_time.specs.Agreement.{AgreeTerms, weighted-agree}
+use Rattle.two_time.specs.Agreement.{weighted-agree}
 use Rattle.two_time.specs.Convolutions.{causalTerms, causal}
 use Rattle.dyson.specs.Retarded.{dysonTerms, solve, retardedGreen}
 use Rattle.transient_run.specs.Lesser.{mixedTerms, mixed, lesserTerms, lesserGreen}

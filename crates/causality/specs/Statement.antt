@@ -2,15 +2,16 @@
 use mathlib.Core.Path.{_≡_}
 use mathlib.Core.List.{List}
 use Prim.Native.Nat.{ℕ, _≤_, _<_}
-use lib.ListN.{getD}
-use lib.Ieee.{Float, nan}
+use lib.Ieee.{Float}
 use Rattle.complex.specs.declared.Complex.{Complex}
 use Rattle.complex.specs.Arithmetic.{czero}
+use Rattle.refusal.specs.declared.Verdict.the-variants.{Pass}
 use Rattle.matrix.specs.declared.DenseMatrix.{DenseMatrix}
 use Rattle.matrix.specs.Block.{entriesOf}
 use Rattle.matrix.specs.Agreement.{Agree}
 use Rattle.grid.specs.Agreement.{AgreeTo}
 use Rattle.two_time.specs.Layout.{TwoTime, readAs}
+use Rattle.dyson.specs.Calls.{Solved}
 use Rattle.transient_run.specs.declared.Solved.the-variants.{Accepted}
 use Rattle.transient_run.specs.Calls.{Run, Outcome}
 use Rattle.observables.specs.Calls.{particleNumber, oneBodyExpectation, bondFlowInto}
@@ -39,10 +40,14 @@ pub record SameBlock (x x' : DenseMatrix) : Type 0 where
   pub columns : x .columns ≡ x' .columns
   pub entries : (a b : ℕ) → a < x .rows → b < x .columns → entriesOf x a b ≡ entriesOf x' a b
 
--- What two runs, given as r and r', leave as o and o', is the same up to index k: the retarded outputs at every place with t at most k that
--- both have, the lesser outputs with both indices at most k, and each observable at an index up to k, asked of each run with equal arguments.
+-- what two calls left as xs and xs' in their retarded outputs is the same at every place with t at most k that both have
+abbrev pub SameRetarded : ℕ → Run → Run → List Float → List Float → Type 0
+SameRetarded k r r' xs xs' = (t u : ℕ) → t ≤ k → u < r .points → u < r' .points → Agree (r .orbitals) (of r xs t u) (of r' xs' t u)
+
+-- What two runs, given as r and r', leave as o and o', is the same up to index k: the retarded outputs, the lesser outputs with both indices at
+-- most k, and each observable at an index up to k, asked of each run with equal arguments.
 pub record SameRows (k : ℕ) (r r' : Run) (o o' : Outcome) : Type 0 where
-  pub retarded : (t u : ℕ) → t ≤ k → u < r .points → u < r' .points → Agree (r .orbitals) (of r (o .retarded) t u) (of r' (o' .retarded) t u)
+  pub retarded : SameRetarded k r r' (o .retarded) (o' .retarded)
   pub lesser : (t u : ℕ) → t ≤ k → u ≤ k → Agree (r .orbitals) (of r (o .lesser) t u) (of r' (o' .lesser) t u)
   pub particles : (t : ℕ) (tolerance : Float) → t ≤ k
       → particleNumber (r .points) (r .orbitals) (o .lesser) t tolerance ≡ particleNumber (r' .points) (r' .orbitals) (o' .lesser) t tolerance
@@ -55,8 +60,26 @@ pub record SameRows (k : ℕ) (r r' : Run) (o o' : Outcome) : Type 0 where
 abbrev pub ZeroAbove : ℕ → ℕ → List Float → Type 0
 ZeroAbove points orbitals xs = (t u a b : ℕ) → t < u → u < points → a < orbitals → b < orbitals → readAs points orbitals xs t u a b ≡ czero
 
--- demand 3 of a solver, over its accepted runs
-pub record Demand3 (solver : Solver) : Type 0 where
-  pub blind : (k : ℕ) (r r' : Run) → k < r .points → k < r' .points → solver r .answer ≡ Accepted → solver r' .answer ≡ Accepted → SameTo k r r'
-      → SameRows k r r' (solver r) (solver r')
-  pub above : (r : Run) → solver r .answer ≡ Accepted → ZeroAbove (r .points) (r .orbitals) (solver r .retarded)
+-- two calls, given r and r', that are both accepted and agree up to k, an index of both; `yes` and `yes'` say that each is accepted
+pub record Comparable (k : ℕ) (r r' : Run) (yes yes' : Type 0) : Type 0 where
+  pub within : k < r .points
+  pub within' : k < r' .points
+  pub accepted : yes
+  pub accepted' : yes'
+  pub same : SameTo k r r'
+
+-- demand 3 of two runs, given as r and r', that answered and left o and o'
+pub record Demanded (r r' : Run) (o o' : Outcome) : Type 0 where
+  pub blind : (k : ℕ) → Comparable k r r' (o .answer ≡ Accepted) (o' .answer ≡ Accepted) → SameRows k r r' o o'
+  pub above : o .answer ≡ Accepted → ZeroAbove (r .points) (r .orbitals) (o .retarded)
+  pub above' : o' .answer ≡ Accepted → ZeroAbove (r' .points) (r' .orbitals) (o' .retarded)
+
+-- demand 3 of a solver: of any two of its runs
+abbrev pub Demand3 : Solver → Type 0
+Demand3 solver = (r r' : Run) → Demanded r r' (solver r) (solver r')
+
+-- demand 3 of two Dyson calls, given r and r', that answered and left s and s'
+pub record DysonDemanded (r r' : Run) (s s' : Solved) : Type 0 where
+  pub blind : (k : ℕ) → Comparable k r r' (s .answer ≡ Pass) (s' .answer ≡ Pass) → SameRetarded k r r' (s .retarded) (s' .retarded)
+  pub above : s .answer ≡ Pass → ZeroAbove (r .points) (r .orbitals) (s .retarded)
+  pub above' : s' .answer ≡ Pass → ZeroAbove (r' .points) (r' .orbitals) (s' .retarded)

@@ -1,29 +1,24 @@
--- Demand 3, whole: the transient run meets it, and every accepted Dyson call leaves +0 above the diagonal. Assumes nothing.
-use mathlib.Core.Path.{_≡_, refl, sym, ap, _∙_}
-use mathlib.Core.Bool.{Bool, true, false, _&&_}
-use mathlib.Core.List.{List, [], _∷_}
-use Prim.Native.Nat.{ℕ, zero, suc, _+_, _≤_, _<_}
+-- Demand 3 of the transient run. Assumes nothing.
+use mathlib.Core.Path.{_≡_, refl}
+use mathlib.Core.Bool.{true, _&&_}
+use Prim.Native.Nat.{ℕ, _<_}
 use native.Mathlib.Omega.{arith}
-use lib.Ieee.{Float}
 use Rattle.lists.specs.Agreement.{both}
-use Rattle.complex.specs.Arithmetic.{czero, cfinite}
-use Rattle.refusal.specs.declared.Verdict.{Verdict}
+use Rattle.complex.specs.Arithmetic.{cfinite}
 use Rattle.refusal.specs.declared.Verdict.the-variants.{Pass}
-use Rattle.refusal.specs.Verdict.{by, afterwards}
+use Rattle.refusal.specs.Verdict.{by}
 use Rattle.refusal.specs.Agreement.{ask-pass, then-pass}
 use Rattle.refusal.specs.Lines.{finiteWork}
-use Rattle.matrix.specs.Agreement.{Agree}
-use Rattle.two_time.specs.Layout.{TwoTime, readAs, layOutAll}
-use Rattle.two_time.specs.Reading.{read-back}
+use Rattle.two_time.specs.Layout.{TwoTime}
 use Rattle.two_time.specs.WeightedSum.{finiteSum}
 use Rattle.two_time.specs.Finite.{everywhere-each, sum-finite}
 use Rattle.two_time.specs.Convolutions.{causal, causalNumbers}
 use Rattle.dyson.specs.Retarded.{retardedGreen, retardedNumbers}
 use Rattle.dyson.specs.Recursion.{above}
-use Rattle.dyson.specs.Calls.{kernelOf, greenOf, greenFine, dysonVerdict, dysonWithTolerance, Solved}
+use Rattle.dyson.specs.Calls.{greenFine}
 use Rattle.transient_run.specs.Lesser.{mixed, mixedNumbers, mixedFine, lesserTerms, lesserGreen, lesserNumbers, lesserFine, lesserFinite}
-use Rattle.transient_run.specs.Calls.{Run, Outcome, kernelOfRun, retardedOfRun, mixedOfRun, runFine, runVerdict, transientRun}
-use Rattle.causality.specs.Statement.{of, SameTo, ZeroAbove, Demand3}
+use Rattle.transient_run.specs.Calls.{Run, kernelOfRun, retardedOfRun, mixedOfRun, runFine, runVerdict, transientRun}
+use Rattle.causality.specs.Statement.{of, SameTo, Demand3}
 use Rattle.causality.specs.Stages.{LowerTo, RowsTo, SquareTo, causal-stage, retarded-stage, mixed-stage, lesser-stage}
 use Rattle.causality.specs.Solvers.{laid, told, solverOf, ReadsNoLater, meets}
 
@@ -31,7 +26,7 @@ use Rattle.causality.specs.Solvers.{laid, told, solverOf, ReadsNoLater, 
 abbrev pub green : Run → TwoTime
 green r = retardedGreen (r .orbitals) (r .times) (of r (r .free)) (of r (kernelOfRun r))
 
-abbrev lesser : Run → TwoTime
+abbrev pub lesser : Run → TwoTime
 lesser r = lesserGreen (r .orbitals) (r .times) (of r (retardedOfRun r)) (of r (mixedOfRun r))
 
 -- two runs with one n that agree up to k
@@ -95,13 +90,3 @@ reads-no-later =
 pub demand-3 : Demand3 transientRun
 unfolding transientRun retardedNumbers lesserNumbers solverOf
 demand-3 = meets green lesser kernelOfRun mixedOfRun reads-no-later
-
--- the retarded function of every accepted Dyson call
-pub dyson-above : (points orbitals : ℕ) (tolerance : Float) (times free selfEnergy retarded kernel : List Float)
-    → dysonWithTolerance points orbitals tolerance times free selfEnergy retarded kernel .answer ≡ Pass
-    → ZeroAbove points orbitals (dysonWithTolerance points orbitals tolerance times free selfEnergy retarded kernel .retarded)
-unfolding dysonWithTolerance retardedNumbers afterwards
-dyson-above points orbitals tolerance times free selfEnergy retarded kernel accepted t u a b less hu ha hb =
-    rw accepted
-    (read-back orbitals points (retardedGreen orbitals times (readAs points orbitals free) (readAs points orbitals (kernelOf points orbitals times free selfEnergy))) t u a b (omega arith) hu ha hb
-    ∙ above orbitals times (readAs points orbitals free) (readAs points orbitals (kernelOf points orbitals times free selfEnergy)) t u a b less)
