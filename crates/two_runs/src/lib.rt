@@ -1,0 +1,213 @@
+// Demand 3 of the running code: what two calls of the solver leave, and what each observable answers of two runs, whatever data come later.
+ghost use mathlib.Core.Path.{_≡_};
+ghost use Rattle.transient_run.specs.Asking.{runOf};
+ghost use Rattle.causality.specs.Statement.{DysonDemanded};
+ghost use Rattle.causality.specs.Dyson.{callOf, dysonOf};
+ghost use Rattle.two_runs.specs.Contracts.{told, tells, solves, Blind};
+use complex::Complex;
+use dyson::retarded_dyson_with_tolerance;
+use matrix::DenseMatrix;
+use observables::Observed;
+use observables::bond_flow_into;
+use observables::one_body_expectation;
+use observables::particle_number;
+use refusal::Verdict;
+use transient_run::Solved;
+use transient_run::transient_run;
+
+// What is asked of a run beside a block: the time, the tolerance of the imaginary part, and the bond.
+pub struct Question {
+    pub time: usize,
+    pub tolerance: f64,
+    pub a: usize,
+    pub b: usize,
+    pub hopping: Complex,
+    pub charge: f64,
+}
+
+// The answer of a run, and what the three observables answer of what it left.
+pub struct Answers {
+    pub run: Solved,
+    pub number: Observed,
+    pub expectation: Observed,
+    pub flow: Observed,
+}
+
+pub struct BothRuns {
+    pub first: Answers,
+    pub second: Answers,
+}
+
+pub struct BothVerdicts {
+    pub first: Verdict,
+    pub second: Verdict,
+}
+
+// A run, and each observable asked of it.
+pub fn run_and_ask(
+    times: &[f64],
+    free: &[f64],
+    sigma: &[f64],
+    source: &[f64],
+    points: usize,
+    orbitals: usize,
+    tolerance: f64,
+    green: &mut [f64],
+    lesser: &mut [f64],
+    kernel: &mut [f64],
+    mixed: &mut [f64],
+    question: Question,
+    block: DenseMatrix,
+) -> Answers
+    ensures { λ r. ⌜ tells r (now (green .exit)) (now (lesser .exit)) (now (kernel .exit)) (now (mixed .exit)) ≡ told (runOf points orbitals tolerance (now (times .entry)) (now (free .entry)) (now (sigma .entry)) (now (source .entry)) (now (green .entry)) (now (lesser .entry)) (now (kernel .entry)) (now (mixed .entry))) question block ⌝ }
+{
+    let run = transient_run(
+        times,
+        free,
+        sigma,
+        source,
+        points,
+        orbitals,
+        tolerance,
+        green,
+        lesser,
+        kernel,
+        mixed,
+    );
+    let time = question.time;
+    let real = question.tolerance;
+    let hopping = question.hopping;
+    let number = particle_number(lesser, points, orbitals, time, real);
+    let expectation = one_body_expectation(lesser, points, orbitals, time, block, real);
+    let flow = bond_flow_into(
+        lesser,
+        points,
+        orbitals,
+        time,
+        question.a,
+        question.b,
+        hopping,
+        question.charge,
+    );
+    Answers {
+        run,
+        number,
+        expectation,
+        flow,
+    }
+}
+
+// Two runs, each with its own times, operands, sizes and tolerance, and the same question asked of each; the second run's names end in 2.
+pub fn two_runs(
+    times: &[f64],
+    free: &[f64],
+    sigma: &[f64],
+    source: &[f64],
+    points: usize,
+    orbitals: usize,
+    tolerance: f64,
+    green: &mut [f64],
+    lesser: &mut [f64],
+    kernel: &mut [f64],
+    mixed: &mut [f64],
+    block: DenseMatrix,
+    times2: &[f64],
+    free2: &[f64],
+    sigma2: &[f64],
+    source2: &[f64],
+    points2: usize,
+    orbitals2: usize,
+    tolerance2: f64,
+    green2: &mut [f64],
+    lesser2: &mut [f64],
+    kernel2: &mut [f64],
+    mixed2: &mut [f64],
+    block2: DenseMatrix,
+    question: Question,
+) -> BothRuns
+    ensures { λ r. ⌜ (let a = runOf points orbitals tolerance (now (times .entry)) (now (free .entry)) (now (sigma .entry)) (now (source .entry)) (now (green .entry)) (now (lesser .entry)) (now (kernel .entry)) (now (mixed .entry)) in
+        let b = runOf points2 orbitals2 tolerance2 (now (times2 .entry)) (now (free2 .entry)) (now (sigma2 .entry)) (now (source2 .entry)) (now (green2 .entry)) (now (lesser2 .entry)) (now (kernel2 .entry)) (now (mixed2 .entry)) in
+        let x = tells (r .first) (now (green .exit)) (now (lesser .exit)) (now (kernel .exit)) (now (mixed .exit)) in
+        let y = tells (r .second) (now (green2 .exit)) (now (lesser2 .exit)) (now (kernel2 .exit)) (now (mixed2 .exit)) in
+        (x ≡ told a question block) × (y ≡ told b question block2) × Blind a b question block block2 x y) ⌝ }
+{
+    let first = run_and_ask(
+        times,
+        free,
+        sigma,
+        source,
+        points,
+        orbitals,
+        tolerance,
+        green,
+        lesser,
+        kernel,
+        mixed,
+        question,
+        block,
+    );
+    let second = run_and_ask(
+        times2,
+        free2,
+        sigma2,
+        source2,
+        points2,
+        orbitals2,
+        tolerance2,
+        green2,
+        lesser2,
+        kernel2,
+        mixed2,
+        question,
+        block2,
+    );
+    BothRuns { first, second }
+}
+
+// Two Dyson calls; the second call's names end in 2.
+pub fn two_dysons(
+    times: &[f64],
+    free: &[f64],
+    sigma: &[f64],
+    points: usize,
+    orbitals: usize,
+    tolerance: f64,
+    green: &mut [f64],
+    kernel: &mut [f64],
+    times2: &[f64],
+    free2: &[f64],
+    sigma2: &[f64],
+    points2: usize,
+    orbitals2: usize,
+    tolerance2: f64,
+    green2: &mut [f64],
+    kernel2: &mut [f64],
+) -> BothVerdicts
+    ensures { λ r. ⌜ (let a = callOf points orbitals tolerance (now (times .entry)) (now (free .entry)) (now (sigma .entry)) (now (green .entry)) (now (kernel .entry)) in
+        let b = callOf points2 orbitals2 tolerance2 (now (times2 .entry)) (now (free2 .entry)) (now (sigma2 .entry)) (now (green2 .entry)) (now (kernel2 .entry)) in
+        let x = solves (r .first) (now (green .exit)) (now (kernel .exit)) in
+        let y = solves (r .second) (now (green2 .exit)) (now (kernel2 .exit)) in
+        (x ≡ dysonOf a) × (y ≡ dysonOf b) × DysonDemanded a b x y) ⌝ }
+{
+    let first = retarded_dyson_with_tolerance(
+        times,
+        free,
+        sigma,
+        points,
+        orbitals,
+        tolerance,
+        green,
+        kernel,
+    );
+    let second = retarded_dyson_with_tolerance(
+        times2,
+        free2,
+        sigma2,
+        points2,
+        orbitals2,
+        tolerance2,
+        green2,
+        kernel2,
+    );
+    BothVerdicts { first, second }
+}
