@@ -1,34 +1,27 @@
 -- Demand 3 alone is weak: a solver that leaves +0 everywhere, and one that leaves the free function with +0 above the diagonal, meet the same
 -- statement, and P11 tells both from the definition. So the rows themselves are demand 2's. Assumes nothing.
 use mathlib.Core.Path.{_≡_, refl, sym, ap, _∙_}
-use mathlib.Core.Bool.{Bool, true, false, cond}
-use mathlib.Core.List.{List, [], _∷_}
-use Prim.Native.Nat.{ℕ, zero, suc, _≤_, _<_}
+use mathlib.Core.Bool.{true, cond}
+use mathlib.Core.List.{List}
+use Prim.Native.Nat.{ℕ, _<_}
 use native.Mathlib.Omega.{arith}
 use lib.Dec.{ltb}
-use lib.ListN.{length, getD, replicate}
+use lib.ListN.{getD, replicate}
 use lib.Ieee as Ieee
 use lib.Ieee.{Float, nan, binary64, toBits}
 use borrow.Author.Tests.{lt-ltb, ltb-false}
-use Rattle.lists.specs.Indexed.{fold, join}
+use Rattle.lists.specs.Indexed.{join}
 use Rattle.lists.specs.Agreement.{cond-agree}
-use Rattle.complex.specs.Arithmetic.{one, czero, finite, larger, cfinite}
-use Rattle.complex.specs.Sum.{largestFrom, largestIn}
-use Rattle.norm.specs.Norm.{norm}
-use Rattle.refusal.specs.declared.Verdict.the-variants.{Pass}
-use Rattle.refusal.specs.Verdict.{ask, _then_, askAll}
-use Rattle.refusal.specs.Lines.{validTolerance, retardedAt}
+use Rattle.complex.specs.Arithmetic.{one, czero, finite, cfinite}
 use Rattle.matrix.specs.Block.{layOut}
-use Rattle.matrix.specs.Operations.{largestNorm}
-use Rattle.two_time.specs.Layout.{TwoTime, readAs, layOutAll}
-use Rattle.two_time.specs.Support.{scaleOf, residual, retarded}
-use Rattle.dyson.specs.Calls.{supportLines}
-use Rattle.two_time.specs.Example.{floats}
+use Rattle.two_time.specs.Layout.{TwoTime, layOutAll}
+use Rattle.two_time.specs.Support.{retarded}
 use Rattle.transient_run.specs.Calls.{Run, Outcome, runVerdict, transientRun}
 use Rattle.transient_run.specs.P12 as P12
 use Rattle.causality.specs.Statement.{Solver, of, SameTo, Demand3}
 use Rattle.causality.specs.Stages.{RowsTo}
-use Rattle.causality.specs.Solvers.{told, left-made, solverOf, ReadsNoLater, meets}
+use Rattle.causality.specs.Prefix.{run, inputs-pass, passes}
+use Rattle.causality.specs.Solvers.{told, left-made, solverOf, meets}
 
 -- +0 everywhere
 abbrev nothing : Run → TwoTime
@@ -75,19 +68,9 @@ free-only-meets =
 
 -- ---- P11 tells them apart: G(2,0) = 3.5, where they leave +0 and 1
 
-abbrev run : Run
-run = P12.run one (replicate 18 one)
-
 -- the bits of the real part of G(2,0)
 abbrev seen : Outcome → ℕ
 seen o = toBits binary64 (getD (o .retarded) 12 nan)
-
-inputs-pass : supportLines 3 1 one (readAs 3 1 P12.lower) (readAs 3 1 P12.lower) ≡ Pass
-unfolding supportLines validTolerance retarded retardedAt residual scaleOf ask askAll _then_ largestNorm largestIn largestFrom fold larger norm finite Ieee.ofBits Ieee.div Ieee.lt Ieee.ne Ieee.eq
-inputs-pass = refl
-
-passes : runVerdict run ≡ Pass
-passes = P12.verdict one (replicate 18 one) refl inputs-pass
 
 definition-sees : seen (transientRun run) ≡ 0x400c_0000_0000_0000
 unfolding Ieee.ofBits toBits

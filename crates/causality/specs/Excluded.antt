@@ -1,0 +1,64 @@
+-- Demand 3 excludes a solver that reads later data: the transient run but for G(0,0), which it takes from free at the last point. Assumes nothing.
+use mathlib.Core.Path.{_≡_, refl, sym, ap, _∙_}
+use mathlib.Core.Bool.{cond, _&&_}
+use Prim.Native.Nat.{ℕ, _-_, _<_}
+use native.Mathlib.Omega.{arith}
+use lib.Dec.{eqb}
+use lib.ListN.{getD}
+use lib.Ieee as Ieee
+use lib.Ieee.{nan, binary64, toBits}
+use Rattle.complex.specs.declared.Complex.{Complex}
+use Rattle.refusal.specs.declared.Verdict.the-variants.{Pass}
+use Rattle.matrix.specs.Agreement.{Agree}
+use Rattle.two_time.specs.Layout.{TwoTime}
+use Rattle.two_time.specs.Reading.{read-back}
+use Rattle.transient_run.specs.declared.Solved.the-variants.{Accepted}
+use Rattle.transient_run.specs.Calls.{Run, solved, kernelOfRun, mixedOfRun, runVerdict}
+use Rattle.causality.specs.Statement.{Solver, of, SameTo, Demand3}
+use Rattle.causality.specs.Stages.{SquareTo}
+use Rattle.causality.specs.Solvers.{left-made, solverOf}
+use Rattle.causality.specs.Theorem.{green, lesser}
+use Rattle.causality.specs.Prefix.{run, passes, short, two, short-passes, to-zero, one-entry}
+
+abbrev last : Run → ℕ
+last r = r .points - 1
+
+abbrev lateGreen : Run → TwoTime
+lateGreen r t u a b = cond (eqb t 0 && eqb u 0) (of r (r .free) (last r) (last r) a b) (green r t u a b)
+
+abbrev pub lateStart : Solver
+lateStart = solverOf lateGreen lesser kernelOfRun mixedOfRun
+
+-- what it leaves at G(0,0)
+starts-late : (r : Run) → runVerdict r ≡ Pass → 0 < r .points → 0 < r .orbitals → of r (lateStart r .retarded) 0 0 0 0 ≡ of r (r .free) (last r) (last r) 0 0
+unfolding solverOf
+starts-late r v hp ho = rw (left-made (runVerdict r) _ (r .retarded) v) (read-back (r .orbitals) (r .points) (lateGreen r) 0 0 0 0 hp hp ho ho)
+
+accepted : (r : Run) → runVerdict r ≡ Pass → lateStart r .answer ≡ Accepted
+unfolding solverOf solved
+accepted r v = ap solved v
+
+-- two accepted runs that agree up to 0; free's last entries are 1 and 2
+start-same : SameTo 0 run (short two)
+start-same =
+    record {
+      orbitals = refl;
+      times = to-zero (λ i. getD (run .times) i nan ≡ getD (short two .times) i nan) refl;
+      free = λ t u ht hu. at-start (of run (run .free)) (of (short two) (short two .free)) refl t u ht (omega arith);
+      selfEnergy = λ t u ht hu. at-start (of run (run .selfEnergy)) (of (short two) (short two .selfEnergy)) refl t u ht (omega arith);
+      lesserSelfEnergy = at-start (of run (run .lesserSelfEnergy)) (of (short two) (short two .lesserSelfEnergy)) refl;
+    }
+  where
+    at-start : (y z : TwoTime) → y 0 0 0 0 ≡ z 0 0 0 0 → SquareTo 1 0 y z
+    at-start y z h t u ht hu = to-zero (λ i. Agree 1 (y i u) (z i u)) (to-zero (λ j. Agree 1 (y 0 j) (z 0 j)) (one-entry (y 0 0) (z 0 0) h) u hu) t ht
+
+pub late-start-excluded : Demand3 lateStart → ⊥
+unfolding Ieee.ofBits toBits
+late-start-excluded demand =
+    let rows = demand run (short two) .blind 0
+    (record { within = omega arith; within' = omega arith; accepted = accepted run passes; accepted' = accepted (short two) (short-passes .1); same = start-same }) in
+    let same : of run (run .free) 2 2 0 0 ≡ of (short two) (short two .free) 1 1 0 0 =
+    sym (starts-late run passes (omega arith) (omega arith)) ∙ rows .retarded 0 0 (omega arith) (omega arith) (omega arith) 0 0 (omega arith) (omega arith)
+    ∙ starts-late (short two) (short-passes .1) (omega arith) (omega arith) in
+    let bits : _≡_ {A = ℕ} 0x3ff0_0000_0000_0000 0x4000_0000_0000_0000 = ap (λ (z : Complex). toBits binary64 (z .re)) same in
+    omega arith
