@@ -68,7 +68,7 @@ pub short-passes : (runVerdict (short one) ≡ Pass) × (runVerdict (short two) 
 unfolding runVerdict runFine greenFine mixedFine mixedFinite mixedNumbers mixed lesserFine lesserFinite lesserGreen retardedFine retardedFinite retardedNumbers retardedGreen solve causalFine causalFinite causalNumbers causal layOutAll layOut join everywhere allBelow weightedSum partialSum termAt productAt finiteSum product scaled adjoint sumFrom fold intervalWeight halfStep fullWeight cadd cmul conj cfinite finite inputLines sizeLines allLong operandLines timeLines largeEnough withinLimits fitting finiteTimes risingTimes finiteWeights finiteEntries supportLines validTolerance retarded retardedAt residual scaleOf largestNorm largestIn largestFrom larger norm finiteWork ask askAll _then_ Ieee.ofBits Ieee.add Ieee.sub Ieee.mul Ieee.div Ieee.neg Ieee.lt Ieee.ne Ieee.eq
 short-passes = (refl, refl)
 
-pub answered : (r : Run) → runVerdict r ≡ Pass → transientRun r .answer ≡ Accepted
+answered : (r : Run) → runVerdict r ≡ Pass → transientRun r .answer ≡ Accepted
 unfolding transientRun solved
 answered r e = ap solved e
 

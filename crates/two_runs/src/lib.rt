@@ -33,11 +33,13 @@ pub struct Answers {
     pub flow: Observed,
 }
 
+// What each of two runs answers.
 pub struct BothRuns {
     pub first: Answers,
     pub second: Answers,
 }
 
+// What each of two Dyson calls answers.
 pub struct BothVerdicts {
     pub first: Verdict,
     pub second: Verdict,
@@ -97,7 +99,8 @@ pub fn run_and_ask(
     }
 }
 
-// Two runs, each with its own times, operands, sizes and tolerance, and the same question asked of each; the second run's names end in 2.
+// Two runs, each with its own times, operands, sizes and tolerance, and the same question asked of each; the second run's names end in 2. Where both are
+// accepted and agree up to k, they leave the same rows to k, and at a time up to k the observables answer the same.
 pub fn two_runs(
     times: &[f64],
     free: &[f64],
@@ -164,7 +167,7 @@ pub fn two_runs(
     BothRuns { first, second }
 }
 
-// Two Dyson calls; the second call's names end in 2.
+// Two Dyson calls; the second call's names end in 2. Where both are accepted and agree up to k, they leave the same rows to k.
 pub fn two_dysons(
     times: &[f64],
     free: &[f64],
