@@ -7,6 +7,7 @@ use lib.ListN.{length, replicate}
 use lib.Ieee.{Float}
 use Rattle.complex.specs.declared.Complex.{Complex}
 use Rattle.complex.specs.Arithmetic.{plusZero}
+use Rattle.complex.specs.Numbers.{pair}
 use Rattle.refusal.specs.declared.Verdict.{Verdict}
 use Rattle.refusal.specs.declared.Verdict.the-variants.{Pass, Refused}
 use Rattle.refusal.specs.declared.Measured.{Measured}
@@ -18,7 +19,7 @@ use Rattle.matrix.specs.declared.Checked.{Checked}
 use Rattle.matrix.specs.declared.Value.{Value}
 use Rattle.matrix.specs.declared.Value.the-variants.{Of, Refused as NoValue}
 use Rattle.matrix.specs.Block.{Entries, entriesOf, countOf, blockOf, checked}
-use Rattle.matrix.specs.Operations.{product, scaled, added, subtracted, adjoint, identity, trace, largestNorm, allFinite, hermitian}
+use Rattle.matrix.specs.Operations.{product, scaled, added, subtracted, adjoint, identity, zeros, trace, largestNorm, allFinite, hermitian}
 
 -- one complex number, once its questions are asked, and the refusal's number of such an answer: 0 where nothing is refused
 unfoldable pub valued : Verdict → Complex → Value
@@ -62,7 +63,14 @@ fromNumbers rows columns numbers =
     checked (shapeOf (eqb (length numbers) (2 * (rows * columns))) rows columns then finiteEntries 0 numbers (length numbers))
     (record { rows = rows; columns = columns; values = numbers ++ replicate (512 - length numbers) plusZero })
 
--- `identity`: lines 1 and 2 of its size
+-- `from_scalar`: the 1 by 1 block of one number
+unfoldable pub fromScalar : Complex → Checked
+fromScalar z = fromNumbers 1 1 (pair z)
+
+-- `zero` and `identity`: lines 1 and 2 of their size
+unfoldable pub zeroOf : ℕ → Checked
+zeroOf size = checked (shapeOf true size size) (blockOf size size zeros)
+
 unfoldable pub identityOf : ℕ → Checked
 identityOf size = checked (shapeOf true size size) (blockOf size size identity)
 

@@ -22,7 +22,7 @@ use Rattle.matrix.specs.declared.Checked.{Checked}
 use Rattle.matrix.specs.declared.Value.the-variants.{Of, Refused as NoValue}
 use Rattle.matrix.specs.Block.{layOut, blockOf, noBlock, checked}
 use Rattle.matrix.specs.Operations.{product, scaled, added, subtracted, adjoint, identity, trace, largestNorm, allFinite, partSize, partAbove, hermitianWithin, hermitian}
-use Rattle.matrix.specs.Calls.{valued, valueNumber, blockLines, pairLines, finiteBlock, fromNumbers, identityOf, adjointOf, productOf, scaleOf, addOf, subtractOf, traceOf, maxDifferenceOf, isHermitian, entryOf}
+use Rattle.matrix.specs.Calls.{valued, valueNumber, blockLines, pairLines, finiteBlock, fromNumbers, fromScalar, zeroOf, identityOf, adjointOf, productOf, scaleOf, addOf, subtractOf, traceOf, maxDifferenceOf, isHermitian, entryOf}
 
 -- a block of these bit patterns
 abbrev block : ℕ → ℕ → List ℕ → DenseMatrix
@@ -56,13 +56,23 @@ made : map seen (productOf x y ∷ scaleOf x (real (Ieee.ofBits binary64 0x3fd0_
 unfolding numberOf productOf scaleOf addOf subtractOf finiteBlock pairLines blockLines checked blockOf layOut join notEmpty withinBlock fitting finiteEntries finiteWork ask askAll _then_ product scaled added subtracted allFinite allBelow sumFrom fold cadd csub cmul cfinite finite Ieee.ofBits toBits Ieee.add Ieee.sub Ieee.mul Ieee.neg
 made = refl
 
--- the adjoint conjugates, and gives -0 for the conjugate of a +0; the identity; a block of numbers is its numbers, then +0
-copied : map seen (adjointOf x ∷ identityOf 2 ∷ fromNumbers 1 2 (take 4 (x .values)) ∷ []) ≡
+-- the adjoint conjugates, and gives -0 for the conjugate of a +0; the zero matrix and the identity; a block of numbers is its numbers, then +0; -0+2i
+copied : map seen (adjointOf x ∷ zeroOf 2 ∷ identityOf 2 ∷ fromNumbers 1 2 (take 4 (x .values)) ∷ fromScalar (record { re = Ieee.neg plusZero; im = Ieee.ofBits binary64 0x4000_0000_0000_0000 }) ∷ []) ≡
     (0 ∷ 2 ∷ 2 ∷ 0x3ff0_0000_0000_0000 ∷ 0xc000_0000_0000_0000 ∷ 0 ∷ 0x3ff0_0000_0000_0000 ∷ 0x4008_0000_0000_0000 ∷ 0x8000_0000_0000_0000 ∷ 0x3fe0_0000_0000_0000 ∷ 0x8000_0000_0000_0000 ∷ []) ∷
+    (0 ∷ 2 ∷ 2 ∷ 0 ∷ 0 ∷ 0 ∷ 0 ∷ 0 ∷ 0 ∷ 0 ∷ 0 ∷ []) ∷
     (0 ∷ 2 ∷ 2 ∷ 0x3ff0_0000_0000_0000 ∷ 0 ∷ 0 ∷ 0 ∷ 0 ∷ 0 ∷ 0x3ff0_0000_0000_0000 ∷ 0 ∷ []) ∷
-    (0 ∷ 1 ∷ 2 ∷ 0x3ff0_0000_0000_0000 ∷ 0x4000_0000_0000_0000 ∷ 0x4008_0000_0000_0000 ∷ 0 ∷ 0 ∷ 0 ∷ 0 ∷ 0 ∷ []) ∷ []
-unfolding numberOf adjointOf identityOf fromNumbers blockLines checked blockOf layOut join notEmpty withinBlock fitting finiteEntries ask askAll _then_ adjoint identity conj finite Ieee.ofBits toBits Ieee.neg
+    (0 ∷ 1 ∷ 2 ∷ 0x3ff0_0000_0000_0000 ∷ 0x4000_0000_0000_0000 ∷ 0x4008_0000_0000_0000 ∷ 0 ∷ 0 ∷ 0 ∷ 0 ∷ 0 ∷ []) ∷
+    (0 ∷ 1 ∷ 1 ∷ 0x8000_0000_0000_0000 ∷ 0x4000_0000_0000_0000 ∷ 0 ∷ 0 ∷ 0 ∷ 0 ∷ 0 ∷ 0 ∷ []) ∷ []
+unfolding numberOf adjointOf zeroOf identityOf fromNumbers fromScalar blockLines checked blockOf layOut join notEmpty withinBlock fitting finiteEntries ask askAll _then_ adjoint identity conj finite Ieee.ofBits toBits Ieee.neg
 copied = refl
+
+-- a number's part that is not finite is 7 at position 0 or 1, the real part first; the zero matrix of size 0 is 1, of 17 is 2
+refusals : fromScalar (record { re = nan; im = inf true }) ∷ fromScalar (record { re = one; im = inf true }) ∷ zeroOf 0 ∷ zeroOf 17 ∷ []
+    ≡ record { verdict = Refused (record { number = 7; operand = 0; first = 0; second = 0; part = plusZero }); block = noBlock }
+    ∷ record { verdict = Refused (record { number = 7; operand = 0; first = 1; second = 0; part = plusZero }); block = noBlock }
+    ∷ record { verdict = Refused (by 1); block = noBlock } ∷ record { verdict = Refused (by 2); block = noBlock } ∷ []
+unfolding fromScalar fromNumbers zeroOf checked notEmpty withinBlock fitting finiteEntries ask askAll _then_ finite Ieee.ofBits
+refusals = refl
 
 -- -0 by -0 gives +0 in a product, whose sum starts at +0, and 10 leaves no block: the largest by 2; lines go line by line: 17 by 1 and 0 by 0 is 1
 edges : productOf (scalar 0x8000_0000_0000_0000 0) (scalar 0x3ff0_0000_0000_0000 0) ∷ productOf (scalar most 0) (scalar 0x4000_0000_0000_0000 0)

@@ -3,16 +3,16 @@ use Prim.Native.Nat.{ℕ}
 use mathlib.Core.Bool.{Bool}
 use Rattle.complex.specs.declared.Complex.{Complex}
 use Rattle.matrix.specs.declared.fill.Operation.{Operation}
-use Rattle.matrix.specs.declared.fill.Operation.the-variants.{Copy, Identity, Adjoint, Product, Scale, Add, Subtract}
+use Rattle.matrix.specs.declared.fill.Operation.the-variants.{Zero, Identity, Adjoint, Product, Scale, Add, Subtract}
 use Rattle.matrix.specs.declared.DenseMatrix.{DenseMatrix}
 use Rattle.matrix.specs.declared.Checked.{Checked}
 use Rattle.matrix.specs.Block.{Entries, entriesOf}
 use Rattle.matrix.specs.Calls.{pairLines, finiteBlock}
-use Rattle.matrix.specs.Operations.{product, scaled, added, subtracted, adjoint, identity}
+use Rattle.matrix.specs.Operations.{product, scaled, added, subtracted, adjoint, identity, zeros}
 
 -- x has `inner` columns
 unfoldable pub madeBy : Operation → ℕ → Entries → Entries → Entries
-madeBy Copy inner x y = x
+madeBy Zero inner x y = zeros
 madeBy Identity inner x y = identity
 madeBy Adjoint inner x y = adjoint x
 madeBy Product inner x y = product inner x y

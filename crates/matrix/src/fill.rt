@@ -11,7 +11,7 @@ use complex::Complex;
 
 // What is made of a block a, or of blocks a and b.
 pub enum Operation {
-    Copy,
+    Zero,
     Identity,
     Adjoint,
     Product,
@@ -71,7 +71,7 @@ fn made(
     ensures { λ r. ⌜ r ≡ madeBy op inner (entriesIn inner (now (a .entry))) (entriesIn columns (now (b .entry))) i j ⌝ }
 {
     match op {
-        Operation::Copy => entry(a, inner, i, j),
+        Operation::Zero => Complex::ZERO,
         Operation::Identity => { if i == j { Complex::ONE } else { Complex::ZERO } }
         Operation::Adjoint => entry(a, inner, j, i).conj(),
         Operation::Product => dot(a, b, inner, columns, i, j),

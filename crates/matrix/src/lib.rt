@@ -4,6 +4,7 @@ mod lines;
 mod measure;
 
 ghost use mathlib.Core.Path.{_≡_};
+ghost use mathlib.Core.Bool.{true};
 ghost use mathlib.Core.List.{_++_};
 ghost use Prim.Native.Nat.{_-_, _≤_, _<_};
 ghost use lib.ListN.{length, replicate};
@@ -13,7 +14,7 @@ ghost use Rattle.refusal.specs.Lines.{finiteEntries, finiteWork};
 ghost use Rattle.matrix.specs.Block.{entriesIn, blockOf, checked, noBlock};
 ghost use Rattle.matrix.specs.Operations.{allFinite};
 ghost use Rattle.matrix.specs.Made.{madeBy, combinedOf};
-ghost use Rattle.matrix.specs.Calls.{fromNumbers, identityOf, adjointOf, productOf, scaleOf, addOf, subtractOf};
+ghost use Rattle.matrix.specs.Calls.{shapeOf, fromNumbers, fromScalar, zeroOf, identityOf, adjointOf, productOf, scaleOf, addOf, subtractOf};
 ghost use Rattle.matrix.specs.Calls.{traceOf, entryOf, maxDifferenceOf, isHermitian};
 use complex::Complex;
 use fill::Operation;
@@ -137,6 +138,18 @@ fn entries_or_7(rows: usize, columns: usize, numbers: &[f64]) -> Checked
     }
 }
 
+// The block that an operation makes of a size alone.
+fn constant(op: Operation, size: usize) -> Checked
+    ensures { λ r. ⌜ r ≡ checked (shapeOf true size size) (blockOf size size (madeBy op size (entriesIn size (replicate 512 plusZero)) (entriesIn size (replicate 512 plusZero)))) ⌝ }
+{
+    let zeros = [0.0; 512];
+    let verdict = lines::shape(true, size, size);
+    match verdict {
+        Verdict::Pass => accepted(build(op, size, size, size, &zeros, &zeros)),
+        Verdict::Refused(r) => refused(r),
+    }
+}
+
 // What an operation makes of two blocks, rows by inner and below by columns: lines 1, 2, 3, 7, then 10.
 fn combined(
     op: Operation,
@@ -184,16 +197,26 @@ impl DenseMatrix {
         }
     }
 
+    // The 1 by 1 block of a number.
+    pub fn from_scalar(value: Complex) -> Checked
+        ensures { λ r. ⌜ r ≡ fromScalar value ⌝ }
+    {
+        let numbers = [value.re, value.im];
+        DenseMatrix::from_numbers(1, 1, &numbers)
+    }
+
+    // The zero matrix of that size.
+    pub fn zero(size: usize) -> Checked
+        ensures { λ r. ⌜ r ≡ zeroOf size ⌝ }
+    {
+        constant(Operation::Zero, size)
+    }
+
     // The identity matrix of that size.
     pub fn identity(size: usize) -> Checked
         ensures { λ r. ⌜ r ≡ identityOf size ⌝ }
     {
-        let zeros = [0.0; 512];
-        let verdict = lines::shape(true, size, size);
-        match verdict {
-            Verdict::Pass => accepted(build(Operation::Identity, size, size, size, &zeros, &zeros)),
-            Verdict::Refused(r) => refused(r),
-        }
+        constant(Operation::Identity, size)
     }
 
     // The conjugate transpose.

@@ -1,0 +1,46 @@
+-- `matrix::constant` meets its contract. Assumes nothing.
+use mathlib.Core.Path.{_≡_, sym, _∙_}
+use mathlib.Core.Bool.{true}
+use native.Mathlib.Nat.{le-of-eq}
+use borrow.Author.Needs.{needs}
+use Rattle.refusal.specs.declared.Verdict.the-variants.{Pass}
+use Rattle.matrix.specs.Calls.{shapeOf}
+use Rattle.matrix.proofs.Shapes.{Small, shape-small}
+use Rattle.matrix.proofs.Results.{accepted-is, refused-is}
+use Rattle.matrix.proofs.constant.Statement.{statement}
+use Rattle.matrix.proofs.constant.Tie as tie
+
+passed : (c : tie.After-enum-told) → shapeOf true (c .before .before .before .args .size) (c .before .before .before .args .size) ≡ Pass
+passed c = sym (c .before .before .shape .ensures) ∙ c .enum-told .given .1
+
+first : tie.Need-slice-aggregate-build
+first c = search needs
+
+second : tie.Need-slice-aggregate-build-2
+second c = search needs
+
+build-requires : tie.Need-build-requires
+build-requires c κs =
+    let s = shape-small true _ _ (passed (c .before .before)) in
+    ((s .rows-some, s .rows-most, s .rows-most, s .rows-most), (le-of-eq (first (c .before)), le-of-eq (second c)))
+
+returns : tie.Need-returns
+returns c = c .accepted .ensures ∙ accepted-is _ _ _ (passed (c .before .before .before .before)) (c .before .build .ensures .1)
+
+returns-2 : tie.Need-returns-2
+returns-2 c = c .refused .ensures ∙ refused-is _ _ _ (sym (c .before .before .before .before .shape .ensures) ∙ c .before .before .verdict .given .1)
+
+pub constant-spec : {M : Type 1} → statement M
+constant-spec =
+    tie.close
+    (tie.spec
+    (λ c κs. search needs)  -- shape-requires
+    (λ c. search needs)  -- enum-told
+    first
+    second
+    build-requires
+    (λ c κs. search needs)  -- accepted-requires
+    (λ c. search needs)  -- enum-known-verdict
+    (λ c κs. search needs)  -- refused-requires
+    returns
+    returns-2)
