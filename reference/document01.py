@@ -347,6 +347,16 @@ def from_numbers(rows, columns, numbers):
     return block_answer(refusal, rows, columns, lambda: list(zip(numbers[0::2], numbers[1::2])))
 
 
+def from_scalar(value):
+    """The 1 by 1 block of a complex number."""
+    return block_answer(line_7([value]), 1, 1, lambda: [value])
+
+
+def zero(size):
+    refusal = line_1(2, 1, [(size, size)]) or line_2(2, 1, [(size, size)])
+    return block_answer(refusal, size, size, lambda: zeros(size))
+
+
 def identity(size):
     refusal = line_1(2, 1, [(size, size)]) or line_2(2, 1, [(size, size)])
     return block_answer(

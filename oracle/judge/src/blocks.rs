@@ -1,5 +1,5 @@
 //! The norm and the operations on blocks.
-use crate::lines::{block_refusal, limits, matrices, matrix, refusal, require};
+use crate::lines::{block_refusal, finite, limits, matrices, matrix, refusal, require};
 use crate::{Answer, Refused};
 use keldysh_green::{kept, Complex64, DenseMatrix};
 
@@ -52,6 +52,16 @@ pub fn from_numbers(rows: usize, columns: usize, numbers: &[f64]) -> Answer<Bloc
     limits(None, &[rows, columns])?;
     require(numbers.len() == 2 * rows * columns, 3)?;
     Ok(matrix(0, rows, columns, numbers)?.into())
+}
+
+/// The 1 by 1 block of a number, by its real and its imaginary part.
+pub fn from_scalar(value: [f64; 2]) -> Answer<Block> {
+    Ok(finite(0, &value, DenseMatrix::from_scalar(Complex64::new(value[0], value[1])))?.into())
+}
+
+pub fn zero(size: usize) -> Answer<Block> {
+    limits(None, &[size])?;
+    Ok(kept::zero(size).map_err(refusal)?.into())
 }
 
 pub fn identity(size: usize) -> Answer<Block> {

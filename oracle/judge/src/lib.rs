@@ -5,7 +5,8 @@ mod functions;
 mod lines;
 pub mod stages;
 
-pub use blocks::{add, adjoint, from_numbers, get, identity, is_hermitian, max_difference, multiply, norm, scale, subtract, trace, Block};
+pub use blocks::{add, adjoint, from_numbers, from_scalar, get, identity, is_hermitian, max_difference, multiply, norm, scale, subtract};
+pub use blocks::{trace, zero, Block};
 pub use functions::{bond_flow_into, density_matrix, one_body_expectation, particle_number};
 pub use functions::{causal_volterra_convolution, consistency_report, full_weights, interval_weight, is_consistent, langreth_product};
 pub use functions::{check_retarded_support, retarded_dyson, retarded_dyson_with_tolerance, time_convolution, transient_run, Filled};

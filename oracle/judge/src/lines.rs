@@ -33,7 +33,7 @@ pub fn grid(points: usize, times: &[f64], lent: &[usize]) -> Answer<RealTimeGrid
 
 /// What the port built of an operand's numbers, or line 7. Lines 1 to 3 are asked, so that it refuses what is not finite alone, and it does
 /// not say which number that is.
-fn finite<T, E: Debug>(operand: usize, xs: &[f64], built: Result<T, E>) -> Answer<T> {
+pub fn finite<T, E: Debug>(operand: usize, xs: &[f64], built: Result<T, E>) -> Answer<T> {
     built.map_err(|error| {
         let first = xs.iter().position(|x| !x.is_finite()).unwrap_or_else(|| panic!("all numbers are finite: {error:?}"));
         Refused { operand, first, ..Refused::by(7) }

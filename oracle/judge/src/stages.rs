@@ -1,7 +1,7 @@
 //! Where the work of a call first makes a block that is not finite: in which function or sum, by which operation. The inputs are as lines 1
 //! to 9 want them. The work is done by the port's operations on blocks, since the port does not say where it stops.
 use crate::lines::{functions, functions_of_times};
-use keldysh_green::{kept, Complex64, DenseMatrix, KeldyshError, RealTimeGrid, Result, TwoTimeMatrix};
+use keldysh_green::{kept, DenseMatrix, KeldyshError, RealTimeGrid, Result, TwoTimeMatrix};
 
 /// What was being made, and the operation.
 pub type Stage = [&'static str; 2];
@@ -21,7 +21,7 @@ fn function(name: &'static str, like: &TwoTimeMatrix, block: impl FnMut(usize, u
 }
 
 fn zero(size: usize) -> Result<DenseMatrix> {
-    by("zero", DenseMatrix::try_new(size, size, vec![Complex64::new(0.0, 0.0); size * size]))
+    by("zero", kept::zero(size))
 }
 
 fn plus_term(total: &DenseMatrix, left: &DenseMatrix, right: &DenseMatrix, weight: f64) -> Result<DenseMatrix> {

@@ -47,6 +47,10 @@ pub mod kept {
     pub use crate::keldysh::{check_retarded_support, interval_sum};
     use crate::{matrix_ops, Complex64, DenseMatrix, RealTimeGrid, Result};
 
+    pub fn zero(size: usize) -> Result<DenseMatrix> {
+        matrix_ops::zero(size)
+    }
+
     pub fn add(left: &DenseMatrix, right: &DenseMatrix) -> Result<DenseMatrix> {
         matrix_ops::add(left, right)
     }
