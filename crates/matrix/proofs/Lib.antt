@@ -1,6 +1,5 @@
 -- Laws that the functions' proofs cite.
 pub mod Places
 pub mod Filled
-pub mod Steps
 pub mod Shapes
 pub mod Results

@@ -58,8 +58,11 @@ partSize z = larger (size (z .re)) (size (z .im))
 unfoldable pub partAbove : Float → Complex → Bool
 partAbove threshold z = lt threshold (size (z .re)) || lt threshold (size (z .im))
 
+abbrev pub mirrors : Float → Entries → ℕ → ℕ → Bool
+mirrors threshold x a b = ltb b a || not (partAbove threshold (csub (x a b) (conj (x b a))))
+
 unfoldable pub hermitianWithin : ℕ → Float → Entries → Bool
-hermitianWithin size threshold x = allIn size size (λ a b. ltb b a || not (partAbove threshold (csub (x a b) (conj (x b a)))))
+hermitianWithin size threshold x = allIn size size (mirrors threshold x)
 
 unfoldable pub hermitian : ℕ → Float → Entries → Bool
 hermitian size tolerance x = hermitianWithin size (mul tolerance (largestIn size size (λ c d. partSize (x c d)))) x

@@ -1,12 +1,14 @@
 // The entries of a block that an operation makes, over the numbers of its operands: one loop serves every operation.
 ghost use mathlib.Core.Path.{_≡_};
-ghost use Prim.Native.Nat.{ℕ, _+_, _*_, _/_, _%_, _≤_, _<_};
-ghost use lib.ListN.{length, set};
+ghost use Prim.Native.Nat.{_*_, _≤_, _<_};
+ghost use lib.ListN.{length};
+ghost use Rattle.lists.specs.Indexed.{allBelow};
 ghost use Rattle.lists.specs.Filling.{over};
-ghost use Rattle.complex.specs.Numbers.{entryAt};
+ghost use Rattle.complex.specs.Arithmetic.{cfinite};
+ghost use Rattle.complex.specs.Filling.{cells};
 ghost use Rattle.matrix.specs.Block.{entriesIn, layOut};
 ghost use Rattle.matrix.specs.Operations.{product, allFinite};
-ghost use Rattle.matrix.specs.Made.{madeBy};
+ghost use Rattle.matrix.specs.Made.{madeIn};
 use complex::Complex;
 
 // What is made of a block a, or of blocks a and b.
@@ -26,19 +28,7 @@ pub(crate) fn entry(xs: &[f64], columns: usize, i: usize, j: usize) -> Complex
     ensures { λ r. ⌜ r ≡ entriesIn columns (now (xs .entry)) i j ⌝ }
 {
     let place = 2 * (i * columns + j);
-    Complex {
-        re: xs[place],
-        im: xs[place + 1],
-    }
-}
-
-// Writes z as the p-th complex number.
-fn put(xs: &mut [f64], p: usize, z: Complex)
-    requires { ⌜ 2 * p + 1 < length (now xs) ⌝ }
-    ensures { λ _. ⌜ now (xs .exit) ≡ set (set (now (xs .entry)) (2 * p) (z .re)) (2 * p + 1) (z .im) ⌝ }
-{
-    xs[2 * p] = z.re;
-    xs[2 * p + 1] = z.im;
+    Complex::new(xs[place], xs[place + 1])
 }
 
 // Entry (i, j) of the product of a, with `inner` columns, and b, with `columns`.
@@ -68,7 +58,7 @@ fn made(
 ) -> Complex
     requires { ⌜ (i < 16) × (j < 16) × (inner ≤ 16) × (columns ≤ 16) ⌝ }
     requires { ⌜ (512 ≤ length (now a)) × (512 ≤ length (now b)) ⌝ }
-    ensures { λ r. ⌜ r ≡ madeBy op inner (entriesIn inner (now (a .entry))) (entriesIn columns (now (b .entry))) i j ⌝ }
+    ensures { λ r. ⌜ r ≡ madeIn op inner columns (now (a .entry)) (now (b .entry)) i j ⌝ }
 {
     match op {
         Operation::Zero => Complex::ZERO,
@@ -89,19 +79,29 @@ fn made(
     }
 }
 
-// The row and the column of the entry after (i, j), by rows: no division in the loop.
-fn next_row(i: usize, j: usize, columns: usize) -> usize
-    requires { ⌜ (i < 16) × (j < columns) × (columns ≤ 16) ⌝ }
-    ensures { λ r. ⌜ r ≡ (i * columns + j + 1) / columns ⌝ }
+// Writes row i of what the operation makes, and answers whether all of it is finite.
+fn fill_row(
+    op: Operation,
+    row: &mut [f64],
+    a: &[f64],
+    b: &[f64],
+    inner: usize,
+    columns: usize,
+    i: usize,
+) -> bool
+    requires { ⌜ (i < 16) × (inner ≤ 16) × (columns ≤ 16) × (length (now row) ≡ 2 * columns) ⌝ }
+    requires { ⌜ (512 ≤ length (now a)) × (512 ≤ length (now b)) ⌝ }
+    ensures { λ r. ⌜ (r ≡ allBelow columns (λ j. cfinite (madeIn op inner columns (now (a .entry)) (now (b .entry)) i j)))
+        × (now (row .exit) ≡ cells columns (madeIn op inner columns (now (a .entry)) (now (b .entry)) i)) ⌝ }
 {
-    if j + 1 == columns { i + 1 } else { i }
-}
-
-fn next_column(j: usize, columns: usize) -> usize
-    requires { ⌜ (j < columns) × (columns ≤ 16) ⌝ }
-    ensures { λ r. ⌜ r ≡ (j + 1) % columns ⌝ }
-{
-    if j + 1 == columns { 0 } else { j + 1 }
+    let mut all = true;
+    for j in 0..columns {
+        let z = made(op, a, b, inner, columns, i, j);
+        all = all & z.is_finite();
+        row[2 * j] = z.re;
+        row[2 * j + 1] = z.im;
+    }
+    all
 }
 
 // Writes the operation's rows·columns entries over the start of out, and answers whether all are finite; a has `inner` columns.
@@ -114,21 +114,17 @@ pub(crate) fn fill(
     inner: usize,
     columns: usize,
 ) -> bool
-    requires { ⌜ (0 < columns) × (rows ≤ 16) × (inner ≤ 16) × (columns ≤ 16) ⌝ }
+    requires { ⌜ (rows ≤ 16) × (inner ≤ 16) × (columns ≤ 16) ⌝ }
     requires { ⌜ (512 ≤ length (now a)) × (512 ≤ length (now b)) × (512 ≤ length (now out)) ⌝ }
-    ensures { λ r. ⌜ (r ≡ allFinite rows columns (madeBy op inner (entriesIn inner (now (a .entry))) (entriesIn columns (now (b .entry)))))
-        × (now (out .exit) ≡ over (now (out .entry)) (layOut rows columns (madeBy op inner (entriesIn inner (now (a .entry))) (entriesIn columns (now (b .entry)))))) ⌝ }
+    ensures { λ r. ⌜ (r ≡ allFinite rows columns (madeIn op inner columns (now (a .entry)) (now (b .entry))))
+        × (now (out .exit) ≡ over (now (out .entry)) (layOut rows columns (madeIn op inner columns (now (a .entry)) (now (b .entry))))) ⌝ }
 {
+    let width = 2 * columns;
     let mut all = true;
-    let mut i = 0;
-    let mut j = 0;
-    let count = rows * columns;
-    for p in 0..count {
-        let z = made(op, a, b, inner, columns, i, j);
-        all = all & z.is_finite();
-        put(out, p, z);
-        i = next_row(i, j, columns);
-        j = next_column(j, columns);
+    for i in 0..rows {
+        let start = i * width;
+        let end = start + width;
+        all = all & fill_row(op, &mut out[start..end], a, b, inner, columns, i);
     }
     all
 }

@@ -11,9 +11,9 @@ ghost use lib.ListN.{length, replicate};
 ghost use Rattle.complex.specs.Arithmetic.{plusZero};
 ghost use Rattle.refusal.specs.Verdict.{decide};
 ghost use Rattle.refusal.specs.Lines.{finiteEntries, finiteWork};
-ghost use Rattle.matrix.specs.Block.{entriesIn, blockOf, checked, noBlock};
+ghost use Rattle.matrix.specs.Block.{blockOf, checked, noBlock};
 ghost use Rattle.matrix.specs.Operations.{allFinite};
-ghost use Rattle.matrix.specs.Made.{madeBy, combinedOf};
+ghost use Rattle.matrix.specs.Made.{madeIn, combinedOf};
 ghost use Rattle.matrix.specs.Calls.{shapeOf, fromNumbers, fromScalar, zeroOf, identityOf, adjointOf, productOf, scaleOf, addOf, subtractOf};
 ghost use Rattle.matrix.specs.Calls.{traceOf, entryOf, maxDifferenceOf, isHermitian};
 use complex::Complex;
@@ -66,10 +66,10 @@ fn refused(refusal: Refusal) -> Checked
 
 // The block that an operation makes of a, with `inner` columns, and b, with `columns`.
 fn build(op: Operation, rows: usize, inner: usize, columns: usize, a: &[f64], b: &[f64]) -> Made
-    requires { ⌜ (0 < columns) × (rows ≤ 16) × (inner ≤ 16) × (columns ≤ 16) ⌝ }
+    requires { ⌜ (rows ≤ 16) × (inner ≤ 16) × (columns ≤ 16) ⌝ }
     requires { ⌜ (512 ≤ length (now a)) × (512 ≤ length (now b)) ⌝ }
-    ensures { λ r. ⌜ (r .finite ≡ allFinite rows columns (madeBy op inner (entriesIn inner (now (a .entry))) (entriesIn columns (now (b .entry)))))
-        × (r .block ≡ blockOf rows columns (madeBy op inner (entriesIn inner (now (a .entry))) (entriesIn columns (now (b .entry))))) ⌝ }
+    ensures { λ r. ⌜ (r .finite ≡ allFinite rows columns (madeIn op inner columns (now (a .entry)) (now (b .entry))))
+        × (r .block ≡ blockOf rows columns (madeIn op inner columns (now (a .entry)) (now (b .entry)))) ⌝ }
 {
     let mut values = [0.0; 512];
     let finite = fill::fill(op, &mut values, a, b, rows, inner, columns);
@@ -140,12 +140,13 @@ fn entries_or_7(rows: usize, columns: usize, numbers: &[f64]) -> Checked
 
 // The block that an operation makes of a size alone.
 fn constant(op: Operation, size: usize) -> Checked
-    ensures { λ r. ⌜ r ≡ checked (shapeOf true size size) (blockOf size size (madeBy op size (entriesIn size (replicate 512 plusZero)) (entriesIn size (replicate 512 plusZero)))) ⌝ }
+    ensures { λ r. ⌜ r ≡ checked (shapeOf true size size) (blockOf size size (madeIn op size size (replicate 512 plusZero) (replicate 512 plusZero))) ⌝ }
 {
-    let zeros = [0.0; 512];
+    let values = [0.0; 512];
+    let zeros: &[f64] = &values;
     let verdict = lines::shape(true, size, size);
     match verdict {
-        Verdict::Pass => accepted(build(op, size, size, size, &zeros, &zeros)),
+        Verdict::Pass => accepted(build(op, size, size, size, zeros, zeros)),
         Verdict::Refused(r) => refused(r),
     }
 }
@@ -225,10 +226,11 @@ impl DenseMatrix {
     {
         let rows = self.rows;
         let columns = self.columns;
-        let a = self.values;
-        let verdict = lines::block_lines(true, rows, columns, &a);
+        let values = self.values;
+        let a: &[f64] = &values;
+        let verdict = lines::block_lines(true, rows, columns, a);
         match verdict {
-            Verdict::Pass => accepted(build(Operation::Adjoint, columns, columns, rows, &a, &a)),
+            Verdict::Pass => accepted(build(Operation::Adjoint, columns, columns, rows, a, a)),
             Verdict::Refused(r) => refused(r),
         }
     }
@@ -239,11 +241,12 @@ impl DenseMatrix {
     {
         let rows = self.rows;
         let columns = self.columns;
-        let a = self.values;
-        let verdict = lines::block_lines(true, rows, columns, &a);
+        let values = self.values;
+        let a: &[f64] = &values;
+        let verdict = lines::block_lines(true, rows, columns, a);
         match verdict {
             Verdict::Pass => {
-                finite_or_10(build(Operation::Scale(factor), rows, columns, columns, &a, &a))
+                finite_or_10(build(Operation::Scale(factor), rows, columns, columns, a, a))
             }
             Verdict::Refused(r) => refused(r),
         }
@@ -255,53 +258,59 @@ impl DenseMatrix {
     {
         let inner = self.columns;
         let below = other.rows;
-        let a = self.values;
-        let b = other.values;
+        let left = self.values;
+        let right = other.values;
+        let a: &[f64] = &left;
+        let b: &[f64] = &right;
         combined(
             Operation::Product,
             inner == below,
             self.rows,
             inner,
-            &a,
+            a,
             below,
             other.columns,
-            &b,
+            b,
         )
     }
 
     pub fn add(self, other: DenseMatrix) -> Checked
         ensures { λ r. ⌜ r ≡ addOf self other ⌝ }
     {
-        let a = self.values;
-        let b = other.values;
+        let left = self.values;
+        let right = other.values;
+        let a: &[f64] = &left;
+        let b: &[f64] = &right;
         let same = (self.rows == other.rows) & (self.columns == other.columns);
         combined(
             Operation::Add,
             same,
             self.rows,
             self.columns,
-            &a,
+            a,
             other.rows,
             other.columns,
-            &b,
+            b,
         )
     }
 
     pub fn subtract(self, other: DenseMatrix) -> Checked
         ensures { λ r. ⌜ r ≡ subtractOf self other ⌝ }
     {
-        let a = self.values;
-        let b = other.values;
+        let left = self.values;
+        let right = other.values;
+        let a: &[f64] = &left;
+        let b: &[f64] = &right;
         let same = (self.rows == other.rows) & (self.columns == other.columns);
         combined(
             Operation::Subtract,
             same,
             self.rows,
             self.columns,
-            &a,
+            a,
             other.rows,
             other.columns,
-            &b,
+            b,
         )
     }
 
@@ -311,10 +320,11 @@ impl DenseMatrix {
     {
         let rows = self.rows;
         let columns = self.columns;
-        let a = self.values;
-        let verdict = lines::block_lines(rows == columns, rows, columns, &a);
+        let values = self.values;
+        let a: &[f64] = &values;
+        let verdict = lines::block_lines(rows == columns, rows, columns, a);
         match verdict {
-            Verdict::Pass => Value::Of(measure::diagonal(&a, columns)),
+            Verdict::Pass => Value::Of(measure::diagonal(a, columns)),
             Verdict::Refused(r) => Value::Refused(r),
         }
     }
@@ -325,11 +335,12 @@ impl DenseMatrix {
     {
         let rows = self.rows;
         let columns = self.columns;
-        let a = self.values;
+        let values = self.values;
+        let a: &[f64] = &values;
         let inside = orbital_below(row, rows).then(orbital_below(column, columns));
-        let verdict = lines::block_lines(true, rows, columns, &a).then(inside);
+        let verdict = lines::block_lines(true, rows, columns, a).then(inside);
         match verdict {
-            Verdict::Pass => Value::Of(fill::entry(&a, columns, row, column)),
+            Verdict::Pass => Value::Of(fill::entry(a, columns, row, column)),
             Verdict::Refused(r) => Value::Refused(r),
         }
     }
@@ -342,12 +353,14 @@ impl DenseMatrix {
         let columns = self.columns;
         let below = other.rows;
         let beside = other.columns;
-        let a = self.values;
-        let b = other.values;
+        let left = self.values;
+        let right = other.values;
+        let a: &[f64] = &left;
+        let b: &[f64] = &right;
         let same = (rows == below) & (columns == beside);
-        let verdict = lines::pair_lines(same, rows, columns, &a, below, beside, &b);
+        let verdict = lines::pair_lines(same, rows, columns, a, below, beside, b);
         match verdict {
-            Verdict::Pass => Measured::Of(measure::largest_difference(&a, &b, rows, columns)),
+            Verdict::Pass => Measured::Of(measure::largest_difference(a, b, rows, columns)),
             Verdict::Refused(r) => Measured::Refused(r),
         }
     }
@@ -358,13 +371,14 @@ impl DenseMatrix {
     {
         let rows = self.rows;
         let columns = self.columns;
-        let a = self.values;
-        let verdict = lines::block_lines(true, rows, columns, &a).then(valid_tolerance(tolerance));
+        let values = self.values;
+        let a: &[f64] = &values;
+        let verdict = lines::block_lines(true, rows, columns, a).then(valid_tolerance(tolerance));
         match verdict {
             Verdict::Pass => {
                 if rows == columns {
-                    let threshold = tolerance * measure::largest_part(&a, rows);
-                    decided(measure::hermitian_within(&a, rows, threshold))
+                    let threshold = tolerance * measure::largest_part(a, rows);
+                    decided(measure::hermitian_within(a, rows, threshold))
                 } else {
                     Decision::No
                 }

@@ -26,7 +26,7 @@ build-requires : tie.Need-build-requires
 unfolding left right
 build-requires c κs =
     let s = both-small _ _ _ (passed c) in
-    ((s .1 .columns-some, s .0 .rows-most, s .0 .columns-most, s .1 .columns-most), search needs)
+    ((s .0 .rows-most, s .0 .columns-most, s .1 .columns-most), search needs)
 
 pub combined-spec : {M : Type 1} → statement M
 unfolding combinedOf left right

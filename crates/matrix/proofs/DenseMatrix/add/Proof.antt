@@ -10,12 +10,12 @@ use Rattle.matrix.proofs.Results.{same-columns}
 use Rattle.matrix.proofs.DenseMatrix.add.Statement.{statement}
 use Rattle.matrix.proofs.DenseMatrix.add.Tie as tie
 
-first : tie.Need-slice-aggregate-combined
+first : tie.Need-slice-aggregate-a
 first c = search needs
 
-second : tie.Need-slice-aggregate-combined-2
+second : tie.Need-slice-aggregate-b
 second c = search needs
 
 pub add-spec : {M : Type 1} → statement M
 unfolding addOf madeBy combinedOf
-add-spec = tie.close (tie.spec first second (λ c κs. (le-of-eq (first (c .before)), le-of-eq (second c))) (λ c. let x = c .before .before .before .before .before .before .before .before .before .args in c .combined .ensures ∙ same-columns (x .self) (x .other) (added (entriesOf (x .self)) (entriesOf (x .other)))))
+add-spec = tie.close (tie.spec first second (λ c κs. (le-of-eq (first (c .before .before .before .before .before)), le-of-eq (second (c .before .before .before .before)))) (λ c. let x = c .before .before .before .before .before .before .before .before .before .args in c .combined .ensures ∙ same-columns (x .self) (x .other) (added (entriesOf (x .self)) (entriesOf (x .other)))))

@@ -14,20 +14,17 @@ use Rattle.matrix.proofs.DenseMatrix.adjoint.Tie as tie
 passed : (c : tie.After-enum-told) → blockLines true (c .before .before .before .before .before .args .self) ≡ Pass
 passed c = sym (c .before .before .block-lines .ensures) ∙ c .enum-told .given .1
 
-first : tie.Need-slice-aggregate-build
-first c = search needs
-
-second : tie.Need-slice-aggregate-build-2
-second c = search needs
+whole : tie.Need-slice-aggregate-a
+whole c = search needs
 
 build-requires : tie.Need-build-requires
 build-requires c κs =
-    let s = lines-small true _ (passed (c .before .before)) in
-    ((s .rows-some, s .columns-most, s .columns-most, s .rows-most), (le-of-eq (first (c .before)), le-of-eq (second c)))
+    let s = lines-small true _ (passed c) in
+    ((s .columns-most, s .columns-most, s .rows-most), (le-of-eq (whole (c .before .before .before)), le-of-eq (whole (c .before .before .before))))
 
 returns : tie.Need-returns
 unfolding adjointOf madeBy
-returns c = c .accepted .ensures ∙ accepted-is _ _ _ (passed (c .before .before .before .before)) (c .before .build .ensures .1)
+returns c = c .accepted .ensures ∙ accepted-is _ _ _ (passed (c .before .before)) (c .before .build .ensures .1)
 
 returns-2 : tie.Need-returns-2
 unfolding adjointOf
@@ -37,11 +34,9 @@ pub adjoint-spec : {M : Type 1} → statement M
 adjoint-spec =
     tie.close
     (tie.spec
-    (λ c. search needs)  -- slice-aggregate-block-lines
+    whole
     (λ c κs. search needs)  -- block-lines-requires
     (λ c. search needs)  -- enum-told
-    first
-    second
     build-requires
     (λ c κs. search needs)  -- accepted-requires
     (λ c. search needs)  -- enum-known-verdict

@@ -24,14 +24,14 @@ use Rattle.matrix.proofs.DenseMatrix.get.Tie as tie
 asked : (c : tie.After-then2) → let x = c .before .before .before .before .before .before .before .args in
     c .then2 .result ≡ (blockLines true (x .self) then orbitalBelow (x .row) (x .self .rows) then orbitalBelow (x .column) (x .self .columns))
 asked c =
-    let t = c .before .before .before in
+    let t = c .before .before in
     c .then2 .ensures ∙ rw (c .before .block-lines .ensures, t .then .ensures, t .before .orbital-below2 .ensures, t .before .before .orbital-below .ensures)
 
 passed : (c : tie.After-enum-told) → let x = c .before .before .before .before .before .before .before .before .before .args in
     (blockLines true (x .self) then orbitalBelow (x .row) (x .self .rows) then orbitalBelow (x .column) (x .self .columns)) ≡ Pass
 passed c = sym (asked (c .before .before)) ∙ c .enum-told .given .1
 
-whole : tie.Need-slice-aggregate-entry
+whole : tie.Need-slice-aggregate-a
 whole c = search needs
 
 index : (i count : ℕ) → orbitalBelow i count ≡ Pass → i < count
@@ -40,17 +40,17 @@ index i count h = ltb-true i count (ask-pass (ltb i count) (by 12) h)
 
 entry-requires : tie.Need-entry-requires
 entry-requires c κs =
-    let x = c .before .before .before .before .before .before .before .before .before .before .args in
-    let p = then-pass (blockLines true (x .self)) _ (passed (c .before)) in
+    let x = c .before .before .before .before .before .before .before .before .before .args in
+    let p = then-pass (blockLines true (x .self)) _ (passed c) in
     let q = then-pass (orbitalBelow (x .row) (x .self .rows)) (orbitalBelow (x .column) (x .self .columns)) (p .1) in
     let s = lines-small true (x .self) (p .0) in
-    (le-trans (index _ _ (q .0)) (s .rows-most), le-trans (index _ _ (q .1)) (s .columns-most), s .columns-most, le-of-eq (whole c))
+    (le-trans (index _ _ (q .0)) (s .rows-most), le-trans (index _ _ (q .1)) (s .columns-most), s .columns-most, le-of-eq (whole (c .before .before .before .before .before .before .before)))
 
 returns : tie.Need-returns
 unfolding entryOf valued
 returns c =
-    let x = c .before .before .before .before .before .before .before .before .before .before .before .args in
-    ap Of (c .entry .ensures) ∙ ap (λ (v : Verdict). valued v (entriesOf (x .self) (x .row) (x .column))) (sym (passed (c .before .before)))
+    let x = c .before .before .before .before .before .before .before .before .before .before .args in
+    ap Of (c .entry .ensures) ∙ ap (λ (v : Verdict). valued v (entriesOf (x .self) (x .row) (x .column))) (sym (passed (c .before)))
 
 returns-2 : tie.Need-returns-2
 unfolding entryOf valued
@@ -60,14 +60,13 @@ pub get-spec : {M : Type 1} → statement M
 get-spec =
     tie.close
     (tie.spec
+    whole
     (λ c κs. search needs)  -- orbital-below-requires
     (λ c κs. search needs)  -- orbital-below-requires-2
     (λ c κs. search needs)  -- then-requires
-    (λ c. search needs)  -- slice-aggregate-block-lines
     (λ c κs. search needs)  -- block-lines-requires
     (λ c κs. search needs)  -- then-requires-2
     (λ c. search needs)  -- enum-told
-    whole
     entry-requires
     (λ c. search needs)  -- enum-known-verdict
     returns

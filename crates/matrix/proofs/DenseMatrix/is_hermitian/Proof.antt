@@ -34,11 +34,8 @@ passed c = sym (asked (c .before .before)) ∙ c .enum-told .given .1
 few : (c : tie.After-enum-told) → let x = c .before .before .before .before .before .before .before .args .self in Small (x .rows) (x .columns)
 few c = lines-small true _ (then-pass _ _ (passed c) .0)
 
-first : tie.Need-slice-aggregate-largest-part
-first c = search needs
-
-second : tie.Need-slice-aggregate-hermitian-within
-second c = search needs
+whole : tie.Need-slice-aggregate-a
+whole c = search needs
 
 -- past the lines, of a square block: what both loops found
 square-is : (x : DenseMatrix) (tolerance largest : Float) (within : Bool) (v : Verdict) → v ≡ Pass → x .rows ≡ x .columns
@@ -55,11 +52,11 @@ square-is x tolerance largest within v p e l w =
 returns : tie.Need-returns
 unfolding isHermitian
 returns c =
-    let t = c .before .before .before .before .before in
+    let t = c .before .before .before in
     let x = t .before .before .before .before .before .before .before .before .args in
     c .decided .ensures
-    ∙ square-is (x .self) (x .tolerance) (c .before .before .before .largest-part .result) (c .before .hermitian-within .result) _ (passed (t .before)) (t .if1 .taken)
-    (c .before .before .before .largest-part .ensures) (c .before .hermitian-within .ensures)
+    ∙ square-is (x .self) (x .tolerance) (c .before .before .largest-part .result) (c .before .hermitian-within .result) _ (passed (t .before)) (t .if1 .taken)
+    (c .before .before .largest-part .ensures) (c .before .hermitian-within .ensures)
 
 returns-2 : tie.Need-returns-2
 unfolding isHermitian decide
@@ -73,15 +70,13 @@ pub is-hermitian-spec : {M : Type 1} → statement M
 is-hermitian-spec =
     tie.close
     (tie.spec
-    (λ c. search needs)  -- slice-aggregate-block-lines
+    whole
     (λ c κs. search needs)  -- block-lines-requires
     (λ c κs. search needs)  -- valid-tolerance-requires
     (λ c κs. search needs)  -- then-requires
     (λ c. search needs)  -- enum-told
-    first
-    (λ c κs. let s = few (c .before .before) in (s .rows-some, s .rows-most, le-of-eq (first c)))  -- largest-part-requires
-    second
-    (λ c κs. let s = few (c .before .before .before .before) in (s .rows-some, s .rows-most, le-of-eq (second c)))  -- hermitian-within-requires
+    (λ c κs. (few (c .before) .rows-most, le-of-eq (whole (c .before .before .before .before .before .before))))  -- largest-part-requires
+    (λ c κs. (few (c .before .before) .rows-most, le-of-eq (whole (c .before .before .before .before .before .before .before))))  -- hermitian-within-requires
     (λ c κs. search needs)  -- decided-requires
     (λ c. search needs)  -- enum-known-verdict
     returns

@@ -23,17 +23,17 @@ use Rattle.matrix.proofs.DenseMatrix.max_difference.Tie as tie
 passed : (c : tie.After-enum-told) → let x = c .before .before .before .before .before .before .before .args in pairLines (sameShape (x .self) (x .other)) (x .self) (x .other) ≡ Pass
 passed c = sym (c .before .before .pair-lines .ensures) ∙ c .enum-told .given .1
 
-first : tie.Need-slice-aggregate-largest-difference
+first : tie.Need-slice-aggregate-a
 first c = search needs
 
-second : tie.Need-slice-aggregate-largest-difference-2
+second : tie.Need-slice-aggregate-b
 second c = search needs
 
 returns : tie.Need-returns
 unfolding maxDifferenceOf measured
 returns c =
-    let x = c .before .before .before .before .before .before .before .before .before .before .args in
-    let p = passed (c .before .before .before) in
+    let x = c .before .before .before .before .before .before .before .before .args in
+    let p = passed (c .before) in
     let e : x .self .columns ≡ x .other .columns =
     eqb-true _ _ (both (eqb (x .self .rows) (x .other .rows)) (eqb (x .self .columns) (x .other .columns)) (pair-fits (sameShape (x .self) (x .other)) (x .self) (x .other) p) .1) in
     let f : ℕ → Float = λ m. largestNorm (x .self .rows) (x .self .columns) (subtracted (entriesOf (x .self)) (entriesIn m (x .other .values))) in
@@ -47,13 +47,11 @@ pub max-difference-spec : {M : Type 1} → statement M
 max-difference-spec =
     tie.close
     (tie.spec
-    (λ c. search needs)  -- slice-aggregate-pair-lines
-    (λ c. search needs)  -- slice-aggregate-pair-lines-2
-    (λ c κs. search needs)  -- pair-lines-requires
-    (λ c. search needs)  -- enum-told
     first
     second
-    (λ c κs. let s = both-small _ _ _ (passed (c .before .before)) .0 in (s .columns-some, s .rows-most, s .columns-most, le-of-eq (first (c .before)), le-of-eq (second c)))  -- largest-difference-requires
+    (λ c κs. search needs)  -- pair-lines-requires
+    (λ c. search needs)  -- enum-told
+    (λ c κs. let s = both-small _ _ _ (passed c) .0 in (s .rows-most, s .columns-most, le-of-eq (first (c .before .before .before .before)), le-of-eq (second (c .before .before .before))))  -- largest-difference-requires
     (λ c. search needs)  -- enum-known-verdict
     returns
     returns-2)

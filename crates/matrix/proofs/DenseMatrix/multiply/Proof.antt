@@ -6,10 +6,10 @@ use Rattle.matrix.specs.Made.{madeBy, combinedOf}
 use Rattle.matrix.proofs.DenseMatrix.multiply.Statement.{statement}
 use Rattle.matrix.proofs.DenseMatrix.multiply.Tie as tie
 
-first : tie.Need-slice-aggregate-combined
+first : tie.Need-slice-aggregate-a
 first c = search needs
 
-second : tie.Need-slice-aggregate-combined-2
+second : tie.Need-slice-aggregate-b
 second c = search needs
 
 pub multiply-spec : {M : Type 1} → statement M

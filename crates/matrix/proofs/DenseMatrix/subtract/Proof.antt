@@ -10,12 +10,12 @@ use Rattle.matrix.proofs.Results.{same-columns}
 use Rattle.matrix.proofs.DenseMatrix.subtract.Statement.{statement}
 use Rattle.matrix.proofs.DenseMatrix.subtract.Tie as tie
 
-first : tie.Need-slice-aggregate-combined
+first : tie.Need-slice-aggregate-a
 first c = search needs
 
-second : tie.Need-slice-aggregate-combined-2
+second : tie.Need-slice-aggregate-b
 second c = search needs
 
 pub subtract-spec : {M : Type 1} → statement M
 unfolding subtractOf madeBy combinedOf
-subtract-spec = tie.close (tie.spec first second (λ c κs. (le-of-eq (first (c .before)), le-of-eq (second c))) (λ c. let x = c .before .before .before .before .before .before .before .before .before .args in c .combined .ensures ∙ same-columns (x .self) (x .other) (subtracted (entriesOf (x .self)) (entriesOf (x .other)))))
+subtract-spec = tie.close (tie.spec first second (λ c κs. (le-of-eq (first (c .before .before .before .before .before)), le-of-eq (second (c .before .before .before .before)))) (λ c. let x = c .before .before .before .before .before .before .before .before .before .args in c .combined .ensures ∙ same-columns (x .self) (x .other) (subtracted (entriesOf (x .self)) (entriesOf (x .other)))))

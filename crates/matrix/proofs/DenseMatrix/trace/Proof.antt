@@ -23,14 +23,14 @@ use Rattle.matrix.proofs.DenseMatrix.trace.Tie as tie
 passed : (c : tie.After-enum-told) → let x = c .before .before .before .before .before .args .self in blockLines (square x) x ≡ Pass
 passed c = sym (c .before .before .block-lines .ensures) ∙ c .enum-told .given .1
 
-whole : tie.Need-slice-aggregate-diagonal
+whole : tie.Need-slice-aggregate-a
 whole c = search needs
 
 returns : tie.Need-returns
 unfolding traceOf valued
 returns c =
-    let x = c .before .before .before .before .before .before .before .args .self in
-    let p = passed (c .before .before) in
+    let x = c .before .before .before .before .before .before .args .self in
+    let p = passed (c .before) in
     let e : x .rows ≡ x .columns = eqb-true (x .rows) (x .columns) (block-fits (square x) x p) in
     ap Of (c .diagonal .ensures ∙ ap (λ (m : ℕ). trace m (entriesOf x)) (sym e)) ∙ ap (λ (v : Verdict). valued v (trace (x .rows) (entriesOf x))) (sym p)
 
@@ -42,11 +42,10 @@ pub trace-spec : {M : Type 1} → statement M
 trace-spec =
     tie.close
     (tie.spec
-    (λ c. search needs)  -- slice-aggregate-block-lines
+    whole
     (λ c κs. search needs)  -- block-lines-requires
     (λ c. search needs)  -- enum-told
-    whole
-    (λ c κs. (lines-small _ _ (passed (c .before)) .columns-most, le-of-eq (whole c)))  -- diagonal-requires
+    (λ c κs. (lines-small _ _ (passed c) .columns-most, le-of-eq (whole (c .before .before .before))))  -- diagonal-requires
     (λ c. search needs)  -- enum-known-verdict
     returns
     returns-2)

@@ -13,12 +13,13 @@ pub entry-spec : {M : Type 1} → statement M
 entry-spec =
     tie.close
     (tie.spec
-    (λ c. omega (arith, before c))  -- mul-place
-    (λ c. omega (arith, before c))  -- add-place
-    (λ c. omega (arith, before c))  -- mul-place-2
-    (λ c. omega (arith, before c))  -- mul-t6
-    (λ c. omega (arith, before (c .before)))  -- shared-slice-read-t9
-    (λ c. omega (arith, before (c .before)))  -- add-t7
-    (λ c. omega (arith, before (c .before)))  -- mul-t10
-    (λ c. omega (arith, before (c .before .before)))  -- shared-slice-read-t12
-    (λ c. search needs))  -- returns
+    (λ c. omega (arith, before (c .before)))  -- mul-place
+    (λ c. omega (arith, before (c .before)))  -- add-place
+    (λ c. omega (arith, before (c .before)))  -- mul-place-2
+    (λ c. omega (arith, before (c .before)))  -- mul-new
+    (λ c. omega (arith, before (c .before .before)))  -- shared-slice-read-new
+    (λ c. omega (arith, before (c .before .before)))  -- add-new
+    (λ c. omega (arith, before (c .before .before)))  -- mul-new-2
+    (λ c. omega (arith, before (c .before .before .before)))  -- shared-slice-read-new-2
+    (λ c κs. search needs)  -- new-requires
+    (λ c. c .new .ensures))  -- returns
