@@ -1,9 +1,8 @@
 -- Blocks whose entries agree, and what is made of them. Assumes nothing.
 use mathlib.Core.Path.{_≡_, refl}
-use Prim.Native.Nat.{ℕ, _+_, _<_}
+use Prim.Native.Nat.{ℕ, _<_}
 use native.Mathlib.Nat.{zero-add}
-use Rattle.complex.specs.declared.Complex.{Complex}
-use Rattle.complex.specs.Arithmetic.{czero, cmul, conj}
+use Rattle.complex.specs.Arithmetic.{czero, cmul}
 use Rattle.complex.specs.Agreement.{sum-agree}
 use Rattle.matrix.specs.Block.{Entries}
 use Rattle.matrix.specs.Operations.{product, adjoint, trace}

@@ -1,5 +1,5 @@
 -- Document 01, matrix: the outcome of each call. Lines 1, 2, 3 and 7 of what it is given come first, then what the module names.
-use Prim.Native.Nat.{ℕ, _+_, _-_, _*_}
+use Prim.Native.Nat.{ℕ, _-_, _*_}
 use mathlib.Core.Bool.{Bool, true, _&&_}
 use mathlib.Core.List.{List, _++_}
 use lib.Dec.{eqb}

@@ -1,17 +1,15 @@
 -- Closed cases of the matrix calls. Expected bits by reference/document01.py.
 use mathlib.Core.Path.{_≡_, refl}
-use mathlib.Core.Bool.{Bool, true, false}
-use mathlib.Core.List.{List, [], _∷_, _++_, map}
+use mathlib.Core.Bool.{true, false}
+use mathlib.Core.List.{List, [], _∷_, map}
 use Prim.Native.Nat.{ℕ}
 use lib.ListN.{take, replicate}
 use lib.Ieee as Ieee
-use lib.Ieee.{Float, nan, inf, binary64, toBits}
+use lib.Ieee.{nan, inf, binary64, toBits}
 use Rattle.lists.specs.Indexed.{fold, join, allBelow}
-use Rattle.complex.specs.declared.Complex.{Complex}
-use Rattle.complex.specs.Arithmetic.{plusZero, one, cone, real, finite, size, larger, cadd, csub, cmul, conj, cfinite}
+use Rattle.complex.specs.Arithmetic.{plusZero, one, real, finite, size, larger, cadd, csub, cmul, conj, cfinite}
 use Rattle.complex.specs.Sum.{sumFrom, largestFrom, largestIn}
 use Rattle.norm.specs.Norm.{norm}
-use Rattle.refusal.specs.declared.Verdict.{Verdict}
 use Rattle.refusal.specs.declared.Verdict.the-variants.{Pass, Refused}
 use Rattle.refusal.specs.declared.Measured.the-variants.{Of as Measure}
 use Rattle.refusal.specs.declared.Decision.the-variants.{Yes, No, Refused as Undecided}
@@ -22,7 +20,7 @@ use Rattle.matrix.specs.declared.Checked.{Checked}
 use Rattle.matrix.specs.declared.Value.the-variants.{Of, Refused as NoValue}
 use Rattle.matrix.specs.Block.{layOut, blockOf, noBlock, checked}
 use Rattle.matrix.specs.Operations.{product, scaled, added, subtracted, adjoint, identity, trace, largestNorm, allFinite, partSize, partAbove, hermitianWithin, hermitian}
-use Rattle.matrix.specs.Calls.{valued, valueNumber, blockLines, pairLines, finiteBlock, fromNumbers, fromScalar, zeroOf, identityOf, adjointOf, productOf, scaleOf, addOf, subtractOf, traceOf, maxDifferenceOf, isHermitian, entryOf}
+use Rattle.matrix.specs.Calls.{valued, blockLines, pairLines, finiteBlock, fromNumbers, fromScalar, zeroOf, identityOf, adjointOf, productOf, scaleOf, addOf, subtractOf, traceOf, maxDifferenceOf, isHermitian, entryOf}
 
 -- a block of these bit patterns
 abbrev block : ℕ → ℕ → List ℕ → DenseMatrix

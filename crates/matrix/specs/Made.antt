@@ -3,7 +3,6 @@ use Prim.Native.Nat.{ℕ}
 use mathlib.Core.Bool.{Bool}
 use mathlib.Core.List.{List}
 use lib.Ieee.{Float}
-use Rattle.complex.specs.declared.Complex.{Complex}
 use Rattle.matrix.specs.declared.fill.Operation.{Operation}
 use Rattle.matrix.specs.declared.fill.Operation.the-variants.{Zero, Identity, Adjoint, Product, Scale, Add, Subtract}
 use Rattle.matrix.specs.declared.DenseMatrix.{DenseMatrix}

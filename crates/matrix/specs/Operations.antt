@@ -1,6 +1,6 @@
 -- Document 01, matrix: the operations on entries. They go on through infinities; a call asks of its result what line 10 asks.
 use Prim.Native.Nat.{ℕ}
-use mathlib.Core.Bool.{Bool, not, cond, _&&_, _||_}
+use mathlib.Core.Bool.{Bool, not, cond, _||_}
 use lib.Dec.{eqb, ltb}
 use lib.Ieee.{Float, lt}
 use Rattle.lists.specs.Indexed.{allIn}

@@ -6,7 +6,7 @@ use Rattle.refusal.specs.declared.Verdict.the-variants.{Pass}
 use Rattle.matrix.specs.declared.DenseMatrix.{DenseMatrix}
 use Rattle.matrix.specs.Calls.{pairLines}
 use Rattle.matrix.specs.Made.{combinedOf}
-use Rattle.matrix.proofs.Shapes.{Small, both-small}
+use Rattle.matrix.proofs.Shapes.{both-small}
 use Rattle.matrix.proofs.Results.{finite-is, not-finite-is}
 use Rattle.matrix.proofs.combined.Statement.{statement}
 use Rattle.matrix.proofs.combined.Tie as tie

@@ -5,7 +5,7 @@ use native.Mathlib.Nat.{le-of-eq}
 use borrow.Author.Needs.{needs}
 use Rattle.refusal.specs.declared.Verdict.the-variants.{Pass}
 use Rattle.matrix.specs.Calls.{shapeOf}
-use Rattle.matrix.proofs.Shapes.{Small, shape-small}
+use Rattle.matrix.proofs.Shapes.{shape-small}
 use Rattle.matrix.proofs.Results.{accepted-is, refused-is}
 use Rattle.matrix.proofs.constant.Statement.{statement}
 use Rattle.matrix.proofs.constant.Tie as tie

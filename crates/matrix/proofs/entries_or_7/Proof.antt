@@ -1,9 +1,8 @@
 -- `matrix::entries_or_7` meets its contract, by line 7. Assumes nothing.
-use mathlib.Core.Path.{_≡_, sym, ap, _∙_}
+use mathlib.Core.Path.{sym, ap, _∙_}
 use mathlib.Core.List.{List}
 use lib.Ieee.{Float}
 use borrow.Author.Needs.{needs}
-use Rattle.refusal.specs.declared.Verdict.the-variants.{Pass}
 use Rattle.matrix.specs.Block.{checked}
 use Rattle.matrix.proofs.Results.{accepted-is, refused-is}
 use Rattle.matrix.proofs.entries_or_7.Statement.{statement}

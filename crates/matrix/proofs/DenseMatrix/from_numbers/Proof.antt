@@ -11,7 +11,7 @@ use Rattle.refusal.specs.declared.Verdict.the-variants.{Pass}
 use Rattle.refusal.specs.Agreement.{then-refused}
 use Rattle.matrix.specs.Calls.{shapeOf, fromNumbers}
 use Rattle.matrix.proofs.Places.{entries-most}
-use Rattle.matrix.proofs.Shapes.{Small, shape-small, shape-fits}
+use Rattle.matrix.proofs.Shapes.{shape-small, shape-fits}
 use Rattle.matrix.proofs.Results.{refused-is, checked-after}
 use Rattle.matrix.proofs.DenseMatrix.from_numbers.Statement.{statement}
 use Rattle.matrix.proofs.DenseMatrix.from_numbers.Tie as tie

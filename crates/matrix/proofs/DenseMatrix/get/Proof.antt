@@ -1,23 +1,20 @@
 -- `matrix::DenseMatrix::get` meets its contract: past line 12 the entry is one of the block. Assumes nothing.
-use mathlib.Core.Path.{_≡_, refl, sym, ap, ap₂, _∙_}
-use mathlib.Core.Bool.{Bool, true, false, _&&_}
-use Prim.Native.Nat.{ℕ, _≤_, _<_}
+use mathlib.Core.Path.{_≡_, sym, ap, _∙_}
+use mathlib.Core.Bool.{true}
+use Prim.Native.Nat.{ℕ, _<_}
 use native.Mathlib.Nat.{le-of-eq, le-trans}
-use lib.Dec.{eqb, ltb}
-use lib.Ieee.{Float}
+use lib.Dec.{ltb}
 use borrow.Author.Needs.{needs}
-use borrow.Author.Tests.{eqb-true, ltb-true, eq-eqb, ne-eqb}
-use Rattle.lists.specs.Agreement.{both}
-use Rattle.complex.specs.declared.Complex.{Complex}
+use borrow.Author.Tests.{ltb-true}
 use Rattle.refusal.specs.declared.Verdict.{Verdict}
-use Rattle.refusal.specs.declared.Verdict.the-variants.{Pass, Refused}
+use Rattle.refusal.specs.declared.Verdict.the-variants.{Pass}
 use Rattle.refusal.specs.Verdict.{by, _then_}
 use Rattle.refusal.specs.Agreement.{ask-pass, then-pass}
 use Rattle.refusal.specs.Lines.{orbitalBelow}
 use Rattle.matrix.specs.declared.Value.the-variants.{Of}
 use Rattle.matrix.specs.Block.{entriesOf}
 use Rattle.matrix.specs.Calls.{blockLines, valued, entryOf}
-use Rattle.matrix.proofs.Shapes.{Small, lines-small}
+use Rattle.matrix.proofs.Shapes.{lines-small}
 use Rattle.matrix.proofs.DenseMatrix.get.Statement.{statement}
 use Rattle.matrix.proofs.DenseMatrix.get.Tie as tie
 

@@ -1,19 +1,15 @@
 -- `matrix::DenseMatrix::is_hermitian` meets its contract, by its tests. Assumes nothing.
-use mathlib.Core.Path.{_≡_, refl, sym, ap, ap₂, _∙_}
-use mathlib.Core.Bool.{Bool, true, false, _&&_}
-use Prim.Native.Nat.{ℕ, _≤_, _<_}
-use native.Mathlib.Nat.{le-of-eq, le-trans}
-use lib.Dec.{eqb, ltb}
+use mathlib.Core.Path.{_≡_, sym, ap, ap₂, _∙_}
+use mathlib.Core.Bool.{Bool, true, _&&_}
+use Prim.Native.Nat.{ℕ}
+use native.Mathlib.Nat.{le-of-eq}
 use lib.Ieee.{Float}
 use borrow.Author.Needs.{needs}
-use borrow.Author.Tests.{eqb-true, ltb-true, eq-eqb, ne-eqb}
-use Rattle.lists.specs.Agreement.{both}
-use Rattle.complex.specs.declared.Complex.{Complex}
+use borrow.Author.Tests.{eq-eqb, ne-eqb}
 use Rattle.refusal.specs.declared.Verdict.{Verdict}
-use Rattle.refusal.specs.declared.Verdict.the-variants.{Pass, Refused}
+use Rattle.refusal.specs.declared.Verdict.the-variants.{Pass}
 use Rattle.complex.specs.Arithmetic.{mul}
 use Rattle.complex.specs.Sum.{largestIn}
-use Rattle.refusal.specs.declared.Decision.{Decision}
 use Rattle.refusal.specs.Verdict.{_then_, decide}
 use Rattle.refusal.specs.Agreement.{then-pass}
 use Rattle.refusal.specs.Lines.{validTolerance}

@@ -1,22 +1,20 @@
 -- `matrix::DenseMatrix::max_difference` meets its contract: blocks that pass have one shape. Assumes nothing.
-use mathlib.Core.Path.{_≡_, refl, sym, ap, ap₂, _∙_}
-use mathlib.Core.Bool.{Bool, true, false, _&&_}
-use Prim.Native.Nat.{ℕ, _≤_, _<_}
-use native.Mathlib.Nat.{le-of-eq, le-trans}
-use lib.Dec.{eqb, ltb}
+use mathlib.Core.Path.{_≡_, sym, ap, _∙_}
+use Prim.Native.Nat.{ℕ}
+use native.Mathlib.Nat.{le-of-eq}
+use lib.Dec.{eqb}
 use lib.Ieee.{Float}
 use borrow.Author.Needs.{needs}
-use borrow.Author.Tests.{eqb-true, ltb-true, eq-eqb, ne-eqb}
+use borrow.Author.Tests.{eqb-true}
 use Rattle.lists.specs.Agreement.{both}
-use Rattle.complex.specs.declared.Complex.{Complex}
 use Rattle.refusal.specs.declared.Verdict.{Verdict}
-use Rattle.refusal.specs.declared.Verdict.the-variants.{Pass, Refused}
+use Rattle.refusal.specs.declared.Verdict.the-variants.{Pass}
 use Rattle.refusal.specs.declared.Measured.the-variants.{Of}
 use Rattle.refusal.specs.Verdict.{measured}
 use Rattle.matrix.specs.Block.{entriesIn, entriesOf}
 use Rattle.matrix.specs.Operations.{subtracted, largestNorm}
 use Rattle.matrix.specs.Calls.{sameShape, pairLines, maxDifferenceOf}
-use Rattle.matrix.proofs.Shapes.{Small, both-small, pair-fits}
+use Rattle.matrix.proofs.Shapes.{both-small, pair-fits}
 use Rattle.matrix.proofs.DenseMatrix.max_difference.Statement.{statement}
 use Rattle.matrix.proofs.DenseMatrix.max_difference.Tie as tie
 

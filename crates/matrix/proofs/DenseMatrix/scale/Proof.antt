@@ -6,7 +6,7 @@ use borrow.Author.Needs.{needs}
 use Rattle.refusal.specs.declared.Verdict.the-variants.{Pass}
 use Rattle.matrix.specs.Calls.{blockLines, scaleOf}
 use Rattle.matrix.specs.Made.{madeBy}
-use Rattle.matrix.proofs.Shapes.{Small, lines-small}
+use Rattle.matrix.proofs.Shapes.{lines-small}
 use Rattle.matrix.proofs.Results.{finite-is, not-finite-is}
 use Rattle.matrix.proofs.DenseMatrix.scale.Statement.{statement}
 use Rattle.matrix.proofs.DenseMatrix.scale.Tie as tie

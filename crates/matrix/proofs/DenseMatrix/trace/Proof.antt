@@ -1,22 +1,16 @@
 -- `matrix::DenseMatrix::trace` meets its contract: a block that passes is square. Assumes nothing.
-use mathlib.Core.Path.{_≡_, refl, sym, ap, ap₂, _∙_}
-use mathlib.Core.Bool.{Bool, true, false, _&&_}
-use Prim.Native.Nat.{ℕ, _≤_, _<_}
-use native.Mathlib.Nat.{le-of-eq, le-trans}
-use lib.Dec.{eqb, ltb}
-use lib.Ieee.{Float}
+use mathlib.Core.Path.{_≡_, sym, ap, _∙_}
+use Prim.Native.Nat.{ℕ}
+use native.Mathlib.Nat.{le-of-eq}
 use borrow.Author.Needs.{needs}
-use borrow.Author.Tests.{eqb-true, ltb-true, eq-eqb, ne-eqb}
-use Rattle.lists.specs.Agreement.{both}
-use Rattle.complex.specs.declared.Complex.{Complex}
+use borrow.Author.Tests.{eqb-true}
 use Rattle.refusal.specs.declared.Verdict.{Verdict}
-use Rattle.refusal.specs.declared.Verdict.the-variants.{Pass, Refused}
-use Rattle.matrix.specs.declared.Value.{Value}
-use Rattle.matrix.specs.declared.Value.the-variants.{Of, Refused as NoValue}
+use Rattle.refusal.specs.declared.Verdict.the-variants.{Pass}
+use Rattle.matrix.specs.declared.Value.the-variants.{Of}
 use Rattle.matrix.specs.Block.{entriesOf}
 use Rattle.matrix.specs.Operations.{trace}
 use Rattle.matrix.specs.Calls.{square, blockLines, valued, traceOf}
-use Rattle.matrix.proofs.Shapes.{Small, lines-small, block-fits}
+use Rattle.matrix.proofs.Shapes.{lines-small, block-fits}
 use Rattle.matrix.proofs.DenseMatrix.trace.Statement.{statement}
 use Rattle.matrix.proofs.DenseMatrix.trace.Tie as tie
 

@@ -1,12 +1,12 @@
 -- `matrix::fill::dot` meets its contract: after k turns the sum has the first k terms of the product's entry. Assumes nothing.
-use mathlib.Core.Path.{_≡_, refl, sym, ap, _∙_}
+use mathlib.Core.Path.{_≡_, sym, _∙_}
 use mathlib.Core.List.{List}
-use Prim.Native.Nat.{ℕ, _+_, _-_, _*_, _≤_}
+use Prim.Native.Nat.{ℕ, _-_, _≤_}
 use native.Mathlib.Nat.{le-antisymm}
 use native.Mathlib.Omega.{arith}
 use lib.Ieee.{Float}
 use Rattle.complex.specs.declared.Complex.{Complex}
-use Rattle.complex.specs.Arithmetic.{czero, cadd, cmul}
+use Rattle.complex.specs.Arithmetic.{czero, cmul}
 use Rattle.complex.specs.Sum.{sum, sumFrom}
 use Rattle.complex.specs.Agreement.{sum-more, sum-none}
 use Rattle.matrix.specs.Block.{entriesIn}

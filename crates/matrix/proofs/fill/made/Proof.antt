@@ -1,5 +1,5 @@
 -- `matrix::fill::made` meets its contract, by the operation that the match found. Assumes nothing.
-use mathlib.Core.Path.{_≡_, ap₂, _∙_}
+use mathlib.Core.Path.{ap₂, _∙_}
 use borrow.Author.Needs.{needs}
 use borrow.Author.Tests.{eq-eqb, ne-eqb}
 use Rattle.complex.specs.Arithmetic.{cadd, csub}

@@ -7,7 +7,7 @@ use Rattle.refusal.specs.declared.Verdict.the-variants.{Pass}
 use Rattle.refusal.specs.Agreement.{then-after, then-refused}
 use Rattle.matrix.specs.Calls.{shapeOf, blockLines}
 use Rattle.matrix.proofs.Places.{entries-most}
-use Rattle.matrix.proofs.Shapes.{Small, shape-small}
+use Rattle.matrix.proofs.Shapes.{shape-small}
 use Rattle.matrix.proofs.lines.block_lines.Statement.{statement}
 use Rattle.matrix.proofs.lines.block_lines.Tie as tie
 

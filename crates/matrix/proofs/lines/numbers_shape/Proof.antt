@@ -8,7 +8,7 @@ use Rattle.refusal.specs.Verdict.{_then_}
 use Rattle.refusal.specs.Agreement.{then-pass, then-after, then-refused, then-assoc}
 use Rattle.refusal.specs.Lines.{notEmpty, withinBlock}
 use Rattle.matrix.proofs.Places.{entries-most}
-use Rattle.matrix.proofs.Shapes.{Small, small}
+use Rattle.matrix.proofs.Shapes.{small}
 use Rattle.matrix.proofs.lines.numbers_shape.Statement.{statement}
 use Rattle.matrix.proofs.lines.numbers_shape.Tie as tie
 

@@ -7,7 +7,7 @@ use Rattle.refusal.specs.declared.Verdict.the-variants.{Pass}
 use Rattle.refusal.specs.Agreement.{then-after, then-refused}
 use Rattle.matrix.specs.Calls.{pairShape, pairLines}
 use Rattle.matrix.proofs.Places.{entries-most}
-use Rattle.matrix.proofs.Shapes.{Small, pair-small}
+use Rattle.matrix.proofs.Shapes.{pair-small}
 use Rattle.matrix.proofs.lines.pair_lines.Statement.{statement}
 use Rattle.matrix.proofs.lines.pair_lines.Tie as tie
 

@@ -1,5 +1,5 @@
 -- `matrix::lines::shape` meets its contract: its callees' answers in order. Assumes nothing.
-use mathlib.Core.Path.{_≡_, _∙_}
+use mathlib.Core.Path.{_∙_}
 use borrow.Author.Needs.{needs}
 use Rattle.matrix.proofs.lines.shape.Statement.{statement}
 use Rattle.matrix.proofs.lines.shape.Tie as tie

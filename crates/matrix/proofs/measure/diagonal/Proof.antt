@@ -1,10 +1,8 @@
 -- `matrix::measure::diagonal` meets its contract: after i turns the sum has the first i entries of the diagonal. Assumes nothing.
 use mathlib.Core.Path.{_≡_, sym, _∙_}
-use mathlib.Core.List.{List}
-use Prim.Native.Nat.{ℕ, _-_, _≤_}
+use Prim.Native.Nat.{_-_, _≤_}
 use native.Mathlib.Nat.{le-antisymm}
 use native.Mathlib.Omega.{arith}
-use lib.Ieee.{Float}
 use borrow.Author.Needs.{needs}
 use Rattle.complex.specs.Arithmetic.{czero}
 use Rattle.complex.specs.Sum.{sumFrom}

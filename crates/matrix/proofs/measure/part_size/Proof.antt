@@ -1,5 +1,5 @@
 -- `matrix::measure::part_size` meets its contract, from its callees'. Assumes nothing.
-use mathlib.Core.Path.{_≡_, _∙_}
+use mathlib.Core.Path.{_∙_}
 use borrow.Author.Needs.{needs}
 use Rattle.matrix.specs.Operations.{partSize}
 use Rattle.matrix.proofs.measure.part_size.Statement.{statement}
