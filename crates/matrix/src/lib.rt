@@ -6,7 +6,7 @@ mod measure;
 ghost use mathlib.Core.Path.{_≡_};
 ghost use mathlib.Core.Bool.{true};
 ghost use mathlib.Core.List.{_++_};
-ghost use Prim.Native.Nat.{_-_, _≤_, _<_};
+ghost use Prim.Native.Nat.{_-_, _≤_};
 ghost use lib.ListN.{length, replicate};
 ghost use Rattle.complex.specs.Arithmetic.{plusZero};
 ghost use Rattle.refusal.specs.Verdict.{decide};

@@ -1,8 +1,7 @@
 // Lines 1, 2, 3 and 7 of the blocks that a call is given (document 01, matrix), line by line and not block by block.
 ghost use mathlib.Core.Path.{_≡_};
-ghost use Prim.Native.Nat.{_*_, _≤_, _<_};
+ghost use Prim.Native.Nat.{_*_};
 ghost use lib.Dec.{eqb};
-ghost use lib.ListN.{length};
 ghost use Rattle.matrix.specs.Calls.{shapeOf, pairShape, blockLines, pairLines};
 use refusal::Verdict;
 use refusal::lines::finite_entries;

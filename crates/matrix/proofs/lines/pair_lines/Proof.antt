@@ -1,9 +1,10 @@
 -- `matrix::lines::pair_lines` meets its contract: past lines 1 to 3 the entries are few, and line 7 is asked of both. Assumes nothing.
-use mathlib.Core.Path.{_≡_, sym, _∙_}
+use mathlib.Core.Path.{_≡_, sym, ap₂, _∙_}
 use Prim.Native.Nat.{_*_, _≤_}
 use native.Mathlib.Omega.{arith}
 use borrow.Author.Needs.{needs}
 use Rattle.refusal.specs.declared.Verdict.the-variants.{Pass}
+use Rattle.refusal.specs.Verdict.{_then_}
 use Rattle.refusal.specs.Agreement.{then-after, then-refused}
 use Rattle.matrix.specs.Calls.{pairShape, pairLines}
 use Rattle.matrix.proofs.Places.{entries-most}
@@ -22,7 +23,7 @@ few c =
 
 returns : tie.Need-returns
 unfolding pairLines
-returns c = sym (then-after _ _ (passed (c .before .before .before)) ∙ sym (c .then .ensures ∙ rw (c .before .finite-entries2 .ensures, c .before .before .finite-entries .ensures)))
+returns c = c .then .ensures ∙ ap₂ _then_ (c .before .before .finite-entries .ensures) (c .before .finite-entries2 .ensures) ∙ sym (then-after _ _ (passed (c .before .before .before)))
 
 returns-2 : tie.Need-returns-2
 unfolding pairLines
