@@ -3,6 +3,7 @@ use mathlib.Core.Path.{_≡_, sym, ap, _∙_}
 use mathlib.Core.Bool.{true}
 use Prim.Native.Nat.{ℕ, _<_}
 use native.Mathlib.Nat.{le-of-eq, le-trans}
+use native.Mathlib.Omega.{arith}
 use lib.Dec.{ltb}
 use borrow.Author.Needs.{needs}
 use borrow.Author.Tests.{ltb-true}
@@ -41,7 +42,8 @@ entry-requires c κs =
     let p = then-pass (blockLines true (x .self)) _ (passed c) in
     let q = then-pass (orbitalBelow (x .row) (x .self .rows)) (orbitalBelow (x .column) (x .self .columns)) (p .1) in
     let s = lines-small true (x .self) (p .0) in
-    (le-trans (index _ _ (q .0)) (s .rows-most), le-trans (index _ _ (q .1)) (s .columns-most), s .columns-most, le-of-eq (whole (c .before .before .before .before .before .before .before)))
+    let below : (x .row < 16) × (x .column < 16) = (le-trans (index _ _ (q .0)) (s .rows-most), le-trans (index _ _ (q .1)) (s .columns-most)) in
+    (omega (arith, below), omega (arith, below), s .columns-most, le-of-eq (whole (c .before .before .before .before .before .before .before)))
 
 returns : tie.Need-returns
 unfolding entryOf valued
