@@ -1,19 +1,17 @@
 -- Closed cases of the grid: P6 and P7 of document 01, the weights of the times 0, 0.5, 2, 5, and each refusal.
 use mathlib.Core.Path.{_≡_, refl}
-use mathlib.Core.Bool.{Bool, true, false}
 use mathlib.Core.List.{List, [], _∷_, map}
 use Prim.Native.Nat.{ℕ}
 use lib.Ieee as Ieee
-use lib.Ieee.{Float, nan, inf, binary64, toBits}
+use lib.Ieee.{Float, nan, binary64, toBits}
 use Rattle.lists.specs.Indexed.{join, allBelow}
 use Rattle.complex.specs.Arithmetic.{plusZero, one, finite}
-use Rattle.refusal.specs.declared.Verdict.{Verdict}
 use Rattle.refusal.specs.declared.Verdict.the-variants.{Pass, Refused}
 use Rattle.refusal.specs.declared.Measured.the-variants.{Of, Refused as Unmeasured}
-use Rattle.refusal.specs.Verdict.{by, ask, _then_, askAll, numberOf, afterwards, measured}
+use Rattle.refusal.specs.Verdict.{by, ask, _then_, askAll, afterwards, measured}
 use Rattle.refusal.specs.Lines.{largeEnough, withinLimits, fitting, finiteTimes, risingTimes, finiteWeights, timeBelow}
 use Rattle.grid.specs.Weights.{halfStep, fullWeight, intervalWeight}
-use Rattle.grid.specs.Calls.{timeLines, gridLines, checkTimes, FullWeights, fullWeights, intervalWeightOf}
+use Rattle.grid.specs.Calls.{timeLines, gridLines, checkTimes, fullWeights, intervalWeightOf}
 
 -- the numbers of these bit patterns
 abbrev floats : List ℕ → List Float

@@ -11,7 +11,7 @@ use Rattle.lists.specs.Agreement.{both}
 use Rattle.lists.specs.Singles.{singles}
 use Rattle.refusal.specs.declared.Refusal.{Refusal}
 use Rattle.refusal.specs.declared.Verdict.the-variants.{Pass, Refused}
-use Rattle.refusal.specs.Verdict.{_then_, afterwards}
+use Rattle.refusal.specs.Verdict.{afterwards}
 use Rattle.refusal.specs.Lines.{largeEnough, withinLimits, fitting, finiteTimes, risingTimes, finiteWeights}
 use Rattle.refusal.specs.Agreement.{ask-pass, then-pass}
 use Rattle.refusal.specs.Keeping.{Keeping, ask-keeping, then-keeping, all-keeping, keeping-slice}

@@ -1,13 +1,13 @@
 -- A time past the end is a NaN, and so is a weight that reads it. Assumes nothing.
 use mathlib.Core.Path.{_≡_, refl}
-use mathlib.Core.Bool.{true, false}
+use mathlib.Core.Bool.{false}
 use mathlib.Core.List.{List}
 use Prim.Native.Nat.{ℕ, _+_, _-_, _≤_, _<_}
 use native.Mathlib.Omega.{arith}
 use lib.Dec.{eqb}
-use lib.ListN.{length, getD, List·getD-eq-default}
+use lib.ListN.{length, List·getD-eq-default}
 use lib.Ieee as Ieee
-use lib.Ieee.{Float, nan, fin}
+use lib.Ieee.{Float, nan}
 use borrow.Author.Tests.{eqb-true}
 use Rattle.lists.specs.Indexed.{allBelow}
 use Rattle.complex.specs.Arithmetic.{finite, mul, sub, div, plusZero}

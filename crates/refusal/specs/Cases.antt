@@ -1,18 +1,12 @@
 -- Closed cases of the lines: each at its edge, and questions in order.
 use mathlib.Core.Path.{_≡_, refl}
-use mathlib.Core.Bool.{Bool, true, false}
-use mathlib.Core.List.{List, [], _∷_, map}
-use Prim.Native.Nat.{ℕ}
-use lib.ListN.{length, replicate}
+use mathlib.Core.Bool.{true, false}
+use mathlib.Core.List.{[], _∷_, map}
 use lib.Ieee as Ieee
 use Rattle.lists.specs.Indexed.{allBelow}
 use lib.Ieee.{Float, nan, inf, binary64}
-use Rattle.complex.specs.declared.Complex.{Complex}
 use Rattle.complex.specs.Arithmetic.{plusZero, one, czero, size, finite, cfinite}
-use Rattle.refusal.specs.declared.Refusal.{Refusal}
-use Rattle.refusal.specs.declared.Verdict.{Verdict}
 use Rattle.refusal.specs.declared.Verdict.the-variants.{Pass, Refused}
-use Rattle.refusal.specs.declared.Decision.the-variants.{Yes, No, Refused as Undecided}
 use Rattle.refusal.specs.Verdict.{by, ask, _then_, askAll, numberOf, afterwards, decide, decisionNumber}
 use Rattle.refusal.specs.Lines.{largeEnough, notEmpty, withinLimits, withinBlock, withinProgram, fitting, finiteTimes, risingTimes, finiteWeights}
 use Rattle.refusal.specs.Lines.{finiteEntries, validTolerance, retardedAt, finiteWork, timeBelow, orbitalBelow, finiteFactors, realWithin, wellFormed}

@@ -1,16 +1,15 @@
 -- Document 01, "Questions in order": the lines 1 to 15, each a question over plain values. The answer no gives the line's number.
-use Prim.Native.Nat.{ℕ, zero, suc, _+_, _-_, _*_}
-use mathlib.Core.Bool.{Bool, true, false, not, _&&_}
+use Prim.Native.Nat.{ℕ, _+_, _-_, _*_}
+use mathlib.Core.Bool.{Bool, not, _&&_}
 use mathlib.Core.List.{List}
-use lib.Dec.{leb, ltb, eqb}
-use lib.ListN.{length, getD}
+use lib.Dec.{leb, ltb}
+use lib.ListN.{getD}
 use lib.Ieee.{Float, nan, lt}
 use Rattle.lists.specs.Indexed.{allBelow}
 use Rattle.complex.specs.declared.Complex.{Complex}
 use Rattle.complex.specs.Arithmetic.{plusZero, finite, cfinite, size}
-use Rattle.refusal.specs.declared.Refusal.{Refusal}
 use Rattle.refusal.specs.declared.Verdict.{Verdict}
-use Rattle.refusal.specs.Verdict.{by, ask, _then_, askAll}
+use Rattle.refusal.specs.Verdict.{by, ask, askAll}
 
 -- 1: "Are N at least 2 and n at least 1?" A block has at least one row and one column (document 01, matrix).
 unfoldable pub largeEnough : ℕ → ℕ → Verdict

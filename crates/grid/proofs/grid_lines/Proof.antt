@@ -1,5 +1,5 @@
 -- `grid::grid_lines` meets its contract: it asks the lines of `gridLines` in their order. Assumes nothing.
-use mathlib.Core.Path.{_≡_, _∙_}
+use mathlib.Core.Path.{_∙_}
 use borrow.Author.Needs.{needs}
 use Rattle.grid.specs.Calls.{gridLines}
 use Rattle.grid.proofs.grid_lines.Statement.{statement}

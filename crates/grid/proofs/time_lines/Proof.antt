@@ -1,5 +1,5 @@
 -- `grid::time_lines` meets its contract: it asks the lines of `timeLines` in their order. Assumes nothing.
-use mathlib.Core.Path.{_≡_, _∙_}
+use mathlib.Core.Path.{_∙_}
 use borrow.Author.Needs.{needs}
 use Rattle.grid.specs.Calls.{timeLines}
 use Rattle.grid.proofs.time_lines.Statement.{statement}

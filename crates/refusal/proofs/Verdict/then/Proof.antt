@@ -1,5 +1,4 @@
 -- `refusal::Verdict::then` meets its contract, by the case that the match found. Assumes nothing.
-use mathlib.Core.Path.{_≡_}
 use borrow.Author.Needs.{needs}
 use Rattle.refusal.specs.Verdict.{_then_}
 use Rattle.refusal.proofs.Verdict.then.Statement.{statement}

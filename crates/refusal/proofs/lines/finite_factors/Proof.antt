@@ -1,5 +1,5 @@
 -- `refusal::lines::finite_factors` meets its contract: it asks the question of `finiteFactors`. Assumes nothing.
-use mathlib.Core.Path.{_≡_, _∙_}
+use mathlib.Core.Path.{_∙_}
 use borrow.Author.Needs.{needs}
 use Rattle.refusal.specs.Lines.{finiteFactors}
 use Rattle.refusal.proofs.lines.finite_factors.Statement.{statement}

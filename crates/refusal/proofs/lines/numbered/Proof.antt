@@ -1,5 +1,5 @@
 -- `refusal::lines::numbered` meets its contract: the refusal is the one without places. Assumes nothing.
-use mathlib.Core.Path.{_≡_, _∙_}
+use mathlib.Core.Path.{_∙_}
 use borrow.Author.Needs.{needs}
 use Rattle.refusal.proofs.lines.numbered.Statement.{statement}
 use Rattle.refusal.proofs.lines.numbered.Tie as tie

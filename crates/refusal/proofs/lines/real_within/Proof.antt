@@ -1,5 +1,5 @@
 -- `refusal::lines::real_within` meets its contract: it asks the question of `realWithin`. Assumes nothing.
-use mathlib.Core.Path.{_≡_, _∙_}
+use mathlib.Core.Path.{_∙_}
 use borrow.Author.Needs.{needs}
 use Rattle.refusal.specs.Lines.{realWithin}
 use Rattle.refusal.proofs.lines.real_within.Statement.{statement}

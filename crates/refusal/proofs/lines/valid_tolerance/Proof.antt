@@ -1,5 +1,5 @@
 -- `refusal::lines::valid_tolerance` meets its contract: it asks the question of `validTolerance`. Assumes nothing.
-use mathlib.Core.Path.{_≡_, _∙_}
+use mathlib.Core.Path.{_∙_}
 use borrow.Author.Needs.{needs}
 use Rattle.refusal.specs.Lines.{validTolerance}
 use Rattle.refusal.proofs.lines.valid_tolerance.Statement.{statement}

@@ -3,7 +3,7 @@
 use mathlib.Core.Path.{_≡_, refl, sym}
 use mathlib.Core.Bool.{Bool, true, false}
 use mathlib.Core.Logic.{⊎-elim}
-use Prim.Native.Nat.{ℕ, zero, suc, _*_, _≤_, _<_, min}
+use Prim.Native.Nat.{ℕ, suc, _*_, _≤_, _<_, min}
 use native.Mathlib.Nat.{le-refl, le-trans, min-le-left, mul-le-mul, mul-le-mul-left, mul-one, mul-zero, zero-mul, mul-comm, eq-zero-or-pos}
 use native.Mathlib.Omega.{arith, min-cases}
 use lib.Dec.{leb}
