@@ -1,19 +1,18 @@
 -- Closed cases of the run file: where 15 stands in the order, and the text of numbers.
 use mathlib.Core.Path.{_≡_, refl}
-use mathlib.Core.Bool.{Bool, true, false, _&&_}
-use mathlib.Core.List.{List, [], _∷_, _++_, map}
-use Prim.Native.Nat.{ℕ, zero, suc}
-use lib.ListN.{take, replicate}
+use mathlib.Core.Bool.{true, false}
+use mathlib.Core.List.{List, [], _∷_, _++_}
+use Prim.Native.Nat.{ℕ}
+use lib.ListN.{replicate}
 use lib.Ieee as Ieee
-use lib.Ieee.{Float, inf, binary64, toBits}
-use Rattle.lists.specs.Filling.{over}
+use lib.Ieee.{inf, binary64, toBits}
 use Rattle.refusal.specs.Verdict.{by, ask, _then_, numberOf}
 use Rattle.refusal.specs.Lines.{largeEnough, withinProgram, wellFormed}
 use Rattle.observables.specs.declared.Observed.the-variants.{Number, NotReal, Refused as NotObserved}
 use Rattle.run_file.specs.Bytes.{littleEndian, number}
 use Rattle.run_file.specs.Decoding.{tableFits, fileLines}
 use Rattle.run_file.specs.Text.{decimalIn, decimal, hexDigit, hexadecimal, line, timeLine}
-use Rattle.run_file.specs.Program.{fileText, printed, textLength, textWritten}
+use Rattle.run_file.specs.Program.{fileText, printed}
 use Rattle.run_file.specs.P12.{words, file}
 
 -- the file's own answer for ten words and `rest` bytes more
@@ -34,15 +33,6 @@ order = refl
 refused : printed [] ≡ 114 ∷ 101 ∷ 102 ∷ 117 ∷ 115 ∷ 101 ∷ 100 ∷ 32 ∷ 49 ∷ 53 ∷ 10 ∷ []
 unfolding printed fileText fileLines tableFits littleEndian wellFormed largeEnough withinProgram ask _then_ line decimal decimalIn
 refused = refl
-
--- a slice of 511 bytes is left as it was; one of 512 has the 11 bytes over its start
-room : textLength [] (replicate 511 7) ∷ textLength [] (replicate 512 7) ∷ [] ≡ 0 ∷ 11 ∷ []
-unfolding textLength printed fileText fileLines tableFits littleEndian wellFormed largeEnough withinProgram ask _then_ line decimal decimalIn
-room = refl
-
-written : textWritten [] (replicate 511 7) ++ textWritten [] (replicate 512 7) ≡ replicate 511 7 ++ (printed [] ++ replicate 501 7)
-unfolding textWritten over printed fileText fileLines tableFits littleEndian wellFormed largeEnough withinProgram ask _then_ line decimal decimalIn
-written = refl
 
 -- little-endian: the bytes of 1.5 give 1.5; P12's file has the number 1 at byte 48
 decoded : toBits binary64 (number 0 (0 ∷ 0 ∷ 0 ∷ 0 ∷ 0 ∷ 0 ∷ 0xf8 ∷ 0x3f ∷ [])) ∷ littleEndian 8 48 file ∷ [] ≡ 0x3ff8_0000_0000_0000 ∷ 0x3ff0_0000_0000_0000 ∷ []

@@ -9,5 +9,6 @@ pub mod Writing
 pub mod Digits
 pub mod Lines
 pub mod Running
+pub mod Room
 pub mod P12
 pub mod Cases

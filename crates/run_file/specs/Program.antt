@@ -1,11 +1,7 @@
 -- Document 01, run file: what the program `transient` prints for the bytes that it reads.
 use Prim.Native.Nat.{ℕ}
 use mathlib.Core.List.{List, [], _∷_, _++_}
-use mathlib.Core.Bool.{cond}
-use lib.Dec.{ltb}
-use lib.ListN.{length}
 use lib.Ieee.{Float}
-use Rattle.lists.specs.Filling.{over}
 use Rattle.lists.specs.Indexed.{join}
 use Rattle.refusal.specs.declared.Verdict.{Verdict}
 use Rattle.refusal.specs.declared.Verdict.the-variants.{Pass, Refused}
@@ -40,11 +36,3 @@ fileText (Refused x) r = refusedText (x .number)
 
 unfoldable pub printed : List ℕ → List ℕ
 printed bytes = fileText (fileLines bytes) (runOf bytes)
-
--- `print`: the text over the start of a slice that has room for every text, and how many bytes it is; a shorter slice is left as it was
-module _ (bytes out : List ℕ) where
-  unfoldable pub textLength : ℕ
-  textLength = cond (ltb (length out) 512) 0 (length (printed bytes))
-
-  unfoldable pub textWritten : List ℕ
-  textWritten = cond (ltb (length out) 512) out (over out (printed bytes))

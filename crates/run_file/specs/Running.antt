@@ -1,11 +1,12 @@
 -- The run of a file, and the text of its answer. Assumes nothing.
 use mathlib.Core.Path.{_≡_, refl, sym, ap, _∙_}
 use mathlib.Core.List.{List, _∷_}
-use Prim.Native.Nat.{ℕ, zero, suc, _+_, _*_, _≤_, _<_}
+use Prim.Native.Nat.{ℕ, zero, suc, _+_, _*_, _≤_}
 use native.Mathlib.Nat.{not-suc-le-zero, le-of-suc-le-suc}
-use lib.ListN.{length, take, replicate, length-replicate}
+use native.Mathlib.Omega.{arith}
+use lib.ListN.{length, take, replicate, length-replicate, length-append}
 use lib.Ieee.{Float}
-use borrow.Author.Tests.{lt-ltb, le-ltb}
+use Rattle.lists.specs.Filling.{over}
 use Rattle.complex.specs.Arithmetic.{plusZero}
 use Rattle.refusal.specs.declared.Refusal.{Refusal}
 use Rattle.refusal.specs.declared.Verdict.{Verdict}
@@ -18,7 +19,7 @@ use Rattle.transient_run.specs.Calls.{Run, transientRun}
 use Rattle.transient_run.specs.Asking as Asking
 use Rattle.run_file.specs.Bytes.{numbers}
 use Rattle.run_file.specs.Decoding.{pointsOf, orbitalsOf, fileLines, runOf}
-use Rattle.run_file.specs.Program.{refusedText, runText, solvedText, runAnswer, fileText, printed, textLength, textWritten}
+use Rattle.run_file.specs.Program.{refusedText, runText, solvedText, runAnswer, fileText, printed}
 use Rattle.run_file.specs.Writing.{Appended, as-text, whole-text}
 
 module _ (bytes : List ℕ) (points orbitals : ℕ) (p : points ≡ pointsOf bytes) (o : orbitals ≡ orbitalsOf bytes) where
@@ -60,25 +61,18 @@ module _ (k n : ℕ) {m : ℕ} (h : k ≤ n) (e : k ≡ m) where
   pub part-long : length (take k (replicate n plusZero)) ≡ m
   part-long = ap length (part-same k n h) ∙ length-replicate k plusZero ∙ e
 
--- ---- the text in the slice that is lent for it
+-- ---- the text over the start of what is lent for it
 
-module _ (bytes out : List ℕ) where
-  pub short-slice : length out < 512 → (0 ≡ textLength bytes out) × (out ≡ textWritten bytes out)
-  unfolding textLength textWritten
-  short-slice h = let short = lt-ltb _ _ h in (rw short, rw short)
+module _ (bytes : List ℕ) {out out' : List ℕ} {ended : ℕ} where
+  pub text-printed : {v : Verdict} → v ≡ fileLines bytes → v ≡ Pass → Appended out out' 0 ended (runAnswer (runOf bytes)) → (ended ≡ length (printed bytes)) × (out' ≡ over out (printed bytes))
+  unfolding printed fileText
+  text-printed e p x = whole-text (as-text (sym (rw (sym e ∙ p))) x)
 
-  module _ (room : 512 ≤ length out) {out' : List ℕ} {ended : ℕ} where
-    printed-so : {text : List ℕ} → text ≡ printed bytes → Appended out out' 0 ended text → (ended ≡ textLength bytes out) × (out' ≡ textWritten bytes out)
-    unfolding textLength textWritten
-    printed-so e x =
-        let long = le-ltb (length out) 512 room in
-        let told = whole-text (as-text e x) in
-        (rw long (told .0), rw long (told .1))
+  pub refusal-printed : {v : Verdict} {r : Refusal} → v ≡ fileLines bytes → v ≡ Refused r → Appended out out' 0 ended (refusedText (r .number)) → (ended ≡ length (printed bytes)) × (out' ≡ over out (printed bytes))
+  unfolding printed fileText
+  refusal-printed e p x = whole-text (as-text (sym (rw (sym e ∙ p))) x)
 
-    pub text-printed : {v : Verdict} → v ≡ fileLines bytes → v ≡ Pass → Appended out out' 0 ended (runAnswer (runOf bytes)) → (ended ≡ textLength bytes out) × (out' ≡ textWritten bytes out)
-    unfolding printed fileText
-    text-printed e p x = printed-so (sym (rw (sym e ∙ p))) x
-
-    pub refusal-printed : {v : Verdict} {r : Refusal} → v ≡ fileLines bytes → v ≡ Refused r → Appended out out' 0 ended (refusedText (r .number)) → (ended ≡ textLength bytes out) × (out' ≡ textWritten bytes out)
-    unfolding printed fileText
-    refusal-printed e p x = printed-so (sym (rw (sym e ∙ p))) x
+-- it lies in what was lent
+pub text-within : (bytes out : List ℕ) {out' : List ℕ} {ended : ℕ} → ended ≡ length (printed bytes) → out' ≡ over out (printed bytes) → ended ≤ length out'
+unfolding over
+text-within bytes out e h = rw (e, h) (simp length-append (omega arith))

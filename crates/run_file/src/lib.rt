@@ -8,10 +8,11 @@ ghost use mathlib.Core.Path.{_≡_};
 ghost use Prim.Native.Nat.{_≤_};
 ghost use lib.ListN.{length, replicate};
 ghost use Rattle.complex.specs.Arithmetic.{plusZero};
+ghost use Rattle.lists.specs.Filling.{over};
 ghost use Rattle.dyson.specs.Calls.{defaultTolerance};
 ghost use Rattle.two_time.specs.Layout.{lengthOf};
 ghost use Rattle.run_file.specs.Decoding.{pointsOf, orbitalsOf, runOf};
-ghost use Rattle.run_file.specs.Program.{runText, solvedText, runAnswer, textLength, textWritten};
+ghost use Rattle.run_file.specs.Program.{runText, solvedText, runAnswer, printed};
 ghost use Rattle.run_file.specs.Writing.{Appended};
 use bits::from_bits;
 use bytes::word;
@@ -133,14 +134,11 @@ fn run(bytes: &[u8], points: usize, orbitals: usize, out: &mut [u8]) -> usize
     )
 }
 
-// Writes what the program prints for a file over the start of `out`, and answers how many bytes it is. An `out` of fewer than 512
-// bytes, which every text fits in, is left as it was, and the answer is 0.
-pub fn print(bytes: &[u8], out: &mut [u8]) -> usize
-    ensures { λ r. ⌜ (r ≡ textLength (now (bytes .entry)) (now (out .entry))) × (now (out .exit) ≡ textWritten (now (bytes .entry)) (now (out .entry))) ⌝ }
+// Writes what the program prints for a file over the start of `out`, and answers how many bytes it is. Every text fits
+// (specs/Room.antt).
+pub fn print(bytes: &[u8], out: &mut [u8; 512]) -> usize
+    ensures { λ r. ⌜ (r ≡ length (printed (now (bytes .entry)))) × (now (out .exit) ≡ over (now (out .entry)) (printed (now (bytes .entry)))) ⌝ }
 {
-    if out.len() < 512 {
-        return 0;
-    }
     let verdict = file_lines(bytes);
     match verdict {
         Verdict::Pass => run(

@@ -10,16 +10,15 @@ fn at_end() -> bool {
     libc::read(STDIN_FILENO, &mut byte) == 0
 }
 
-// Writes what the library prints for the bytes, in the room that is lent for it.
-fn answer(bytes: &[u8], text: &mut [u8]) {
-    let length = run_file::print(bytes, text);
-    if length <= text.len() {
-        if !io::write_all(STDOUT_FILENO, &text[..length]) {
-            io::write_all(
-                STDERR_FILENO,
-                b"transient: standard output was not written\n",
-            );
-        }
+// Writes what the library prints for the bytes.
+fn answer(bytes: &[u8]) {
+    let mut text = [0u8; 512];
+    let length = run_file::print(bytes, &mut text);
+    if !io::write_all(STDOUT_FILENO, &text[..length]) {
+        io::write_all(
+            STDERR_FILENO,
+            b"transient: standard output was not written\n",
+        );
     }
 }
 
@@ -37,6 +36,5 @@ fn main() {
             return;
         }
     }
-    let mut text = [0u8; 512];
-    answer(&bytes[..n], &mut text);
+    answer(&bytes[..n]);
 }

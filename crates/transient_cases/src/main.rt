@@ -1,11 +1,10 @@
 // Runs the library `run_file` on the run files that the arguments name, and writes each name and then the text for its bytes.
 
-// Writes what is printed for the bytes, in the room that is lent for it.
-fn answer(bytes: &[u8], text: &mut [u8]) {
-    let length = run_file::print(bytes, text);
-    if length <= text.len() {
-        show::text(&text[..length]);
-    }
+// Writes what is printed for the bytes.
+fn answer(bytes: &[u8]) {
+    let mut room = [0u8; 512];
+    let length = run_file::print(bytes, &mut room);
+    show::text(&room[..length]);
 }
 
 fn run_case(index: usize) {
@@ -21,8 +20,7 @@ fn run_case(index: usize) {
     let mut bytes = [0u8; 12457];
     let n = io::read_full(fd, &mut bytes);
     libc::close(fd);
-    let mut text = [0u8; 512];
-    answer(&bytes[..n], &mut text);
+    answer(&bytes[..n]);
 }
 
 fn main() {

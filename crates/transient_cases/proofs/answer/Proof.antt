@@ -1,7 +1,8 @@
--- `transient_cases::answer` is safe and ends: what it writes is in the room. Assumes nothing.
+-- `transient_cases::answer` is safe and ends: the text that it writes lies in the array. Assumes nothing.
 use mathlib.Core.Path.{sym}
 use lib.Seq.{length-take-le}
 use borrow.Author.Needs.{needs}
+use Rattle.run_file.specs.Running.{text-within}
 use Rattle.transient_cases.proofs.answer.Statement.{statement}
 use Rattle.transient_cases.proofs.answer.Tie as tie
 
@@ -10,10 +11,7 @@ answer-spec =
     tie.close
     (tie.spec
     (λ c κs. search needs)  -- print-requires
-    (λ c. search needs)  -- slice-reshare-prefix-text
-    (λ c. sym (length-take-le _ _ (c .before .if1 .taken)))  -- slice-aggregate-text
+    (λ c. text-within _ _ (c .print .ensures .0) (c .print .ensures .1))  -- array-share-prefix-room
+    (λ c. let told = c .before .print .ensures in sym (length-take-le _ _ (text-within _ _ (told .0) (told .1))))  -- slice-aggregate-text
     (λ c κs. search needs)  -- text-requires
-    (λ c. search needs)  -- same-length
-    (λ c. search needs)  -- returns
-    (λ c. search needs)  -- same-length-2
-    (λ c. search needs))  -- returns-2
+    (λ c. search needs))  -- returns
