@@ -1,12 +1,11 @@
 -- Document 01, run file: "N, n as u32; a contents table of four rows (times, free, retarded self-energy, Σ^<), each u32 byte offset and u32
 -- count of numbers; then bodies, eight bytes a number. Well formed: at least 40 bytes, and, once lines 1 and 2 pass, bodies adjoin in table
 -- order from byte 40, counts match, length is exact."
-use Prim.Native.Nat.{ℕ, zero, suc, _+_, _*_}
-use mathlib.Core.Bool.{Bool, true, _&&_}
+use Prim.Native.Nat.{ℕ, suc, _+_, _*_}
+use mathlib.Core.Bool.{Bool, _&&_}
 use mathlib.Core.List.{List, [], _∷_}
 use lib.Dec.{leb, eqb}
 use lib.ListN.{length, replicate}
-use lib.Ieee.{Float}
 use Rattle.complex.specs.Arithmetic.{plusZero}
 use Rattle.refusal.specs.declared.Verdict.{Verdict}
 use Rattle.refusal.specs.Verdict.{_then_}

@@ -3,8 +3,7 @@ use Prim.Native.Nat.{ℕ, zero, suc, _+_, _/_, _%_}
 use mathlib.Core.Bool.{cond}
 use mathlib.Core.List.{List, [], _∷_, _++_}
 use lib.Dec.{ltb}
-use lib.Ieee.{Float, binary64, toBits}
-use Rattle.lists.specs.Indexed.{join}
+use lib.Ieee.{binary64, toBits}
 use Rattle.observables.specs.declared.Observed.{Observed}
 use Rattle.observables.specs.declared.Observed.the-variants.{Number, NotReal, Refused as NotObserved}
 

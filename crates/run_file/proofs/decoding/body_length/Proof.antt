@@ -1,6 +1,5 @@
 -- `run_file::decoding::body_length` meets its contract. Assumes nothing.
 use mathlib.Core.Path.{_∙_}
-use native.Mathlib.Omega.{arith}
 use borrow.Author.Needs.{needs}
 use Rattle.run_file.specs.Table.{uncut}
 use Rattle.run_file.proofs.decoding.body_length.Statement.{statement}

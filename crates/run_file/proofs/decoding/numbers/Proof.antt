@@ -1,9 +1,8 @@
 -- `run_file::decoding::numbers` meets its contract: after k turns the first k numbers are written over. Assumes nothing.
-use mathlib.Core.Path.{_≡_, ap, _∙_}
-use Prim.Native.Nat.{ℕ, _≤_, _+_, _-_, _*_}
+use mathlib.Core.Path.{_≡_}
+use Prim.Native.Nat.{_≤_, _+_, _-_, _*_}
 use native.Mathlib.Omega.{arith}
 use lib.ListN.{length, length-set}
-use lib.Ieee.{binary64, ofBits}
 use borrow.Author.Needs.{needs}
 use Rattle.lists.specs.Filling.{over}
 use Rattle.lists.specs.Singles.{singles, singles-none, singles-turn}

@@ -1,5 +1,4 @@
 -- `run_file::decoding::table_fits` meets its contract. Assumes nothing.
-use native.Mathlib.Omega.{arith}
 use borrow.Author.Needs.{needs}
 use Rattle.run_file.specs.Table.{table-rows}
 use Rattle.run_file.proofs.decoding.table_fits.Statement.{statement}
