@@ -1,6 +1,6 @@
 -- Closed cases of the arithmetic: the expected bits are IEEE 754's, and reference/document01.py gives the same.
 use mathlib.Core.Path.{_≡_, refl}
-use mathlib.Core.Bool.{Bool, true, false}
+use mathlib.Core.Bool.{true, false}
 use mathlib.Core.List.{List, [], _∷_, map}
 use Prim.Native.Nat.{ℕ, zero, suc}
 use lib.Ieee as Ieee

@@ -1,16 +1,15 @@
 -- `complex::abs` meets its contract, by cases on the number and its sign: below zero the sign is turned, a zero gives +0, and any other
 -- number is its own size. That a zero is written in one way is what its format says. Assumes nothing.
-use mathlib.Core.Path.{_≡_, refl, sym, ap, _∙_}
-use mathlib.Core.Bool.{Bool, true, false, cond, _&&_, _||_}
+use mathlib.Core.Path.{_≡_, refl, sym, _∙_}
+use mathlib.Core.Bool.{Bool, true, false, _&&_}
 use Prim.Native.Nat.{ℕ, zero, suc, _+_, _*_, _^_, _≤_, _<_}
 use native.Mathlib.Nat.{zero-mul, one-mul, mul-one, mul-pos, zero-lt-suc}
 use native.Mathlib.Omega.{arith}
-use lib.Dec.{T, ltb, eqb, eqb→eq}
 use lib.IntN.{ℤ, pos, negsuc}
 use lib.Pow.{pow-lt}
 use lib.Ieee.{Float, nan, inf, fin, lt, eq, neg, ofBits, binary64, fits, up, down, level}
 use lib.Ieee.Fits.{up-pos}
-use borrow.Author.Tests.{ltb-true, ltb-false, eqb-true, eqb-false}
+use borrow.Author.Tests.{ltb-true, ltb-false, eqb-true}
 use Rattle.complex.specs.Arithmetic.{size, plusZero}
 use Rattle.complex.proofs.abs.Statement.{statement}
 use Rattle.complex.proofs.abs.Tie as tie
