@@ -1,14 +1,14 @@
 -- Check: what the integers' check of a guess settles. Assumes nothing.
 use mathlib.Core.Path.{_≡_, sym, ap, ap₂, _∙_, subst}
-use mathlib.Core.Logic.{inr}
+use mathlib.Core.Bool.{false}
 use Prim.Native.Nat.{ℕ, zero, suc, _+_, _-_, _*_, _/_, _%_, _^_, _≤_, _<_}
 use native.Mathlib.Nat.{add-le-add, mul-pos, le-div-iff-mul-le, div-lt-iff-lt-mul, div-div-eq-div-mul, le-trans, le-of-eq, le-of-lt, lt-of-lt-of-le, lt-of-le-of-lt, add-comm, add-mul, mul-add, mul-assoc, mul-comm, mul-left-comm, mul-le-mul, mul-le-mul-right, mul-lt-mul-of-pos-right, div-mul-le-self, div-add-mod', mod-lt, suc-mul, lt-irrefl}
 use native.Mathlib.Omega.{arith}
 use lib.Pow.{pow-add, pow-pos}
+use lib.Ieee.{binary64, ofBits, units}
 use Rattle.norm.specs.Squares.{square-product, square-double, power-of-four, even-power, four-pos}
 use Rattle.norm.specs.Cell.{certain}
 use Rattle.norm.specs.Checked.{Between, Covers, Settles}
-use Rattle.norm.specs.Encoding.{bits-of-step, step-in}
 
 -- The sum of squares N that the root is of, and its whole part S in the units of the larger part.
 module _ (qa qb g : ℕ) where
@@ -71,17 +71,17 @@ module _ (qa qb g : ℕ) where
         (lt-of-lt-of-le (mul-lt-mul-of-pos-right (quarter N (x * x * (2 ^ g * 2 ^ g)) (lt-of-lt-of-le high-part (le-trans (mul-le-mul-right (2 ^ (2 * g + 2)) h) (le-of-eq (raised x))))) (four-pos u)) (le-of-eq (sym (scaled x))))
 
   -- a significand that passes the check is the norm's
-  pub settles : (shift more m : ℕ) → Between S m (2 ^ more) → shift + more < 2046 → 2 ^ 52 < m → m < 2 ^ 53 → Settles qa qb g shift ((shift + more) * 2 ^ 52 + m)
-  settles shift more m b h l s = record {
-    most = step-in m (shift + more) (le-of-lt s) h;
-    value = λ n u e v. bits-of-step m (shift + more) (le-of-lt s) (inr (le-of-lt l)) h
-        ∙ sym (certain n m (shift + more) l s
-        (subst (λ (x : ℕ). x * x < 4 * n) (together n u e (2 * m - 1)) (root-above n u v ((2 * m - 1) * 2 ^ more) (b .0)))
-        (subst (λ (x : ℕ). 4 * n < x * x) (together n u e (2 * m + 1)) (root-below n u v ((2 * m + 1) * 2 ^ more) (b .1))));
+  pub settles : (shift more m r : ℕ) → Between S m (2 ^ more) → 2 ^ 52 < m → m < 2 ^ 53 → (r ≤ 2047 * 2 ^ 52) × (ofBits binary64 r ≡ units binary64 false m (more + shift)) → Settles qa qb g shift r
+  settles shift more m r b l s e = record {
+    most = e .0;
+    value = λ n u k v. e .1
+        ∙ sym (certain n m (more + shift) l s
+        (subst (λ (x : ℕ). x * x < 4 * n) (together u k (2 * m - 1)) (root-above n u v ((2 * m - 1) * 2 ^ more) (b .0)))
+        (subst (λ (x : ℕ). 4 * n < x * x) (together u k (2 * m + 1)) (root-below n u v ((2 * m + 1) * 2 ^ more) (b .1))));
   }
     where
-      together : (n u : ℕ) → g + u ≡ shift → (y : ℕ) → y * 2 ^ more * 2 ^ (g + u) ≡ y * 2 ^ (shift + more)
-      together n u e y = mul-assoc y (2 ^ more) (2 ^ (g + u)) ∙ ap (λ (x : ℕ). y * x) (sym (pow-add 2 more (g + u)) ∙ ap (λ (x : ℕ). 2 ^ x) (add-comm more (g + u) ∙ ap (λ (x : ℕ). x + more) e))
+      together : (u : ℕ) → g + u ≡ shift → (y : ℕ) → y * 2 ^ more * 2 ^ (g + u) ≡ y * 2 ^ (more + shift)
+      together u k y = mul-assoc y (2 ^ more) (2 ^ (g + u)) ∙ ap (λ (x : ℕ). y * x) (sym (pow-add 2 more (g + u)) ∙ ap (λ (x : ℕ). 2 ^ (more + x)) k)
 
 -- ---- the sum in steps of 2^44
 
@@ -97,6 +97,13 @@ even-exponent k = ap (λ (x : ℕ). 2 ^ x) (double k) ∙ pow-add 2 k k ∙ sym 
   where
     double : (k : ℕ) → 2 * k ≡ k + k
     double k = omega arith
+
+-- a shift in two
+pub twice-shifted : (x j k : ℕ) → x / 2 ^ (2 * j) / 2 ^ (2 * k) ≡ x / 2 ^ (2 * (j + k))
+twice-shifted x j k = div-div-eq-div-mul x (2 ^ (2 * j)) (2 ^ (2 * k)) ∙ ap (λ (y : ℕ). x / y) (sym (pow-add 2 (2 * j) (2 * k)) ∙ ap (λ (y : ℕ). 2 ^ y) (both j k))
+  where
+    both : (j k : ℕ) → 2 * j + 2 * k ≡ 2 * (j + k)
+    both j k = omega arith
 
 -- what the steps leave out of each square is less than a step
 pub covers : (qa qb g more : ℕ) → Covers (2 * qa * (2 * qa) / 2 ^ 44 / 2 ^ (2 * more) + 2 * qb * (2 * qb) / 2 ^ 44 / 2 ^ (2 * (g + more))) (2 * qa * (2 * qa) + 4 * qb * (4 * qb) / 2 ^ (2 * g + 2)) more

@@ -7,13 +7,12 @@ use native.Mathlib.Nat.{le-trans, le-of-eq, lt-of-le-of-lt, div-lt-iff-lt-mul}
 use native.Mathlib.Omega.{arith}
 use lib.Dec.{T, eqb, eqb→eq}
 use lib.Pow.{pow-pos}
-use lib.Ieee.{binary64, nearest, units, ofBits}
+use lib.Ieee.{binary64, nearest, units}
 use lib.Ieee.Fits.{nearest-le, eq→eqb}
 use lib.Ieee.Nearest.{nearest-ge}
 use Rattle.norm.specs.Norm.{roundedRoot}
 use Rattle.norm.specs.Half.{besideHalf}
 use Rattle.norm.proofs.Cut.{Dropped, kept-digits, significand, rounded-root}
-use Rattle.norm.specs.Encoding.{step-in, bits-of-step, bits-past-steps}
 
 -- the root leaves nothing where both of its rest's words are 0
 nothing-left : (hi lo : ℕ) → (eqb hi 0 && eqb lo 0) ≡ true → hi * 2 ^ 64 + lo ≡ 0
@@ -92,7 +91,7 @@ module _ {hi lo th tl s r m : ℕ} (d : Rounded hi lo th tl s r m) where
   abbrev Value : ℕ → Type 0
   Value n = ((hi * 2 ^ 64 + lo) * (hi * 2 ^ 64 + lo) + (th * 2 ^ 64 + tl)) * 4 ^ s ≡ 4 * n
 
-  result : (n : ℕ) → Value n → roundedRoot n ≡ units binary64 false m (r - 1 + s)
+  pub result : (n : ℕ) → Value n → roundedRoot n ≡ units binary64 false m (r - 1 + s)
   result n v = rounds n hi lo th tl s r v (d .little) (d .dropped) (d .unit) ∙ ap (λ (x : ℕ). units binary64 false x (r - 1 + s)) (sym (d .up))
 
   pub most : m ≤ 2 ^ 53
@@ -101,12 +100,3 @@ module _ {hi lo th tl s r m : ℕ} (d : Rounded hi lo th tl s r m) where
   -- at the unit, or with all its digits
   pub full : (r - 1 + s ≡ 0) ⊎ (2 ^ 52 ≤ m)
   full = subst (λ (x : ℕ). (r - 1 + s ≡ 0) ⊎ (2 ^ 52 ≤ x)) (sym (d .up)) (full-digits hi lo s r (d .dropped) (d .unit) (besideHalf (lo * 2 ^ (64 - r) % 2 ^ 64) (eqb th 0 && eqb tl 0)))
-
-  pub within-steps : {b : ℕ} → b ≡ (r - 1 + s) * 2 ^ 52 + m → r - 1 + s < 2046 → (b ≤ 2047 * 2 ^ 52) × ((n : ℕ) → Value n → ofBits binary64 b ≡ roundedRoot n)
-  within-steps e h = (
-    le-trans (le-of-eq e) (step-in m (r - 1 + s) most h),
-    λ n v. ap (λ (b : ℕ). ofBits binary64 b) e ∙ bits-of-step m (r - 1 + s) most full h ∙ sym (result n v),
-  )
-
-  pub past-steps : 2046 ≤ r - 1 + s → (n : ℕ) → Value n → ofBits binary64 (2047 * 2 ^ 52) ≡ roundedRoot n
-  past-steps h n v = bits-past-steps m (r - 1 + s) most full h ∙ sym (result n v)

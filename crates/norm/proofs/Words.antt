@@ -63,11 +63,12 @@ pub record Columns (s1 s0 : ℕ) : Type 0 where
   pub cross : s1 * s0 < 2 ^ 56
   pub base : s0 * s0 < 2 ^ 64
 
+-- a product has the digits of both factors
+pub mul-lt-pow : {a b : ℕ} (j k : ℕ) → a < 2 ^ j → b < 2 ^ k → a * b < 2 ^ (j + k)
+mul-lt-pow {a} {b} j k h l = lt-of-le-of-lt (mul-le-mul-left a (le-of-lt l)) (shl-lt j k h)
+
 pub columns-fit : (s1 s0 : ℕ) → s1 < 2 ^ 24 → s0 < 2 ^ 32 → Columns s1 s0
 columns-fit s1 s0 h l = record { high = mul-lt-pow 24 24 h h; cross = mul-lt-pow 24 32 h l; base = mul-lt-pow 32 32 l l }
-  where
-    mul-lt-pow : {a b : ℕ} (j k : ℕ) → a < 2 ^ j → b < 2 ^ k → a * b < 2 ^ (j + k)
-    mul-lt-pow {a} {b} j k h l = lt-of-le-of-lt (mul-le-mul-left a (le-of-lt l)) (shl-lt j k h)
 
 pub high-fits : (h x b : ℕ) → h < 2 ^ 48 → x < 2 ^ 56 → b < 2 ^ 64 → h + (x * 2 + b / 2 ^ 32) / 2 ^ 32 < 2 ^ 64
 high-fits h x b i j k = sum h ((x * 2 + b / 2 ^ 32) / 2 ^ 32) i (shr-lt 26 32 (middle x (b / 2 ^ 32) j (shr-lt 32 32 k)))

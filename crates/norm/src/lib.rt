@@ -1,5 +1,7 @@
 // The norm of a complex number, correctly rounded (document 01, "Arithmetic under everything"): the meaning is in specs/.
+mod exponent;
 mod guess;
+mod near_root;
 mod nearest;
 mod parts;
 mod square_root;

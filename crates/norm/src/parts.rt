@@ -1,4 +1,7 @@
 // The norm of two finite parts by their bits without the signs.
+use super::exponent::FAR;
+use super::exponent::gap;
+use super::exponent::shift;
 use super::guess::guessed;
 use super::nearest::rounded;
 use super::square_root::root_of;
@@ -11,10 +14,7 @@ ghost use Prim.Native.Nat.{_+_, _*_, _^_, _≤_, _<_};
 ghost use lib.Ieee.{binary64, ofBits};
 ghost use Rattle.norm.specs.Checked.{Settles};
 ghost use Rattle.norm.specs.Norm.{roundedRoot};
-ghost use Rattle.norm.specs.Parts.{significandOf, shiftOf, unitsOf};
-
-// A part this many shifts or more below changes nothing.
-const FAR: u64 = 27;
+ghost use Rattle.norm.specs.Parts.{significandOf, unitsOf};
 
 fn significand(a: u64) -> u64
     ensures { λ r. ⌜ r ≡ significandOf a ⌝ }
@@ -23,16 +23,6 @@ fn significand(a: u64) -> u64
         a
     } else {
         0x10_0000_0000_0000 + a % 0x10_0000_0000_0000
-    }
-}
-
-fn shift(a: u64) -> u64
-    ensures { λ r. ⌜ r ≡ shiftOf a ⌝ }
-{
-    if a < 0x10_0000_0000_0000 {
-        0
-    } else {
-        (a >> 52) - 1
     }
 }
 
@@ -46,42 +36,23 @@ fn by_digits(qa: u64, qb: u64, gap: u64, unit: u64) -> u64
     rounded(root_of(n), unit)
 }
 
-// The bits of the norm of the parts a and b, a the larger, without a guess.
-fn unguessed(a: u64, b: u64) -> u64
+// The bits of the norm of the parts a and b, a the larger: by a guess, and where that fails from the digits.
+pub(crate) fn norm_bits(a: u64, b: u64) -> u64
     requires { ⌜ (b ≤ a) × (a < 2047 * 2 ^ 52) ⌝ }
     ensures { λ r. ⌜ (r ≤ 2047 * 2 ^ 52) × (ofBits binary64 r ≡ roundedRoot (unitsOf a ^ 2 + unitsOf b ^ 2)) ⌝ }
 {
     if b == 0 {
         return a;
     }
-    let unit = shift(b);
-    let gap = shift(a) - unit;
-    if gap >= FAR {
+    let apart = gap(a, b);
+    if apart >= FAR {
         return a;
     }
     let qa = significand(a);
     let qb = significand(b);
-    by_digits(qa, qb, gap, unit)
-}
-
-// The same, first by a guess where both parts have their leading digit.
-pub(crate) fn norm_bits(a: u64, b: u64) -> u64
-    requires { ⌜ (b ≤ a) × (a < 2047 * 2 ^ 52) ⌝ }
-    ensures { λ r. ⌜ (r ≤ 2047 * 2 ^ 52) × (ofBits binary64 r ≡ roundedRoot (unitsOf a ^ 2 + unitsOf b ^ 2)) ⌝ }
-{
-    if b < 0x10_0000_0000_0000 {
-        return unguessed(a, b);
-    }
-    let unit = shift(b);
-    let gap = shift(a) - unit;
-    if gap >= FAR {
-        return a;
-    }
-    let qa = significand(a);
-    let qb = significand(b);
-    let quick = guessed(qa, qb, gap, gap + unit);
+    let quick = guessed(qa, qb, apart, shift(a));
     if quick > 0 {
         return quick;
     }
-    by_digits(qa, qb, gap, unit)
+    by_digits(qa, qb, apart, shift(b))
 }

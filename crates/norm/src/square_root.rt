@@ -52,14 +52,24 @@ fn read_word(s: Root, word: u64) -> Root
     r
 }
 
-// The root of n and what it leaves.
-pub(crate) fn root_of(n: Three) -> Root
-    requires { ⌜ three n < 2 ^ 162 ⌝ }
-    ensures { λ r. ⌜ Reads r (three n) ⌝ }
+// Reads the first word. A word of 0 has no digits of the root: so it is for parts near each other.
+fn first_word(word: u64) -> Root
+    ensures { λ r. ⌜ Reads r word ⌝ }
 {
     let none = Root {
         root: Wide { hi: 0, lo: 0 },
         rest: Wide { hi: 0, lo: 0 },
     };
-    read_word(read_word(read_word(none, n.high), n.mid), n.low)
+    if word == 0 {
+        return none;
+    }
+    read_word(none, word)
+}
+
+// The root of n and what it leaves.
+pub(crate) fn root_of(n: Three) -> Root
+    requires { ⌜ three n < 2 ^ 162 ⌝ }
+    ensures { λ r. ⌜ Reads r (three n) ⌝ }
+{
+    read_word(read_word(first_word(n.high), n.mid), n.low)
 }

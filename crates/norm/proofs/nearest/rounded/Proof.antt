@@ -1,10 +1,10 @@
 -- `norm::nearest::rounded` meets its contract, by `Result`: what the words keep is small, and the bits are the rounded root's.
 -- Assumes nothing.
+use mathlib.Core.Path.{sym, _∙_}
 use Prim.Native.Nat.{ℕ, _+_, _-_, _*_, _/_, _%_, _^_, _<_}
-use native.Mathlib.Nat.{le-refl}
 use native.Mathlib.Omega.{arith}
 use borrow.Author.Needs.{needs}
-use Rattle.norm.proofs.Result.{kept-small, Rounded, most, full, within-steps, past-steps}
+use Rattle.norm.proofs.Result.{kept-small, Rounded, most, full, result}
 use Rattle.norm.proofs.nearest.rounded.Statement.{statement}
 use Rattle.norm.proofs.nearest.rounded.Tie as tie
 
@@ -21,7 +21,7 @@ add-q : tie.Need-add-q
 add-q c = let h = small (c .before .before) in omega (arith, h)
 
 add-encoded : tie.Need-add-encoded
-add-encoded c = let h = small (c .before .before .before .before .before .before .before) in let m = c .before .rounding-up .ensures .1 in omega (arith, h, m)
+add-encoded c = let h = small (c .before .before .before .before .before .before) in let m = c .rounding-up .ensures .1 in omega (arith, h, m)
 
 -- what is known at the last test
 at-test : (c : tie.After-rounding-up) →
@@ -34,13 +34,13 @@ at-test c =
     record { little = s .pre .0; dropped = d .dropped .ensures; unit = s .pre .3; up = c .rounding-up .ensures .0 }
 
 encoded-requires : tie.Need-encoded-requires
-encoded-requires c κs = let r = at-test (c .before) in (most r, c .if1 .taken, full r)
+encoded-requires c κs =
+    let r = at-test c in
+    let d = c .before .before .before .before .before .before .dropped .ensures .1 in
+    (most r, omega (arith, d), c .before .before .before .before .before .before .before .before .before .pre .2, full r)
 
 returns : tie.Need-returns
-returns c = let t = c .before in within-steps (at-test (t .before)) (c .encoded .ensures) (t .if1 .taken)
-
-returns-2 : tie.Need-returns-2
-returns-2 c = (le-refl (2047 * 2 ^ 52), past-steps (at-test (c .before)) (c .if1 .left))
+returns c = (c .encoded .ensures .0, λ n v. c .encoded .ensures .1 ∙ sym (result (at-test (c .before)) n v))
 
 pub rounded-spec : {M : Type 1} → statement M
 rounded-spec =
@@ -53,9 +53,7 @@ rounded-spec =
     add-q
     (λ c. search needs)
     (λ c κs. search needs)
-    (λ c. search needs)
-    (λ c. search needs)
     add-encoded
+    (λ c. search needs)
     encoded-requires
-    returns
-    returns-2)
+    returns)

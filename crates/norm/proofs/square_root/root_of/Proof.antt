@@ -1,7 +1,6 @@
 -- `norm::square_root::root_of` meets its contract: three words are read, the highest first. Assumes nothing.
 use mathlib.Core.Path.{_≡_, sym, ap, _∙_, subst}
 use Prim.Native.Nat.{ℕ, _+_, _*_, _^_, _<_}
-use native.Mathlib.Nat.{zero-add}
 use borrow.Author.Needs.{needs}
 use Rattle.norm.specs.Words.{read}
 use Rattle.norm.proofs.Root.{top-word}
@@ -9,29 +8,26 @@ use Rattle.norm.proofs.Words.{high-below}
 use Rattle.norm.proofs.square_root.root_of.Statement.{statement}
 use Rattle.norm.proofs.square_root.root_of.Tie as tie
 
--- what has been read after one word, and after two
-one : (c : tie.After-read-word) → read (c .read-word .result) ≡ c .before .args .n .high
-one c = c .read-word .ensures .value ∙ zero-add (c .before .args .n .high)
-
-both : (c : tie.After-read-word2) → read (c .read-word2 .result) ≡ c .before .before .args .n .high * 2 ^ 64 + c .before .before .args .n .mid
-both c = c .read-word2 .ensures .value ∙ ap (λ (x : ℕ). x * 2 ^ 64 + c .before .before .args .n .mid) (one (c .before))
+-- what has been read after two words
+both : (c : tie.After-read-word) → read (c .read-word .result) ≡ c .before .before .args .n .high * 2 ^ 64 + c .before .before .args .n .mid
+both c = c .read-word .ensures .value ∙ ap (λ (x : ℕ). x * 2 ^ 64 + c .before .before .args .n .mid) (c .before .first-word .ensures .value)
 
 small : (c : tie.Start) → c .args .n .high * 2 ^ 64 + c .args .n .mid < 2 ^ 98
 small c = high-below (c .args .n .high * 2 ^ 64 + c .args .n .mid) (c .args .n .low) 98 (c .pre)
 
-read-word-requires-2 : tie.Need-read-word-requires-2
-read-word-requires-2 c κs =
+read-word-requires : tie.Need-read-word-requires
+read-word-requires c κs =
     let s = c .before in
-    (c .read-word .ensures .little, subst (λ (x : ℕ). x < 2 ^ 98) (sym (one c)) (top-word (s .args .n .high) (s .args .n .mid) 98 (small s)))
+    (c .first-word .ensures .little, subst (λ (x : ℕ). x < 2 ^ 98) (sym (c .first-word .ensures .value)) (top-word (s .args .n .high) (s .args .n .mid) 98 (small s)))
 
-read-word-requires-3 : tie.Need-read-word-requires-3
-read-word-requires-3 c κs = (c .read-word2 .ensures .little, subst (λ (x : ℕ). x < 2 ^ 98) (sym (both c)) (small (c .before .before)))
+read-word-requires-2 : tie.Need-read-word-requires-2
+read-word-requires-2 c κs = (c .read-word .ensures .little, subst (λ (x : ℕ). x < 2 ^ 98) (sym (both c)) (small (c .before .before)))
 
 returns : tie.Need-returns
 returns c = record {
-  value = c .read-word3 .ensures .value ∙ ap (λ (x : ℕ). x * 2 ^ 64 + c .before .before .before .args .n .low) (both (c .before));
-  little = c .read-word3 .ensures .little;
+  value = c .read-word2 .ensures .value ∙ ap (λ (x : ℕ). x * 2 ^ 64 + c .before .before .before .args .n .low) (both (c .before));
+  little = c .read-word2 .ensures .little;
 }
 
 pub root-of-spec : {M : Type 1} → statement M
-root-of-spec = tie.close (tie.spec (λ c κs. search needs) read-word-requires-2 read-word-requires-3 returns)
+root-of-spec = tie.close (tie.spec (λ c κs. search needs) read-word-requires read-word-requires-2 returns)

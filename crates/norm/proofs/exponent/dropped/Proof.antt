@@ -1,9 +1,9 @@
--- `norm::nearest::dropped` meets its contract: both ways are laws of `Cut`. Assumes nothing.
+-- `norm::exponent::dropped` meets its contract: both ways are laws of `Cut`. Assumes nothing.
 use borrow.Author.Needs.{needs}
 use Rattle.norm.specs.Words.{two}
 use Rattle.norm.proofs.Cut.{drop-one, drop-more}
-use Rattle.norm.proofs.nearest.dropped.Statement.{statement}
-use Rattle.norm.proofs.nearest.dropped.Tie as tie
+use Rattle.norm.proofs.exponent.dropped.Statement.{statement}
+use Rattle.norm.proofs.exponent.dropped.Tie as tie
 
 returns : tie.Need-returns
 returns c = drop-one (two (c .before .before .args .root)) (c .before .digits .result) (c .before .digits .ensures) (c .if1 .taken)

@@ -1,9 +1,9 @@
--- `norm::nearest::digits` meets its contract, by the leading zeros of the highest word that is not 0. Assumes nothing.
+-- `norm::exponent::digits` meets its contract, by the leading zeros of the highest word that is not 0. Assumes nothing.
 use native.Mathlib.Omega.{arith}
 use lib.Count.{leading-le}
 use Rattle.norm.proofs.Cut.{one-word, two-words}
-use Rattle.norm.proofs.nearest.digits.Statement.{statement}
-use Rattle.norm.proofs.nearest.digits.Tie as tie
+use Rattle.norm.proofs.exponent.digits.Statement.{statement}
+use Rattle.norm.proofs.exponent.digits.Tie as tie
 
 cast-result : tie.Need-cast-result
 cast-result c = omega (arith, leading-le 64 (c .before .before .before .args .w .lo))

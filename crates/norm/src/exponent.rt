@@ -1,0 +1,84 @@
+// The exponents: how far a part is shifted, how far apart two are, what the leading zeros of a sum or a root say, and the bits of a
+// significand at its step. A shift or a gap is at most 2045, a count of digits at most 128, a step at most 2072, a field at most 2047.
+use super::wide::Wide;
+ghost use mathlib.Core.Bool.{false};
+ghost use mathlib.Core.Logic.{_⊎_};
+ghost use mathlib.Core.Path.{_≡_};
+ghost use Prim.Native.Nat.{_+_, _*_, _^_, _≤_, _<_};
+ghost use lib.Ieee.{binary64, ofBits, units};
+ghost use Rattle.norm.specs.Parts.{shiftOf};
+ghost use Rattle.norm.specs.Words.{two};
+
+// A part this many shifts or more below changes nothing.
+pub(crate) const FAR: u64 = 27;
+
+// How far the part of the bits a is shifted: its exponent's field counted from 1, and a field of 0 counts as 1.
+pub(crate) fn shift(a: u64) -> u64
+    ensures { λ r. ⌜ r ≡ shiftOf a ⌝ }
+{
+    if a < 0x10_0000_0000_0000 {
+        0
+    } else {
+        (a >> 52) - 1
+    }
+}
+
+// How many shifts the part a, the larger, is above b.
+pub(crate) fn gap(a: u64, b: u64) -> u64
+    requires { ⌜ b ≤ a ⌝ }
+    ensures { λ r. ⌜ r + shiftOf b ≡ shiftOf a ⌝ }
+{
+    shift(a) - shift(b)
+}
+
+// 1 where the sum of the squares a and b has 65 digits, one more than a word: half of it has no leading zeros. The 1 stands for what the
+// halves leave out.
+pub(crate) fn longer(a: u64, b: u64) -> u64
+    ensures { λ r. ⌜ r ≤ 1 ⌝ }
+{
+    if u64::leading_zeros((a >> 1) + (b >> 1) + 1) == 0 {
+        1
+    } else {
+        0
+    }
+}
+
+// How many binary digits w has.
+fn digits(w: Wide) -> u64
+    ensures { λ r. ⌜ (two w < 2 ^ r) × (2 ^ r ≤ 2 * two w + 1) ⌝ }
+{
+    if w.hi == 0 {
+        64 - u64::leading_zeros(w.lo) as u64
+    } else {
+        128 - u64::leading_zeros(w.hi) as u64
+    }
+}
+
+// How many digits of a root are dropped: all but 53, and at least the one below the unit.
+pub(crate) fn dropped(root: Wide) -> u64
+    requires { ⌜ two root < 2 ^ 81 ⌝ }
+    ensures { λ r. ⌜ (1 ≤ r) × (r ≤ 28) × (two root < 2 ^ 53 * 2 ^ r) × ((r ≡ 1) ⊎ (2 ^ 52 * 2 ^ r ≤ two root)) ⌝ }
+{
+    let z = digits(root);
+    if z < 54 { 1 } else { z - 53 }
+}
+
+// The bits of m steps of 2^(more + shift) units: "the count of leading zeros gives the exponent" (document 01). It is 11 where the
+// significand m has all 53 digits, 10 where rounding carried it to 2^53, which is 2^52 at the next step, and more where the number is
+// subnormal. A significand at a step of 2^2046 units is past the largest number, and a carry below can raise the field up to infinity's.
+pub(crate) fn encoded(m: u64, more: u64, shift: u64) -> u64
+    requires { ⌜ (m ≤ 2 ^ 53) × (more < 28) × (shift ≤ 2045) × ((more + shift ≡ 0) ⊎ (2 ^ 52 ≤ m)) ⌝ }
+    ensures { λ r. ⌜ (r ≤ 2047 * 2 ^ 52) × (ofBits binary64 r ≡ units binary64 false m (more + shift)) ⌝ }
+{
+    let step = more + shift;
+    if step >= 2046 {
+        return 0x7ff0_0000_0000_0000;
+    }
+    let zeros = u64::leading_zeros(m) as u64;
+    if zeros > 11 {
+        return m;
+    }
+    let carried = 11 - zeros;
+    let field = step + carried + 1;
+    field * 0x10_0000_0000_0000 + (m >> carried) % 0x10_0000_0000_0000
+}
