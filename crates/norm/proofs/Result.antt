@@ -2,8 +2,9 @@
 use mathlib.Core.Path.{_≡_, sym, ap, _∙_, subst}
 use mathlib.Core.Logic.{_⊎_, inl, inr}
 use mathlib.Core.Bool.{Bool, true, false, _&&_}
-use Prim.Native.Nat.{ℕ, zero, suc, _+_, _-_, _*_, _/_, _%_, _^_, _≤_, _<_, Ordering}
+use Prim.Native.Nat.{ℕ, suc, _+_, _*_, _/_, _%_, _^_, _≤_, _<_, Ordering}
 use native.Mathlib.Nat.{le-trans, le-of-eq, lt-of-le-of-lt, div-lt-iff-lt-mul}
+use native.Mathlib.Numerals.{add-one}
 use native.Mathlib.Omega.{arith}
 use lib.Dec.{T, eqb, eqb→eq}
 use lib.Pow.{pow-pos}
@@ -40,63 +41,49 @@ something-left hi lo e = go (eqb hi 0) (eqb lo 0) (λ q. eq→eqb q) (λ q. eq�
     go true false f g e = low g
     go false b f g e = high f
 
--- places in a word, and steps
-places : (r : ℕ) → r ≤ 28 → 64 - r + r ≡ 64
-places r h = omega arith
+-- the digits that the words keep, u places up beside the r that are dropped: at most 53
+pub kept-small : (hi lo r u : ℕ) → u + r ≡ 64 → Dropped (hi * 2 ^ 64 + lo) r → hi * 2 ^ u % 2 ^ 64 + lo / 2 ^ r < 2 ^ 53
+kept-small hi lo r u e d = lt-of-le-of-lt (le-of-eq (kept-digits u r e hi lo (d .2))) (div-lt-iff-lt-mul (pow-pos r) .1 (d .2))
 
-none : 1 ≤ 0 → ⊥
-none h = omega arith
-
-step : (k s : ℕ) → suc k - 1 + s ≡ k + s
-step k s = omega arith
-
--- the digits that the words keep: at most 53
-pub kept-small : (hi lo r : ℕ) → Dropped (hi * 2 ^ 64 + lo) r → hi * 2 ^ (64 - r) % 2 ^ 64 + lo / 2 ^ r < 2 ^ 53
-kept-small hi lo r d =
-    lt-of-le-of-lt (le-of-eq (kept-digits (64 - r) r (places r (d .1)) hi lo (d .2))) (div-lt-iff-lt-mul (pow-pos r) .1 (d .2))
-
--- they are all 53, or the step is the unit; so too once they are rounded
-full-digits : (hi lo s r : ℕ) → Dropped (hi * 2 ^ 64 + lo) r → (s ≡ 0) ⊎ (2 ^ 53 ≤ hi * 2 ^ 64 + lo) → (o : Ordering)
-    → (r - 1 + s ≡ 0) ⊎ (2 ^ 52 ≤ nearest (hi * 2 ^ (64 - r) % 2 ^ 64 + lo / 2 ^ r) o)
-full-digits hi lo s zero d u o = absurd (none (d .0))
-full-digits hi lo s (suc k) d u o = grown (significand hi lo s k (d .2) (d .3) u .full)
-  where
-    q : ℕ
-    q = hi * 2 ^ (64 - suc k) % 2 ^ 64 + lo / 2 ^ suc k
-
-    kept : q ≡ (hi * 2 ^ 64 + lo) / 2 ^ suc k
-    kept = kept-digits (64 - suc k) (suc k) (places (suc k) (d .1)) hi lo (d .2)
-
-    grown : (k + s ≡ 0) ⊎ (2 ^ 52 ≤ (hi * 2 ^ 64 + lo) / 2 ^ suc k) → (suc k - 1 + s ≡ 0) ⊎ (2 ^ 52 ≤ nearest q o)
-    grown (inl z) = inl (step k s ∙ z)
-    grown (inr h) = inr (le-trans h (le-trans (le-of-eq (sym kept)) (nearest-ge q o)))
-
-rounds : (n hi lo th tl s r : ℕ) → ((hi * 2 ^ 64 + lo) * (hi * 2 ^ 64 + lo) + (th * 2 ^ 64 + tl)) * 4 ^ s ≡ 4 * n → th * 2 ^ 64 + tl ≤ 2 * (hi * 2 ^ 64 + lo)
-    → Dropped (hi * 2 ^ 64 + lo) r → (s ≡ 0) ⊎ (2 ^ 53 ≤ hi * 2 ^ 64 + lo)
-    → roundedRoot n ≡ units binary64 false (nearest (hi * 2 ^ (64 - r) % 2 ^ 64 + lo / 2 ^ r) (besideHalf (lo * 2 ^ (64 - r) % 2 ^ 64) (eqb th 0 && eqb tl 0))) (r - 1 + s)
-rounds n hi lo th tl s zero v l d u = absurd (none (d .0))
-rounds n hi lo th tl s (suc k) v l d u =
-    rounded-root n hi lo (th * 2 ^ 64 + tl) s k (64 - suc k) (places (suc k) (d .1)) v l (d .2) (d .3) u (eqb th 0 && eqb tl 0) (nothing-left th tl) (something-left th tl)
-    ∙ ap (λ (i : ℕ). units binary64 false (nearest (hi * 2 ^ (64 - suc k) % 2 ^ 64 + lo / 2 ^ suc k) (besideHalf (lo * 2 ^ (64 - suc k) % 2 ^ 64) (eqb th 0 && eqb tl 0))) i) (sym (step k s))
-
--- what `rounded` has at its last test: the root's words, the rest's, the shift s, the r digits dropped, and the rounded significand m
-pub record Rounded (hi lo th tl s r m : ℕ) : Type 0 where
+-- What `rounded` has once it has rounded: the root's words, the rest's, the shift s, the r digits dropped with u places beside them in a
+-- word, j of them from the unit on, and the rounded significand m.
+pub record Rounded (hi lo th tl s r u j m : ℕ) : Type 0 where
   pub little : th * 2 ^ 64 + tl ≤ 2 * (hi * 2 ^ 64 + lo)
   pub dropped : Dropped (hi * 2 ^ 64 + lo) r
+  pub beside : u + r ≡ 64
+  pub from-unit : j + 1 ≡ r
   pub unit : (s ≡ 0) ⊎ (2 ^ 53 ≤ hi * 2 ^ 64 + lo)
-  pub up : m ≡ nearest (hi * 2 ^ (64 - r) % 2 ^ 64 + lo / 2 ^ r) (besideHalf (lo * 2 ^ (64 - r) % 2 ^ 64) (eqb th 0 && eqb tl 0))
+  pub up : m ≡ nearest (hi * 2 ^ u % 2 ^ 64 + lo / 2 ^ r) (besideHalf (lo * 2 ^ u % 2 ^ 64) (eqb th 0 && eqb tl 0))
 
-module _ {hi lo th tl s r m : ℕ} (d : Rounded hi lo th tl s r m) where
+module _ {hi lo th tl s r u j m : ℕ} (given : Rounded hi lo th tl s r u j m) where
+  abbrev k : ℕ
+  k = suc j
+
+  d : Rounded hi lo th tl s k u j m
+  d = subst (λ (x : ℕ). Rounded hi lo th tl s x u j m) (sym (given .from-unit) ∙ add-one j) given
+
+  abbrev q : ℕ
+  q = hi * 2 ^ u % 2 ^ 64 + lo / 2 ^ k
+
+  abbrev order : Ordering
+  order = besideHalf (lo * 2 ^ u % 2 ^ 64) (eqb th 0 && eqb tl 0)
+
   -- whatever the number is whose root this is
-  abbrev Value : ℕ → Type 0
-  Value n = ((hi * 2 ^ 64 + lo) * (hi * 2 ^ 64 + lo) + (th * 2 ^ 64 + tl)) * 4 ^ s ≡ 4 * n
-
-  pub result : (n : ℕ) → Value n → roundedRoot n ≡ units binary64 false m (r - 1 + s)
-  result n v = rounds n hi lo th tl s r v (d .little) (d .dropped) (d .unit) ∙ ap (λ (x : ℕ). units binary64 false x (r - 1 + s)) (sym (d .up))
+  pub result : (n : ℕ) → ((hi * 2 ^ 64 + lo) * (hi * 2 ^ 64 + lo) + (th * 2 ^ 64 + tl)) * 4 ^ s ≡ 4 * n → roundedRoot n ≡ units binary64 false m (j + s)
+  result n v =
+      rounded-root n hi lo (th * 2 ^ 64 + tl) s j u (d .beside) v (d .little) (d .dropped .2) (d .dropped .3) (d .unit) (eqb th 0 && eqb tl 0) (nothing-left th tl) (something-left th tl)
+      ∙ ap (λ (x : ℕ). units binary64 false x (j + s)) (sym (d .up))
 
   pub most : m ≤ 2 ^ 53
-  most = le-trans (le-of-eq (d .up)) (le-trans (nearest-le (hi * 2 ^ (64 - r) % 2 ^ 64 + lo / 2 ^ r) (besideHalf (lo * 2 ^ (64 - r) % 2 ^ 64) (eqb th 0 && eqb tl 0))) (kept-small hi lo r (d .dropped)))
+  most = le-trans (le-of-eq (d .up)) (le-trans (nearest-le q order) (kept-small hi lo k u (d .beside) (d .dropped)))
 
-  -- at the unit, or with all its digits
-  pub full : (r - 1 + s ≡ 0) ⊎ (2 ^ 52 ≤ m)
-  full = subst (λ (x : ℕ). (r - 1 + s ≡ 0) ⊎ (2 ^ 52 ≤ x)) (sym (d .up)) (full-digits hi lo s r (d .dropped) (d .unit) (besideHalf (lo * 2 ^ (64 - r) % 2 ^ 64) (eqb th 0 && eqb tl 0)))
+  -- at the unit, or with all its digits, once they are rounded too
+  pub full : (j + s ≡ 0) ⊎ (2 ^ 52 ≤ m)
+  full = grown (significand hi lo s j (d .dropped .2) (d .dropped .3) (d .unit) .full)
+    where
+      kept : q ≡ (hi * 2 ^ 64 + lo) / 2 ^ k
+      kept = kept-digits u k (d .beside) hi lo (d .dropped .2)
+
+      grown : (j + s ≡ 0) ⊎ (2 ^ 52 ≤ (hi * 2 ^ 64 + lo) / 2 ^ k) → (j + s ≡ 0) ⊎ (2 ^ 52 ≤ m)
+      grown (inl z) = inl z
+      grown (inr h) = inr (le-trans h (le-trans (le-of-eq (sym kept)) (le-trans (nearest-ge q order) (le-of-eq (sym (d .up))))))

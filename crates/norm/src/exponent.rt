@@ -4,7 +4,7 @@ use super::wide::Wide;
 ghost use mathlib.Core.Bool.{false};
 ghost use mathlib.Core.Logic.{_⊎_};
 ghost use mathlib.Core.Path.{_≡_};
-ghost use Prim.Native.Nat.{_+_, _*_, _^_, _≤_, _<_};
+ghost use Prim.Native.Nat.{_+_, _*_, _/_, _^_, _≤_, _<_};
 ghost use lib.Ieee.{binary64, ofBits, units};
 ghost use Rattle.norm.specs.Parts.{shiftOf};
 ghost use Rattle.norm.specs.Words.{two};
@@ -43,6 +43,30 @@ pub(crate) fn longer(a: u64, b: u64) -> u64
     }
 }
 
+// The whole part of x / 4^k.
+pub(crate) fn fourths(x: u64, k: u64) -> u64
+    requires { ⌜ k < 28 ⌝ }
+    ensures { λ r. ⌜ r ≡ x / 2 ^ (2 * k) ⌝ }
+{
+    x >> (2 * k)
+}
+
+// How far the square of a part that is gap shifts above is raised, four times, to the units of the other's.
+pub(crate) fn square_shift(gap: u64) -> u64
+    requires { ⌜ gap < 27 ⌝ }
+    ensures { λ r. ⌜ r ≡ 2 * gap + 2 ⌝ }
+{
+    2 * gap + 2
+}
+
+// How many places of a word are left beside k.
+pub(crate) fn places_beside(k: u64) -> u64
+    requires { ⌜ k ≤ 64 ⌝ }
+    ensures { λ r. ⌜ r + k ≡ 64 ⌝ }
+{
+    64 - k
+}
+
 // How many binary digits w has.
 fn digits(w: Wide) -> u64
     ensures { λ r. ⌜ (two w < 2 ^ r) × (2 ^ r ≤ 2 * two w + 1) ⌝ }
@@ -61,6 +85,14 @@ pub(crate) fn dropped(root: Wide) -> u64
 {
     let z = digits(root);
     if z < 54 { 1 } else { z - 53 }
+}
+
+// How many of the k digits dropped of a root stand from the unit on: one is below it.
+pub(crate) fn from_unit(k: u64) -> u64
+    requires { ⌜ 1 ≤ k ⌝ }
+    ensures { λ r. ⌜ r + 1 ≡ k ⌝ }
+{
+    k - 1
 }
 
 // The bits of m steps of 2^(more + shift) units: "the count of leading zeros gives the exponent" (document 01). It is 11 where the

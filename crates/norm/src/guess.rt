@@ -1,5 +1,6 @@
 // A guess at the rounded root, and its check. Where the check fails the digits decide.
 use super::exponent::encoded;
+use super::exponent::fourths;
 use super::exponent::longer;
 use super::near_root::near_root;
 ghost use mathlib.Core.Path.{_≡_};
@@ -46,14 +47,6 @@ fn settled(t: u64, m: u64) -> u64
         return 0;
     }
     m - 1 + i
-}
-
-// The whole part of x / 4^k.
-fn fourths(x: u64, k: u64) -> u64
-    requires { ⌜ k < 28 ⌝ }
-    ensures { λ r. ⌜ r ≡ x / 2 ^ (2 * k) ⌝ }
-{
-    x >> (2 * k)
 }
 
 // The bits of the norm of the significands qa and qb that are gap shifts apart, the larger shifted by `shift`: 0 where the guess fails.

@@ -1,6 +1,8 @@
 // The root rounded to 53 digits or at whole units, ties to the even significand.
 use super::exponent::dropped;
 use super::exponent::encoded;
+use super::exponent::from_unit;
+use super::exponent::places_beside;
 use super::square_root::Root;
 ghost use mathlib.Core.Logic.{_⊎_};
 ghost use mathlib.Core.Path.{_≡_};
@@ -34,9 +36,9 @@ pub(crate) fn rounded(s: Root, shift: u64) -> u64
     let root = s.root;
     let rest = s.rest;
     let k = dropped(root);
-    let up = 64 - k;
+    let up = places_beside(k);
     let q = (root.hi << up) + (root.lo >> k);
     let exact = (rest.hi == 0) & (rest.lo == 0);
     let more = rounding_up(q, root.lo << up, exact);
-    encoded(q + more, k - 1, shift)
+    encoded(q + more, from_unit(k), shift)
 }

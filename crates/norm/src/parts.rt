@@ -2,6 +2,7 @@
 use super::exponent::FAR;
 use super::exponent::gap;
 use super::exponent::shift;
+use super::exponent::square_shift;
 use super::guess::guessed;
 use super::nearest::rounded;
 use super::square_root::root_of;
@@ -32,7 +33,7 @@ fn by_digits(qa: u64, qb: u64, gap: u64, unit: u64) -> u64
     requires { ⌜ (qa < 2 ^ 53) × (qb < 2 ^ 53) × (gap < 27) × (unit ≤ 2045) × ((unit ≡ 0) ⊎ (2 ^ 52 ≤ qa)) ⌝ }
     ensures { λ r. ⌜ Settles qa qb gap (gap + unit) r ⌝ }
 {
-    let n = plus(raised(square(qa), 2 * gap + 2), square(2 * qb));
+    let n = plus(raised(square(qa), square_shift(gap)), square(2 * qb));
     rounded(root_of(n), unit)
 }
 

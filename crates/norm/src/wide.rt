@@ -1,4 +1,5 @@
 // Numbers of two and of three words: what the root needs of them, each contract in natural numbers.
+use super::exponent::places_beside;
 ghost use mathlib.Core.Path.{_≡_};
 ghost use Prim.Native.Nat.{_+_, _-_, _*_, _^_, _≤_, _<_};
 ghost use lib.Dec.{leb};
@@ -87,7 +88,7 @@ pub(crate) fn raised(w: Wide, j: u64) -> Three
     requires { ⌜ (1 ≤ j) × (j < 64) ⌝ }
     ensures { λ r. ⌜ three r ≡ two w * 2 ^ j ⌝ }
 {
-    let down = 64 - j;
+    let down = places_beside(j);
     Three {
         high: w.hi >> down,
         mid: (w.hi << j) + (w.lo >> down),

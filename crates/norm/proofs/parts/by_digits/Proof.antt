@@ -14,16 +14,14 @@ use Rattle.norm.proofs.parts.by_digits.Tie as tie
 
 -- the larger square, raised
 larger : (c : tie.After-raised) →
-    let s = c .before .before .args in
+    let s = c .before .before .before .args in
     three (c .raised .result) ≡ s .qa * s .qa * 2 ^ (2 * s .gap + 2)
-larger c =
-    let s = c .before .before .args in
-    c .raised .ensures ∙ ap (λ (x : ℕ). x * 2 ^ (2 * s .gap + 2)) (c .before .square .ensures)
+larger c = c .raised .ensures ∙ ap₂ (λ (x j : ℕ). x * 2 ^ j) (c .before .before .square .ensures) (c .before .square-shift .ensures)
 
 plus-requires : tie.Need-plus-requires
 plus-requires c κs =
     let r = c .before in
-    let s = r .before .before in
+    let s = r .before .before .before in
     let n = r .raised .result in
     lt-of-lt-of-le
     (high-below (n .high) (n .mid) 32 (high-below (n .high * 2 ^ 64 + n .mid) (n .low) 96 (lt-of-le-of-lt (le-of-eq (larger r)) (raised-small (s .args .qa) (s .args .qb) (s .args .gap) (s .pre .0) (s .pre .1) (s .pre .2)))))
@@ -31,18 +29,18 @@ plus-requires c κs =
 
 -- the sum of the squares
 total : (c : tie.After-plus) →
-    let s = c .before .before .before .before .args in
+    let s = c .before .before .before .before .before .args in
     three (c .plus .result) ≡ s .qa * s .qa * 2 ^ (2 * s .gap + 2) + (2 * s .qb) * (2 * s .qb)
 total c = c .plus .ensures ∙ ap₂ (λ (x y : ℕ). x + y) (larger (c .before .before)) (c .before .square2 .ensures)
 
 root-of-requires : tie.Need-root-of-requires
 root-of-requires c κs =
-    let s = c .before .before .before .before in
+    let s = c .before .before .before .before .before in
     lt-of-le-of-lt (le-of-eq (total c)) (sum-small (s .args .qa) (s .args .qb) (s .args .gap) (s .pre .0) (s .pre .1) (s .pre .2))
 
 rounded-requires : tie.Need-rounded-requires
 rounded-requires c κs =
-    let s = c .before .before .before .before .before in
+    let s = c .before .before .before .before .before .before in
     let r = c .root-of .result in
     let v : read r ≡ _ = c .root-of .ensures .value ∙ total (c .before) in
     let l = c .root-of .ensures .little in (
@@ -59,7 +57,7 @@ same g u v e = omega arith
 returns : tie.Need-returns
 returns c =
     let p = c .before .before in
-    let s = p .before .before .before .before in
+    let s = p .before .before .before .before .before in
     let t = c .before .root-of .ensures .value ∙ total p in
     record {
       most = c .rounded .ensures .0;
@@ -71,8 +69,7 @@ by-digits-spec =
     tie.close
     (tie.spec
     (λ c κs. search needs)
-    (λ c. search needs)
-    (λ c. search needs)
+    (λ c κs. search needs)
     (λ c κs. search needs)
     (λ c. search needs)
     (λ c κs. search needs)
