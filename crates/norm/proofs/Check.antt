@@ -1,14 +1,15 @@
 -- Check: what the integers' check of a guess settles. Assumes nothing.
-use mathlib.Core.Path.{_≡_, sym, ap, ap₂, _∙_, subst}
+use mathlib.Core.Path.{_≡_, refl, sym, ap, ap₂, _∙_, subst}
+use mathlib.Core.Logic.{inl, inr}
 use mathlib.Core.Bool.{false}
-use Prim.Native.Nat.{ℕ, zero, suc, _+_, _-_, _*_, _/_, _%_, _^_, _≤_, _<_}
-use native.Mathlib.Nat.{add-le-add, mul-pos, le-div-iff-mul-le, div-lt-iff-lt-mul, div-div-eq-div-mul, le-trans, le-of-eq, le-of-lt, lt-of-lt-of-le, lt-of-le-of-lt, add-comm, add-mul, mul-add, mul-assoc, mul-comm, mul-left-comm, mul-le-mul, mul-le-mul-right, mul-lt-mul-of-pos-right, div-mul-le-self, div-add-mod', mod-lt, suc-mul, lt-irrefl}
+use Prim.Native.Nat.{ℕ, zero, suc, _+_, _-_, _*_, _/_, _%_, _^_, _≤_, _<_, zero-le}
+use native.Mathlib.Nat.{add-le-add, mul-pos, le-div-iff-mul-le, div-lt-iff-lt-mul, div-div-eq-div-mul, le-trans, le-of-eq, lt-of-lt-of-le, lt-of-le-of-lt, add-mul, mul-add, mul-assoc, mul-comm, mul-left-comm, mul-right-comm, mul-le-mul, mul-le-mul-left, mul-le-mul-right, lt-of-mul-lt-mul-right, not-le-of-lt, mul-lt-mul-of-pos-right, div-mul-le-self, div-add-mod', mod-lt, suc-mul, lt-irrefl}
 use native.Mathlib.Omega.{arith}
-use lib.Pow.{pow-add, pow-pos}
+use lib.Pow.{pow-add, pow-pos, pow-mono, shr-lt}
 use lib.Ieee.{binary64, ofBits, units}
 use Rattle.norm.specs.Squares.{square-product, square-double, power-of-four, even-power, four-pos}
 use Rattle.norm.specs.Cell.{certain}
-use Rattle.norm.specs.Checked.{Between, Covers, Settles}
+use Rattle.norm.specs.Checked.{Between, Covers, Ranked, Settles, squares}
 
 -- The sum of squares N that the root is of, and its whole part S in the units of the larger part.
 module _ (qa qb g : ℕ) where
@@ -16,7 +17,7 @@ module _ (qa qb g : ℕ) where
   N = qa * qa * 2 ^ (2 * g + 2) + (2 * qb) * (2 * qb)
 
   abbrev S : ℕ
-  S = 2 * qa * (2 * qa) + 4 * qb * (4 * qb) / 2 ^ (2 * g + 2)
+  S = squares qa qb g
 
   abbrev D : ℕ
   D = 2 ^ (2 * g + 2)
@@ -75,13 +76,70 @@ module _ (qa qb g : ℕ) where
   settles shift more m r b l s e = record {
     most = e .0;
     value = λ n u k v. e .1
-        ∙ sym (certain n m (more + shift) l s
+        ∙ sym (certain n m (more + shift) (lt-of-le-of-lt zero-le l) (inr l) s
         (subst (λ (x : ℕ). x * x < 4 * n) (together u k (2 * m - 1)) (root-above n u v ((2 * m - 1) * 2 ^ more) (b .0)))
         (subst (λ (x : ℕ). 4 * n < x * x) (together u k (2 * m + 1)) (root-below n u v ((2 * m + 1) * 2 ^ more) (b .1))));
   }
     where
       together : (u : ℕ) → g + u ≡ shift → (y : ℕ) → y * 2 ^ more * 2 ^ (g + u) ≡ y * 2 ^ (more + shift)
       together u k y = mul-assoc y (2 ^ more) (2 ^ (g + u)) ∙ ap (λ (x : ℕ). y * x) (sym (pow-add 2 more (g + u)) ∙ ap (λ (x : ℕ). 2 ^ (more + x)) k)
+
+-- the same of parts that are not shifted, raised by `up` to the check and rounded at the unit
+pub settles-at-unit : (a b up m r : ℕ) → Between (squares (a * 2 ^ up) (b * 2 ^ up) 0) m (2 ^ up) → 0 < m → m < 2 ^ 53 → (r ≤ 2047 * 2 ^ 52) × (ofBits binary64 r ≡ units binary64 false m 0) → Settles a b 0 0 r
+settles-at-unit a b up m r w p s e = record {
+  most = e .0;
+  value = λ n u k v. e .1
+      ∙ sym (certain n m 0 p (inl refl) s
+      (lt-of-mul-lt-mul-right (4 ^ up) (lt-of-le-of-lt (le-of-eq (lowered (2 * m - 1))) (lt-of-lt-of-le (root-above A B 0 (n * 4 ^ up) 0 (raised-sum n u k v) ((2 * m - 1) * 2 ^ up) (w .0)) (le-of-eq (sym (mul-assoc 4 n (4 ^ up)))))))
+      (lt-of-mul-lt-mul-right (4 ^ up) (lt-of-le-of-lt (le-of-eq (mul-assoc 4 n (4 ^ up))) (lt-of-lt-of-le (root-below A B 0 (n * 4 ^ up) 0 (raised-sum n u k v) ((2 * m + 1) * 2 ^ up) (w .1)) (le-of-eq (sym (lowered (2 * m + 1))))))));
+}
+  where
+    A : ℕ
+    A = a * 2 ^ up
+
+    B : ℕ
+    B = b * 2 ^ up
+
+    P : ℕ
+    P = 2 ^ up * 2 ^ up
+
+    one : (x : ℕ) → x * 1 ≡ x
+    one x = omega arith
+
+    lowered : (x : ℕ) → (x * 2 ^ 0) * (x * 2 ^ 0) * 4 ^ up ≡ (x * 2 ^ up * 2 ^ (0 + 0)) * (x * 2 ^ up * 2 ^ (0 + 0))
+    lowered x =
+        ap₂ (λ (y z : ℕ). y * y * z) (one x) (power-of-four up) ∙ sym (square-product x (2 ^ up)) ∙ ap (λ (y : ℕ). y * y) (sym (one (x * 2 ^ up)))
+
+    raised-sum : (n u : ℕ) → 0 + u ≡ 0 → (a * a * 2 ^ 2 + (2 * b) * (2 * b)) * 4 ^ u ≡ 4 * n → (A * A * 2 ^ 2 + (2 * B) * (2 * B)) * 4 ^ 0 ≡ 4 * (n * 4 ^ up)
+    raised-sum n u k v =
+        one (A * A * 4 + (2 * B) * (2 * B))
+        ∙ ap₂ (λ (x y : ℕ). x * 4 + y) (square-product a (2 ^ up)) (square-double B ∙ ap (λ (x : ℕ). 4 * x) (square-product b (2 ^ up)))
+        ∙ gather (a * a) (b * b) P
+        ∙ ap₂ (λ (x y : ℕ). x * y) (sym (ap (λ (x : ℕ). a * a * 4 + x) (square-double b)) ∙ sym (one (a * a * 4 + (2 * b) * (2 * b))) ∙ ap (λ (j : ℕ). (a * a * 4 + (2 * b) * (2 * b)) * 4 ^ j) (none u k) ∙ v) (sym (power-of-four up))
+        ∙ mul-assoc 4 n (4 ^ up)
+      where
+        none : (u : ℕ) → 0 + u ≡ 0 → 0 ≡ u
+        none u k = omega arith
+
+        gather : (x y P : ℕ) → x * P * 4 + 4 * (y * P) ≡ (x * 4 + 4 * y) * P
+        gather x y P = ap₂ (λ (s t : ℕ). s + t) (mul-right-comm x P 4) (sym (mul-assoc 4 y P)) ∙ sym (add-mul (x * 4) (4 * y) P)
+
+-- what settles parts that are not shifted has no gap and no shift
+pub unshifted : (qa qb gap shift r : ℕ) → shift ≡ 0 → Settles qa qb 0 0 r → Settles qa qb gap shift r
+unshifted qa qb gap shift r z w = record {
+  most = w .most;
+  value = λ n u k v. w .value n 0 refl (subst (λ (g : ℕ). (qa * qa * 2 ^ (2 * g + 2) + (2 * qb) * (2 * qb)) * 4 ^ 0 ≡ 4 * n) (first gap u k) (subst (λ (j : ℕ). (qa * qa * 2 ^ (2 * gap + 2) + (2 * qb) * (2 * qb)) * 4 ^ j ≡ 4 * n) (second gap u k) v));
+}
+  where
+    first : (g u : ℕ) → g + u ≡ shift → g ≡ 0
+    first g u k = omega arith
+
+    second : (g u : ℕ) → g + u ≡ shift → u ≡ 0
+    second g u k = omega arith
+
+pub neither-shifted : (qa qb shift : ℕ) → Ranked qa qb shift → qa < 2 ^ 52 → (shift ≡ 0) × (0 < qa) × (qb ≤ qa)
+neither-shifted qa qb shift (inl f) h = absurd (not-le-of-lt h f)
+neither-shifted qa qb shift (inr w) h = w
 
 -- ---- the sum in steps of 2^44
 
@@ -106,7 +164,7 @@ twice-shifted x j k = div-div-eq-div-mul x (2 ^ (2 * j)) (2 ^ (2 * k)) ∙ ap (�
     both j k = omega arith
 
 -- what the steps leave out of each square is less than a step
-pub covers : (qa qb g more : ℕ) → Covers (2 * qa * (2 * qa) / 2 ^ 44 / 2 ^ (2 * more) + 2 * qb * (2 * qb) / 2 ^ 44 / 2 ^ (2 * (g + more))) (2 * qa * (2 * qa) + 4 * qb * (4 * qb) / 2 ^ (2 * g + 2)) more
+pub covers : (qa qb g more : ℕ) → Covers (2 * qa * (2 * qa) / 2 ^ 44 / 2 ^ (2 * more) + 2 * qb * (2 * qb) / 2 ^ 44 / 2 ^ (2 * (g + more))) (squares qa qb g) more
 covers qa qb g more = (
   le-trans (le-of-eq (add-mul x y D)) (add-le-add low-x low-y),
   lt-of-lt-of-le (both high-x high-y) (le-of-eq (sym (add-mul (x + 1) (y + 1) D) ∙ ap (λ (z : ℕ). z * D) (steps x y))),
@@ -219,16 +277,26 @@ within x i t l a b = (lt-of-le-of-lt (le-of-eq (middle-square x i)) (low i (x * 
         no : (i : ℕ) → suc (suc (suc i)) ≤ 2 → ⊥
         no i h = omega arith
 
+-- middles whose squares lie on both sides of t steps and two more lie on both sides of what these cover
+covered : (low high t : ℕ) → low * low < t * 2 ^ 44 → (t + 2) * 2 ^ 44 ≤ high * high → (sum more : ℕ) → Covers t sum more → (low * 2 ^ more * (low * 2 ^ more) < sum) × (sum < high * 2 ^ more * (high * 2 ^ more))
+covered low high t a b sum more c = (
+  lt-of-le-of-lt (le-of-eq (scaled low)) (lt-of-lt-of-le (mul-lt-mul-of-pos-right a (four-pos more)) (le-trans (le-of-eq (mul-assoc t (2 ^ 44) (4 ^ more))) (c .0))),
+  lt-of-lt-of-le (c .1) (le-trans (le-of-eq (sym (mul-assoc (t + 2) (2 ^ 44) (4 ^ more)))) (le-trans (mul-le-mul-right (4 ^ more) b) (le-of-eq (sym (scaled high))))),
+)
+  where
+    scaled : (x : ℕ) → x * 2 ^ more * (x * 2 ^ more) ≡ x * x * 4 ^ more
+    scaled x = square-product x (2 ^ more) ∙ ap (λ (y : ℕ). x * x * y) (sym (power-of-four more))
+
 -- so the root lies between the middles beside the i-th significand
 pub passes : (m i t : ℕ) → 2 ≤ m → i ≤ 2 → let x = 2 * m - 3 in x * x / 2 ^ 44 + i * (x / 2 ^ 42) + 4 ≤ t → t + 2 ≤ x * x / 2 ^ 44 + i * (x / 2 ^ 42) + x / 2 ^ 42
     → (sum more : ℕ) → Covers t sum more → Between sum (m - 1 + i) (2 ^ more)
-passes m i t l k a b sum more c = (
-  lt-of-le-of-lt (le-of-eq (scaled-square (2 * (m - 1 + i) - 1) (low m i l))) (lt-of-lt-of-le (mul-lt-mul-of-pos-right (w .0) (four-pos more)) (le-trans (le-of-eq (mul-assoc t (2 ^ 44) (4 ^ more))) (c .0))),
-  lt-of-lt-of-le (c .1) (le-trans (le-of-eq (sym (mul-assoc (t + 2) (2 ^ 44) (4 ^ more)))) (le-trans (mul-le-mul-right (4 ^ more) (w .1)) (le-of-eq (sym (scaled-square (2 * (m - 1 + i) + 1) (high m i l)))))),
-)
+passes m i t l k a b sum more c = subst (λ (y : ℕ). Beside y (2 * (m - 1 + i) + 1)) (sym (low m i l)) (subst (Beside (x + 2 * i)) (sym (high m i l)) (covered (x + 2 * i) (x + 2 * (i + 1)) t (w .0) (w .1) sum more c))
   where
     x : ℕ
     x = 2 * m - 3
+
+    Beside : ℕ → ℕ → Type 0
+    Beside y z = (y * 2 ^ more * (y * 2 ^ more) < sum) × (sum < z * 2 ^ more * (z * 2 ^ more))
 
     w : ((x + 2 * i) * (x + 2 * i) < t * 2 ^ 44) × ((t + 2) * 2 ^ 44 ≤ (x + 2 * (i + 1)) * (x + 2 * (i + 1)))
     w = within x i t k a b
@@ -239,8 +307,87 @@ passes m i t l k a b sum more c = (
     high : (m i : ℕ) → 2 ≤ m → 2 * (m - 1 + i) + 1 ≡ 2 * m - 3 + 2 * (i + 1)
     high m i l = omega arith
 
-    scaled-square : (v : ℕ) {y : ℕ} → v ≡ y → v * 2 ^ more * (v * 2 ^ more) ≡ y * y * 4 ^ more
-    scaled-square v {y} e = square-product v (2 ^ more) ∙ ap₂ (λ (p q : ℕ). p * p * q) e (sym (power-of-four more))
+-- ---- the words of the check at the unit, which is w or 2^d: the middles beside m / 2^d, and beside the next
+
+module _ (m d w : ℕ) (unit : w ≡ 2 ^ d) (l : 2 ^ 52 ≤ m) (h : m < 2 ^ 53) (s : d ≤ 52) where
+  abbrev kept : ℕ
+  kept = m / 2 ^ d
+
+  once : (x : ℕ) → 1 * x ≡ x
+  once x = omega arith
+
+  pub some-kept : 1 ≤ kept
+  some-kept = le-div-iff-mul-le (pow-pos d) .1 (le-trans (le-of-eq (once (2 ^ d))) (le-trans (pow-mono s) l))
+
+  spread : (i : ℕ) → (2 * (kept + i) + 1) * w ≡ 2 * (kept * w + i * w) + w
+  spread i = add-mul (2 * (kept + i)) 1 w ∙ ap₂ (λ (x y : ℕ). x + y) (mul-assoc 2 (kept + i) w ∙ ap (λ (x : ℕ). 2 * x) (add-mul kept i w)) (once w)
+
+  pub middle-fits : (i : ℕ) → i ≤ 1 → (2 * (kept + i) + 1) * w < 2 ^ 56
+  middle-fits i k =
+      bound (kept * w) (i * w) w ((2 * (kept + i) + 1) * w) (spread i) (le-trans (le-of-eq (ap (λ (x : ℕ). kept * x) unit)) (div-mul-le-self m (2 ^ d)))
+      (le-trans (mul-le-mul-right w k) (le-of-eq (once w))) (le-trans (le-of-eq unit) (pow-mono s))
+    where
+      bound : (x y p z : ℕ) → z ≡ 2 * (x + y) + p → x ≤ m → y ≤ p → p ≤ 2 ^ 52 → z < 2 ^ 56
+      bound x y p z e a b c = omega arith
+
+  -- the middle above m / 2^d is at most half a unit above m
+  pub middle-small : (2 * kept + 1) * w < 2 ^ 54
+  middle-small = bound (kept * w) (suc kept * w) w ((2 * kept + 1) * w) (add-mul (2 * kept) 1 w ∙ ap₂ (λ (x y : ℕ). x + y) (mul-assoc 2 kept w) (once w)) (suc-mul kept w) (subst (λ (x : ℕ). 0 < x) (sym unit) (pow-pos d))
+      (le-trans (mul-le-mul-right w (shr-lt (53 - d) d (lt-of-lt-of-le h (le-of-eq (ap (λ (x : ℕ). 2 ^ x) (sym (places d s))))))) (le-of-eq (ap (λ (x : ℕ). 2 ^ (53 - d) * x) unit ∙ sym (pow-add 2 (53 - d) d) ∙ ap (λ (x : ℕ). 2 ^ x) (places d s))))
+    where
+      places : (d : ℕ) → d ≤ 52 → 53 - d + d ≡ 53
+      places d h = omega arith
+
+      bound : (x y p z : ℕ) → z ≡ 2 * x + p → y ≡ x + p → 0 < p → y ≤ 2 ^ 53 → z < 2 ^ 54
+      bound x y p z e f g k = omega arith
+
+pub two-units : (q w : ℕ) → 1 ≤ q → 2 * w ≤ (2 * q + 1) * w
+two-units q w h = mul-le-mul-right w (two q h)
+  where
+    two : (q : ℕ) → 1 ≤ q → 2 ≤ 2 * q + 1
+    two q h = omega arith
+
+pub short-at-unit : (q d w : ℕ) → w ≡ 2 ^ d → (2 * q + 1) * w < 2 ^ 54 → q < 2 ^ 53
+short-at-unit q d w e h = half q ((2 * q + 1) * w) (le-trans (le-of-eq (once (2 * q + 1))) (mul-le-mul-left (2 * q + 1) (subst (λ (x : ℕ). 0 < x) (sym e) (pow-pos d)))) h
+  where
+    once : (x : ℕ) → x ≡ x * 1
+    once x = omega arith
+
+    half : (q x : ℕ) → 2 * q + 1 ≤ x → x < 2 ^ 54 → q < 2 ^ 53
+    half q x a b = omega arith
+
+-- the middle below is two units lower
+pub two-lower : (q w : ℕ) → 1 ≤ q → (2 * q + 1) * w - 2 * w ≡ (2 * q - 1) * w
+two-lower zero w h = absurd (lt-irrefl 0 h)
+two-lower (suc p) w h = ap₂ (λ (x y : ℕ). x - y) (ap (λ (x : ℕ). x * w) (upper p) ∙ add-mul (2 * p + 1) 2 w) refl ∙ less ((2 * p + 1) * w) (2 * w) ∙ ap (λ (x : ℕ). x * w) (sym (lower p))
+  where
+    upper : (p : ℕ) → 2 * suc p + 1 ≡ 2 * p + 1 + 2
+    upper p = omega arith
+
+    lower : (p : ℕ) → 2 * suc p - 1 ≡ 2 * p + 1
+    lower p = omega arith
+
+    less : (x y : ℕ) → x + y - y ≡ x
+    less x y = omega arith
+
+-- middles at the unit whose squares' whole parts, below and above, lie on both sides of t
+pub passes-at-unit : (q d w t below above : ℕ) → 1 ≤ q → w ≡ 2 ^ d → let high = (2 * q + 1) * w in let low = high - 2 * w in
+    below ≡ low * low / 2 ^ 44 → above ≡ high * high / 2 ^ 44 → below < t → t < above → 2 ≤ above - t → (sum more : ℕ) → Covers t sum more → Between sum q (2 ^ (d + more))
+passes-at-unit q d w t below above p u e f a b g sum more c =
+    let y = covered low high t (div-lt-iff-lt-mul (pow-pos 44) .0 (lt-of-le-of-lt (le-of-eq (sym e)) a)) (le-div-iff-mul-le (pow-pos 44) .0 (le-trans (two-more t above b g) (le-of-eq f))) sum more c in
+    (subst (λ (x : ℕ). x * x < sum) (together (2 * q - 1) (two-lower q w p)) (y .0), subst (λ (x : ℕ). sum < x * x) (together (2 * q + 1) refl) (y .1))
+  where
+    high : ℕ
+    high = (2 * q + 1) * w
+
+    low : ℕ
+    low = high - 2 * w
+
+    two-more : (t x : ℕ) → t < x → 2 ≤ x - t → t + 2 ≤ x
+    two-more t x h k = omega arith
+
+    together : (y : ℕ) {x : ℕ} → x ≡ y * w → x * 2 ^ more ≡ y * 2 ^ (d + more)
+    together y e = ap (λ (z : ℕ). z * 2 ^ more) (e ∙ ap (λ (z : ℕ). y * z) u) ∙ mul-assoc y (2 ^ d) (2 ^ more) ∙ ap (λ (z : ℕ). y * z) (sym (pow-add 2 d more))
 
 -- nothing is claimed where 0 is returned
 pub none : {A : Type 0} → 0 < 0 → A

@@ -8,7 +8,7 @@ use native.Mathlib.Nat.{le-refl, le-trans, le-of-eq, le-of-lt, lt-of-lt-of-le, l
 use native.Mathlib.Omega.{arith}
 use lib.Dec.{T, ltb, eqb, lt→ltb, eqb→eq, not-T, lit<, lit≤}
 use lib.Arith.{digits-lt, le→nltb}
-use lib.Pow.{pow-add, pow-pos, pow-mono}
+use lib.Pow.{pow-add, pow-pos, pow-mono, shl-lt}
 use lib.Count.{leadingZeros, leading-length, leading-top}
 use lib.Ieee.{binary64, nearest, units}
 use lib.Ieee.Fits.{eq→eqb}
@@ -110,6 +110,32 @@ long-significand m step l h = go (eq-or-lt-of-le most)
     go (inr g) =
         let e : t .0 ≡ 53 = all z (t .0) (t .1) h g in
         subst Encodes (sym (shifts z (t .0) (t .1) h ∙ ap (λ (n : ℕ). n - 53) e)) (full (subst (λ (n : ℕ). 2 ^ n ≤ 2 * m + 1) e (t .3)) (subst (λ (n : ℕ). m < 2 ^ n) e (t .2)))
+
+-- a significand that is shorter has more, and raised by those above 11 it has all its digits
+pub raised-significand : (q : ℕ) → 0 < q → q < 2 ^ 52 → let r = leadingZeros 64 q - 11 in (11 ≤ leadingZeros 64 q) × (1 ≤ r) × (r ≤ 52) × (q * 2 ^ r < 2 ^ 53)
+raised-significand q p h = go (leading-top 64 q p (lt-of-lt-of-le h (lit≤ tt)))
+  where
+    z : ℕ
+    z = leadingZeros 64 q
+
+    go : (j : ℕ) × (z + suc j ≡ 64) × (2 ^ j ≤ q) × (q < 2 ^ suc j) → (11 ≤ z) × (1 ≤ z - 11) × (z - 11 ≤ 52) × (q * 2 ^ (z - 11) < 2 ^ 53)
+    go t =
+        let j = t .0 in
+        let e = t .1 in
+        let most : j < 52 = lt-of-not-le (λ (g : 52 ≤ j). lt-irrefl q (lt-of-lt-of-le h (le-trans (pow-mono g) (t .2)))) in
+        (few z j e most, some z j e most, all z j e, lt-of-lt-of-le (shl-lt (suc j) (z - 11) (t .3)) (pow-mono (le-of-eq (places z j e most))))
+      where
+        few : (z j : ℕ) → z + suc j ≡ 64 → j < 52 → 11 ≤ z
+        few z j e h = omega arith
+
+        some : (z j : ℕ) → z + suc j ≡ 64 → j < 52 → 1 ≤ z - 11
+        some z j e h = omega arith
+
+        all : (z j : ℕ) → z + suc j ≡ 64 → z - 11 ≤ 52
+        all z j e = omega arith
+
+        places : (z j : ℕ) → z + suc j ≡ 64 → j < 52 → suc j + (z - 11) ≡ 53
+        places z j e h = omega arith
 
 -- ---- the digits dropped of a root with z digits
 

@@ -9,6 +9,7 @@ use lib.Pow.{pow-pos}
 use lib.Ieee.{binary64, ofBits}
 use Rattle.norm.specs.Norm.{roundedRoot}
 use Rattle.norm.specs.Parts.{significandOf, shiftOf, unitsOf}
+use Rattle.norm.specs.Checked.{Ranked}
 use Rattle.norm.specs.Cell.{kept-alone}
 use Rattle.norm.specs.Encoding.{finite-bits}
 use Rattle.norm.specs.Sizes.{placed, shift-mono, significand-small}
@@ -75,3 +76,17 @@ module _ {a b qa qb u g : ℕ} (n : Near a b qa qb u g) where
       go : (shiftOf a ≡ 0) ⊎ (2 ^ 52 ≤ significandOf a) → (u ≡ 0) ⊎ (2 ^ 52 ≤ qa)
       go (inl e) = inl (n .unit ∙ none (shift-mono a b le) e)
       go (inr h) = inr (subst (λ (q : ℕ). 2 ^ 52 ≤ q) (sym (n .first)) h)
+
+  -- parts that are as large as their significands, where the larger is without its leading digit
+  pub ranked : 0 < b → b ≤ a → Ranked qa qb (shiftOf a)
+  ranked z le = go (placed a .digits .full)
+    where
+      go : (shiftOf a ≡ 0) ⊎ (2 ^ 52 ≤ significandOf a) → Ranked qa qb (shiftOf a)
+      go (inl e) =
+          let x = placed a .bits in
+          let y = placed b .bits in
+          let k = shift-mono a b le in
+          let f = n .first in
+          let s = n .second in
+          inr (e, omega (arith, x, f, e), omega (arith, x, y, k, f, s, e))
+      go (inr h) = inl (subst (λ (q : ℕ). 2 ^ 52 ≤ q) (sym (n .first)) h)

@@ -3,7 +3,7 @@ use mathlib.Core.Path.{_≡_, sym, ap, ap₂, _∙_, subst}
 use mathlib.Core.Logic.{_⊎_, inl, inr}
 use mathlib.Core.Bool.{false}
 use Prim.Native.Nat.{ℕ, zero, suc, _+_, _-_, _*_, _/_, _^_, _≤_, _<_, compare, Ordering}
-use native.Mathlib.Nat.{le-trans, le-of-eq, le-of-lt, le-of-suc-le-suc, lt-of-lt-of-le, lt-of-le-of-lt, lt-of-not-le, not-le-of-lt, le-antisymm, add-mul, mul-assoc, mul-le-mul-right, le-div-iff-mul-le, div-lt-iff-lt-mul}
+use native.Mathlib.Nat.{le-trans, le-of-eq, le-of-lt, le-of-suc-le-suc, lt-of-lt-of-le, lt-of-le-of-lt, lt-of-not-le, not-le-of-lt, lt-irrefl, le-antisymm, add-mul, mul-assoc, mul-le-mul-right, le-div-iff-mul-le, div-lt-iff-lt-mul}
 use native.Mathlib.Decide.{decLe}
 use native.Mathlib.Omega.{arith}
 use lib.Pow.{pow-add, pow-pos, pow-mono}
@@ -100,13 +100,10 @@ kept-alone q k b s h =
     nearer : 4 * n < ((2 * q + 1) * 2 ^ k) ^ 2
     nearer = omega (arith, sum, middle, apart)
 
--- a root strictly between the middles beside q·2^k rounds to it
-pub certain : (n m k : ℕ) → 2 ^ 52 < m → m < 2 ^ 53 → ((2 * m - 1) * 2 ^ k) * ((2 * m - 1) * 2 ^ k) < 4 * n → 4 * n < ((2 * m + 1) * 2 ^ k) * ((2 * m + 1) * 2 ^ k) → roundedRoot n ≡ units binary64 false m k
-certain n zero k l h a b = absurd (none l)
-  where
-    none : 2 ^ 52 < 0 → ⊥
-    none h = omega arith
-certain n (suc p) k l h a b = go (decLe ((suc p * 2 ^ k) * (suc p * 2 ^ k)) n)
+-- a root strictly between the middles beside m·2^k rounds to it: m is no power of two, or the step is the unit
+pub certain : (n m k : ℕ) → 0 < m → (k ≡ 0) ⊎ (2 ^ 52 < m) → m < 2 ^ 53 → ((2 * m - 1) * 2 ^ k) * ((2 * m - 1) * 2 ^ k) < 4 * n → 4 * n < ((2 * m + 1) * 2 ^ k) * ((2 * m + 1) * 2 ^ k) → roundedRoot n ≡ units binary64 false m k
+certain n zero k z l h a b = absurd (lt-irrefl 0 z)
+certain n (suc p) k z l h a b = go (decLe ((suc p * 2 ^ k) * (suc p * 2 ^ k)) n)
   where
     twice : (m : ℕ) → (2 * m * 2 ^ k) * (2 * m * 2 ^ k) ≡ 4 * ((m * 2 ^ k) * (m * 2 ^ k))
     twice m = ap (λ (x : ℕ). x * x) (mul-assoc 2 m (2 ^ k)) ∙ square-double (m * 2 ^ k)
@@ -124,10 +121,14 @@ certain n (suc p) k l h a b = go (decLe ((suc p * 2 ^ k) * (suc p * 2 ^ k)) n)
     step : {x y : ℕ} → x ≤ y → (x * 2 ^ k) * (x * 2 ^ k) ≤ (y * 2 ^ k) * (y * 2 ^ k)
     step h = square-le (mul-le-mul-right (2 ^ k) h)
 
+    full : {q : ℕ} → (2 ^ 52 < suc p → 2 ^ 52 ≤ q) → (k ≡ 0) ⊎ (2 ^ 52 < suc p) → (k ≡ 0) ⊎ (2 ^ 52 ≤ q)
+    full f (inl e) = inl e
+    full f (inr g) = inr (f g)
+
     go : Dec ((suc p * 2 ^ k) * (suc p * 2 ^ k) ≤ n) → roundedRoot n ≡ units binary64 false (suc p) k
     go (yes g) =
         rounded-within n (suc p) k (record {
-          digits = record { small = h; full = inr (le-of-lt l) };
+          digits = record { small = h; full = full le-of-lt l };
           above = g;
           below = quarter n _ (lt-of-lt-of-le b (le-trans (step next) (le-of-eq (twice (suc (suc p))))));
         })
@@ -137,7 +138,7 @@ certain n (suc p) k l h a b = go (decLe ((suc p * 2 ^ k) * (suc p * 2 ^ k)) n)
         next = omega arith
     go (no g) =
         rounded-within n p k (record {
-          digits = record { small = small; full = inr (le-of-suc-le-suc l) };
+          digits = record { small = small; full = full le-of-suc-le-suc l };
           above = le-of-lt (quarter _ n (lt-of-le-of-lt (le-trans (le-of-eq (sym (twice p))) (step next)) under));
           below = lt-of-not-le g;
         })

@@ -1,6 +1,7 @@
 -- What the integers' check of a guess says, and what it settles: the rounded root, and the norm's bits.
+use mathlib.Core.Logic.{_⊎_}
 use mathlib.Core.Path.{_≡_}
-use Prim.Native.Nat.{ℕ, _+_, _-_, _*_, _^_, _≤_, _<_}
+use Prim.Native.Nat.{ℕ, _+_, _-_, _*_, _/_, _^_, _≤_, _<_}
 use lib.Ieee.{binary64, ofBits}
 use Rattle.norm.specs.Norm.{roundedRoot}
 
@@ -8,9 +9,17 @@ use Rattle.norm.specs.Norm.{roundedRoot}
 abbrev pub Between : ℕ → ℕ → ℕ → Type 0
 Between sum m h = ((2 * m - 1) * h * ((2 * m - 1) * h) < sum) × (sum < (2 * m + 1) * h * ((2 * m + 1) * h))
 
+-- the whole part of the sum of the squares of 2·qa and 2·qb / 2^gap
+abbrev pub squares : ℕ → ℕ → ℕ → ℕ
+squares qa qb gap = 2 * qa * (2 * qa) + 4 * qb * (4 * qb) / 2 ^ (2 * gap + 2)
+
 -- counted in steps of 2^44·4^more, sum has t and less than two more
 abbrev pub Covers : ℕ → ℕ → ℕ → Type 0
 Covers t sum more = (t * (2 ^ 44 * 4 ^ more) ≤ sum) × (sum < (t + 2) * (2 ^ 44 * 4 ^ more))
+
+-- the larger significand has its leading digit, or neither part is shifted and they are as large as their significands
+abbrev pub Ranked : ℕ → ℕ → ℕ → Type 0
+Ranked qa qb shift = (2 ^ 52 ≤ qa) ⊎ ((shift ≡ 0) × (0 < qa) × (qb ≤ qa))
 
 -- the bits r are the norm's, for significands qa and qb that are gap shifts apart, the larger shifted by `shift`
 pub record Settles (qa qb gap shift r : ℕ) : Type 0 where

@@ -31,6 +31,30 @@ pub(crate) fn gap(a: u64, b: u64) -> u64
     shift(a) - shift(b)
 }
 
+// How far the significand q, which is without its leading digit, is below one that has it: by its leading zeros.
+pub(crate) fn missing(q: u64) -> u64
+    requires { ⌜ (0 < q) × (q < 2 ^ 52) ⌝ }
+    ensures { λ r. ⌜ (1 ≤ r) × (r ≤ 52) × (q * 2 ^ r < 2 ^ 53) ⌝ }
+{
+    u64::leading_zeros(q) as u64 - 11
+}
+
+// How many digits stand below the unit once the parts are raised by `up` and their sum is cut by `more`.
+pub(crate) fn below_unit(up: u64, more: u64) -> u64
+    requires { ⌜ (1 ≤ up) × (more ≤ 1) ⌝ }
+    ensures { λ r. ⌜ r + more ≡ up ⌝ }
+{
+    up - more
+}
+
+// 2^d
+pub(crate) fn power(d: u64) -> u64
+    requires { ⌜ d ≤ 52 ⌝ }
+    ensures { λ r. ⌜ r ≡ 2 ^ d ⌝ }
+{
+    1 << d
+}
+
 // 1 where the sum of the squares a and b has 65 digits, one more than a word: half of it has no leading zeros. The 1 stands for what the
 // halves leave out.
 pub(crate) fn longer(a: u64, b: u64) -> u64

@@ -1,11 +1,14 @@
 // A guess at the rounded root, and its check. Where the check fails the digits decide.
+use super::exponent::below_unit;
 use super::exponent::encoded;
 use super::exponent::fourths;
 use super::exponent::longer;
+use super::exponent::missing;
+use super::exponent::power;
 use super::near_root::near_root;
 ghost use mathlib.Core.Path.{_≡_};
 ghost use Prim.Native.Nat.{ℕ, _+_, _*_, _/_, _^_, _≤_, _<_};
-ghost use Rattle.norm.specs.Checked.{Between, Covers, Settles};
+ghost use Rattle.norm.specs.Checked.{Between, Covers, Ranked, Settles, squares};
 
 fn one_if(b: bool) -> u64
     ensures { λ r. ⌜ r ≤ 1 ⌝ }
@@ -49,11 +52,43 @@ fn settled(t: u64, m: u64) -> u64
     m - 1 + i
 }
 
-// The bits of the norm of the significands qa and qb that are gap shifts apart, the larger shifted by `shift`: 0 where the guess fails.
-// It fails where qa is without its leading digit.
-pub(crate) fn guessed(qa: u64, qb: u64, gap: u64, shift: u64) -> u64
-    requires { ⌜ (qa < 2 ^ 53) × (qb < 2 ^ 53) × (gap < 27) × (shift ≤ 2045) ⌝ }
-    ensures { λ r. ⌜ (0 < r → Settles qa qb gap shift r) ⌝ }
+// The same for a root that is rounded at the unit, the last d digits of m being below it: the one of m / 2^d and the next that is nearest,
+// or 0, also where that has a digit more.
+fn settled_at_unit(t: u64, m: u64, d: u64) -> u64
+    requires { ⌜ (2 ^ 52 ≤ m) × (m < 2 ^ 53) × (d ≤ 52) ⌝ }
+    ensures { λ r. ⌜ (r < 2 ^ 53) × (0 < r → (sum more : ℕ) → Covers t sum more → Between sum r (2 ^ (d + more))) ⌝ }
+{
+    let unit = power(d);
+    let kept = m >> d;
+    let q = kept + one_if(high_square((2 * kept + 1) * unit) < t);
+    let high = (2 * q + 1) * unit;
+    if high >= 0x40_0000_0000_0000 {
+        return 0;
+    }
+    let below = high_square(high - 2 * unit);
+    let above = high_square(high);
+    if t <= below {
+        return 0;
+    }
+    if above <= t {
+        return 0;
+    }
+    if above - t < 2 {
+        return 0;
+    }
+    q
+}
+
+// The sum of two squares, in steps of 2^44·4^more.
+struct Sum {
+    t: u64,
+    more: u64,
+}
+
+// The sum of the squares of 2·qa and 2·qb / 2^gap, in as many steps as fit a word, or 0.
+fn summed(qa: u64, qb: u64, gap: u64) -> Sum
+    requires { ⌜ (qa < 2 ^ 53) × (qb < 2 ^ 53) × (gap < 27) ⌝ }
+    ensures { λ r. ⌜ (r .more ≤ 1) × (0 < r .t → Covers (r .t) (squares qa qb gap) (r .more)) ⌝ }
 {
     let large = high_square(2 * qa);
     let small = high_square(2 * qb);
@@ -62,9 +97,22 @@ pub(crate) fn guessed(qa: u64, qb: u64, gap: u64, shift: u64) -> u64
     let a = fourths(large, more);
     let b = fourths(aligned, more);
     if a > u64::MAX - b {
-        return 0;
+        return Sum { t: 0, more: more };
     }
-    let t = a + b;
+    Sum {
+        t: a + b,
+        more: more,
+    }
+}
+
+// The bits of the norm of the significands qa and qb that are gap shifts apart, the larger shifted by `shift`, rounded to 53 digits: 0 where
+// the guess fails.
+fn at_53_digits(qa: u64, qb: u64, gap: u64, shift: u64) -> u64
+    requires { ⌜ (qa < 2 ^ 53) × (qb < 2 ^ 53) × (gap < 27) × (shift ≤ 2045) ⌝ }
+    ensures { λ r. ⌜ (0 < r → Settles qa qb gap shift r) ⌝ }
+{
+    let s = summed(qa, qb, gap);
+    let t = s.t;
     if t < 0x4000_0000_0000_0000 {
         return 0;
     }
@@ -75,5 +123,35 @@ pub(crate) fn guessed(qa: u64, qb: u64, gap: u64, shift: u64) -> u64
     if q >= 0x20_0000_0000_0000 {
         return 0;
     }
-    encoded(q, more, shift)
+    encoded(q, s.more, shift)
+}
+
+// The same for parts of a and b units, both without their leading digit, rounded at the unit.
+fn at_unit(a: u64, b: u64) -> u64
+    requires { ⌜ (0 < a) × (a < 2 ^ 52) × (b ≤ a) ⌝ }
+    ensures { λ r. ⌜ (0 < r → Settles a b 0 0 r) ⌝ }
+{
+    let up = missing(a);
+    let s = summed(a << up, b << up, 0);
+    let t = s.t;
+    if t < 0x4000_0000_0000_0000 {
+        return 0;
+    }
+    let m = settled_at_unit(t, near_root(t), below_unit(up, s.more));
+    if m == 0 {
+        return 0;
+    }
+    encoded(m, 0, 0)
+}
+
+// The bits of the norm of the significands qa and qb that are gap shifts apart, the larger shifted by `shift`: 0 where the guess fails.
+pub(crate) fn guessed(qa: u64, qb: u64, gap: u64, shift: u64) -> u64
+    requires { ⌜ (qa < 2 ^ 53) × (qb < 2 ^ 53) × (gap < 27) × (shift ≤ 2045) × Ranked qa qb shift ⌝ }
+    ensures { λ r. ⌜ (0 < r → Settles qa qb gap shift r) ⌝ }
+{
+    if qa < 0x10_0000_0000_0000 {
+        at_unit(qa, qb)
+    } else {
+        at_53_digits(qa, qb, gap, shift)
+    }
 }

@@ -8,9 +8,9 @@ use borrow.Author.Needs.{needs}
 use lib.Ieee.{binary64, ofBits}
 use Rattle.norm.specs.Norm.{roundedRoot}
 use Rattle.norm.specs.Parts.{shiftOf, unitsOf}
-use Rattle.norm.specs.Checked.{Settles}
+use Rattle.norm.specs.Checked.{Ranked, Settles}
 use Rattle.norm.specs.Sizes.{shift-mono, shift-le}
-use Rattle.norm.proofs.Whole.{zero-part, far-part, short, Near, sum-scaled, unit-or-full}
+use Rattle.norm.proofs.Whole.{zero-part, far-part, short, Near, sum-scaled, unit-or-full, ranked}
 use Rattle.norm.proofs.parts.norm_bits.Statement.{statement}
 use Rattle.norm.proofs.parts.norm_bits.Tie as tie
 
@@ -66,7 +66,14 @@ guessed-requires : tie.Need-guessed-requires
 guessed-requires c κs =
     let p = c .before in
     let s = p .before .before .before .before .before in
-    (shorts p .0, shorts p .1, close-by p, le-trans (le-of-eq (c .shift .ensures)) (shift-le (s .args .a) (s .pre .1)))
+    let n = p .before .before .before .before .if1 .left in
+    let z : 0 < s .args .b = omega (arith, n) in (
+      shorts p .0,
+      shorts p .1,
+      close-by p,
+      le-trans (le-of-eq (c .shift .ensures)) (shift-le (s .args .a) (s .pre .1)),
+      subst (λ (k : ℕ). Ranked (p .before .significand .result) (p .significand2 .result) k) (sym (c .shift .ensures)) (ranked (near p) z (s .pre .0)),
+    )
 
 returns-3 : tie.Need-returns-3
 returns-3 c =
