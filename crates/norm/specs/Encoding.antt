@@ -1,19 +1,19 @@
 -- Encoding: q·2^k units as bits. The step's exponent in the exponent's field, and q added: its leading digit, and one that rounding
 -- carries, raise the field. From 2^1024 on it is infinity's pattern. Assumes nothing.
-use mathlib.Core.Path.{_≡_, refl, sym, ap, _∙_}
+use mathlib.Core.Path.{_≡_, refl, sym, ap, _∙_, subst}
 use mathlib.Core.Logic.{_⊎_, inl, inr}
 use mathlib.Core.Bool.{Bool, true, false, not, cond, true≢false}
 use Prim.Native.Nat.{ℕ, suc, _+_, _-_, _*_, _/_, _^_, _≤_, _<_}
-use native.Mathlib.Nat.{le-of-eq, lt-of-lt-of-le, lt-of-le-of-lt, eq-or-lt-of-le, le-of-suc-le-suc, mul-comm, mul-assoc, mul-div-cancel, mul-le-mul, mul-lt-mul-of-pos-right, mul-le-mul-left, lt-suc-self, le-refl, pow-suc}
+use native.Mathlib.Nat.{le-of-eq, lt-of-lt-of-le, lt-of-le-of-lt, lt-of-not-le, not-le-of-lt, eq-or-lt-of-le, le-of-suc-le-suc, mul-comm, mul-assoc, mul-div-cancel, mul-le-mul, mul-lt-mul-of-pos-right, mul-le-mul-left, lt-suc-self, le-refl, pow-suc}
 use native.Mathlib.Omega.{arith}
 use lib.IntN.{ℤ}
-use lib.Dec.{T, ltb, lt→ltb, lit<}
+use lib.Dec.{T, ltb, lt→ltb, lit<, lit≤}
 use lib.Arith.{le→nltb}
 use lib.Pow.{pow-pos, pow-mono}
-use lib.Ieee.{Float, nan, inf, fin, binary64, units, odd, up, down, fits, ofBits, toBits, size}
+use lib.Ieee.{Float, nan, inf, fin, binary64, units, odd, up, down, fits, isNan, ofBits, toBits, size}
 use lib.Ieee.Exact.{HasValue, odd-sign}
 use lib.Ieee.Fits.{odd-fits, down-pos}
-use lib.Ieee.Bits.{ofBits-toBits}
+use lib.Ieee.Bits.{ofBits-toBits, toBits-ofBits}
 use Rattle.norm.specs.Norm.{inUnits}
 use Rattle.norm.specs.Cell.{Significand, dropped-digits, whole-steps}
 
@@ -121,6 +121,27 @@ finite-bits q k l f h = odd-bits q k l f (under-top q k l f h) ∙ sym (yes (ltb
     yes : (b : Bool) → T b → cond b (odd 54 false q k 1074) (inf false) ≡ odd 54 false q k 1074
     yes true t = refl
     yes false t = absurd t
+
+-- the bits of a number: the step's field and the significand
+pub bits-of-units : (q k : ℕ) → q ≤ 2 ^ 53 → (k ≡ 0) ⊎ (2 ^ 52 ≤ q) → q * 2 ^ k < 2 ^ 2098 → toBits binary64 (units binary64 false q k) ≡ k * 2 ^ 52 + q
+unfolding isNan
+bits-of-units q k l f h =
+    ap (λ (x : Float). toBits binary64 x) (sym below)
+    ∙ toBits-ofBits binary64 b (lt-of-lt-of-le small (lit≤ {m = 2047 * 2 ^ 52} {n = 2 ^ 64} tt)) (subst (λ (x : Float). T (not (isNan x))) (sym (odd-bits q k l f h)) (a-number (odd 54 false q k 1074) (q * 2 ^ k) (odd-sign 54 false q k 1074)))
+  where
+    b : ℕ
+    b = k * 2 ^ 52 + q
+
+    small : b < 2047 * 2 ^ 52
+    small = lt-of-not-le (λ (g : 2047 * 2 ^ 52 ≤ b). not-le-of-lt h (over-top q k l f g))
+
+    below : ofBits binary64 b ≡ units binary64 false q k
+    below = finite-bits q k l f small
+
+    a-number : (x : Float) (a : ℕ) → HasValue x false a (2 ^ 1074) → T (not (isNan x))
+    a-number nan a v = absurd v
+    a-number (inf s) a v = absurd v
+    a-number (fin s m e) a v = tt
 
 infinite-bits : (q k : ℕ) → q ≤ 2 ^ 53 → (k ≡ 0) ⊎ (2 ^ 52 ≤ q) → 2047 * 2 ^ 52 ≤ k * 2 ^ 52 + q → ofBits binary64 (2047 * 2 ^ 52) ≡ units binary64 false q k
 unfolding units ofBits

@@ -1,6 +1,6 @@
 -- The rounded root is the binary64 nearest to the root: none is nearer, and where two are as near it has the even significand.
 -- Said with both sides squared: the root of n is not below the middle of w and c where 4·n is not below (w + c)². Assumes nothing.
-use mathlib.Core.Path.{_≡_, refl, sym, ap, _∙_, subst}
+use mathlib.Core.Path.{_≡_, refl, sym, ap, ap₂, _∙_, subst}
 use mathlib.Core.Logic.{_⊎_, inl, inr}
 use mathlib.Core.Bool.{Bool, false}
 use Prim.Native.Nat.{ℕ, zero, suc, _+_, _-_, _*_, _/_, _%_, _^_, _≤_, _<_, compare, Ordering, Ordering·lt, Ordering·eq, Ordering·gt}
@@ -11,14 +11,15 @@ use lib.Pow.{pow-add, pow-pos, pow-mono}
 use lib.Dec.{T}
 use lib.Arith.{lt-of-le-ne}
 use lib.IntN.{ℤ}
-use lib.Ieee.{fin, binary64, nearest, units, size, fits, toBits}
-use lib.Ieee.Digits.{size-reaches}
+use lib.Ieee.{Float, nan, inf, fin, binary64, nearest, units, size, fits, toBits}
+use lib.Ieee.Digits.{Equals, size-reaches}
 use lib.Ieee.Fits.{kept-lt}
-use Rattle.norm.specs.Norm.{root, roundedRoot, inUnits}
+use Rattle.norm.specs.Norm.{norm, root, roundedRoot, inUnits}
 use Rattle.norm.specs.Squares.{square-le, square-suc, square-double, square-power, compare-lt, compare-eq, compare-gt}
 use Rattle.norm.specs.Roots.{root-is}
 use Rattle.norm.specs.Parts.{significandOf, shiftOf, unitsOf}
 use Rattle.norm.specs.Cell.{Significand, Within}
+use Rattle.norm.specs.Encoding.{in-units}
 use Rattle.norm.specs.Sizes.{placed, finite-size}
 
 -- ---- what the definition makes of the root
@@ -42,6 +43,15 @@ roundedSize n = significandOfRoot n * 2 ^ stepOf n
 pub rounded-is : (n : ℕ) → roundedRoot n ≡ units binary64 false (significandOfRoot n) (stepOf n)
 unfolding roundedRoot
 rounded-is n = refl
+
+-- the norm, from the parts' sizes
+pub norm-of-sizes : (x y : Float) (a b : ℕ) → Equals x a (2 ^ 1074) → Equals y b (2 ^ 1074) → norm x y ≡ roundedRoot (a ^ 2 + b ^ 2)
+unfolding norm
+norm-of-sizes nan y a b h k = absurd h
+norm-of-sizes (inf s) y a b h k = absurd h
+norm-of-sizes (fin s m e) nan a b h k = absurd k
+norm-of-sizes (fin s m e) (inf t) a b h k = absurd k
+norm-of-sizes (fin s m e) (fin t n d) a b h k = ap₂ (λ (p q : ℕ). roundedRoot (p ^ 2 + q ^ 2)) (in-units m e a h) (in-units n d b k)
 
 -- the root lies within its step
 pub own-step : (n : ℕ) → Within n (digitsOf n) (stepOf n)
@@ -74,11 +84,16 @@ pub record Representable (c : ℕ) : Type 0 where
   pub short : digits < 2 ^ 53
   pub value : c ≡ digits * 2 ^ step
 
-pub every-binary64 : (s : Bool) (m : ℕ) (e : ℤ) → T (fits binary64 (fin s m e)) → Representable (inUnits m e)
+every-binary64 : (s : Bool) (m : ℕ) (e : ℤ) → T (fits binary64 (fin s m e)) → Representable (inUnits m e)
 unfolding unitsOf
 every-binary64 s m e f =
     let a = toBits binary64 (fin s m e) % 2 ^ 63 in
     record { digits = significandOf a; step = shiftOf a; short = placed a .digits .small; value = finite-size s m e f .1 }
+
+pub every-size : (z : Float) (c : ℕ) → T (fits binary64 z) → Equals z c (2 ^ 1074) → Representable c
+every-size nan c f h = absurd h
+every-size (inf s) c f h = absurd h
+every-size (fin s m e) c f h = subst Representable (in-units m e c h) (every-binary64 s m e f)
 
 -- none lies inside a step of the root
 between-steps : (q k c : ℕ) → Significand q k → Representable c → (c ≤ q * 2 ^ k) ⊎ (suc q * 2 ^ k ≤ c)

@@ -9,7 +9,7 @@ use lib.Pow.{pow-pos}
 use lib.Ieee as Ieee
 use lib.Ieee.Digits.{size-lt}
 use Rattle.norm.specs.Norm.{root, rootOf}
-use Rattle.norm.specs.Squares.{square-suc, square-double, power-of-four, between-squares}
+use Rattle.norm.specs.Squares.{square-suc, square-double, power-of-four}
 
 -- r is the whole part of the square root of n
 abbrev pub IsRoot : ℕ → ℕ → Type 0
@@ -57,10 +57,3 @@ root-is n = rootOf-is (Ieee.size n) n (grown (Ieee.size n) (size-lt n))
 
     grown : (z : ℕ) → n < 2 ^ z → n < 4 ^ z
     grown z h = lt-of-lt-of-le h (subst (λ (x : ℕ). 2 ^ z ≤ x) (sym (power-of-four z)) (square-grows (2 ^ z) (pow-pos z)))
-
--- there is one
-pub root-unique : (n r : ℕ) → IsRoot n r → root n ≡ r
-root-unique n r h = meet (between-squares (root n) r n (root-is n .0) (h .1)) (between-squares r (root n) n (h .0) (root-is n .1))
-  where
-    meet : {a b : ℕ} → a ≤ b → b ≤ a → a ≡ b
-    meet p q = omega arith

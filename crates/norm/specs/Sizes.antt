@@ -11,7 +11,7 @@ use lib.Dec.{T, leb, ltb, eqb, ltb→lt, nltb→le, lt→ltb, lit<}
 use lib.Arith.{le→nltb}
 use lib.Pow.{pow-pos, mod-mod-pow}
 use lib.Ieee as Ieee
-use lib.Ieee.{Float, nan, inf, fin, binary64, odd, fits, isNan, nanBits, ofFields, ofBits, toBits}
+use lib.Ieee.{Float, nan, inf, fin, binary64, odd, up, down, fits, isNan, nanBits, ofFields, ofBits, toBits}
 use lib.Ieee.Digits.{Equals, odd-val}
 use lib.Ieee.Fits.{eq→eqb}
 use lib.Ieee.Bits.{nanBits-above, ofBits-toBits}
@@ -73,13 +73,16 @@ pub data Kind (x : Float) (a : ℕ) : Type 0 where
   is-infinite : (s : Bool) → x ≡ inf s → a ≡ 2047 * 2 ^ 52 → Kind x a
   is-finite : (s : Bool) (m : ℕ) (e : ℤ) → x ≡ fin s m e → a < 2047 * 2 ^ 52 → inUnits m e ≡ unitsOf a → Kind x a
 
--- from what `odd` makes of the digits t and the step x
-sized : (s : Bool) (q k : ℕ) (t : Bool) (m : ℕ) (e : ℤ) → odd 53 s q k 1074 ≡ fin t m e → inUnits m e ≡ q * 2 ^ k
-sized s q k t m e p = in-units m e (q * 2 ^ k) (subst (λ (x : Float). Equals x (q * 2 ^ k) (2 ^ 1074)) p (odd-val 53 s q k 1074))
-
--- the bits a of m·2^e
+-- the bits a of m·2^e, which is a whole number of units
 abbrev pub Finite : ℕ → ℕ → ℤ → Type 0
-Finite a m e = (a < 2047 * 2 ^ 52) × (inUnits m e ≡ unitsOf a)
+Finite a m e = (a < 2047 * 2 ^ 52) × (inUnits m e ≡ unitsOf a) × (m * up e * 2 ^ 1074 ≡ unitsOf a * down e)
+
+-- from what `odd` makes of the digits q and the step k
+sized : (a : ℕ) (s : Bool) (q k : ℕ) (t : Bool) (m : ℕ) (e : ℤ) → odd 53 s q k 1074 ≡ fin t m e → a < 2047 * 2 ^ 52 → q ≡ significandOf a → k ≡ shiftOf a → Finite a m e
+unfolding unitsOf
+sized a s q k t m e p h f g =
+    let v : m * up e * 2 ^ 1074 ≡ unitsOf a * down e = subst (λ (x : Float). Equals x (q * 2 ^ k) (2 ^ 1074)) p (odd-val 53 s q k 1074) ∙ ap₂ (λ (x y : ℕ). x * 2 ^ y * down e) f g in
+    (h, in-units m e (unitsOf a) v, v)
 
 -- the fields of b, below the sign's
 low-digits : (b : ℕ) → b % 2 ^ 63 % 2 ^ 52 ≡ b % 2 ^ 52
@@ -94,12 +97,12 @@ no-number true s t m e p = let z : _≡_ {A = ℕ} 0 1 = cc in omega arith
 no-number false s t m e p = let z : _≡_ {A = ℕ} 0 1 = cc in omega arith
 
 fields : (s : Bool) (b : ℕ) (t : Bool) (m : ℕ) (e : ℤ) (x : ℕ) → b % 2 ^ 63 / 2 ^ 52 ≡ x → ofFields binary64 s x (b % 2 ^ 52) ≡ fin t m e → Finite (b % 2 ^ 63) m e
-unfolding ofFields unitsOf
+unfolding ofFields
 fields s b t m e zero f p =
     let a = b % 2 ^ 63 in
     let h : a < 2 ^ 52 = omega arith in
     let d : b % 2 ^ 52 ≡ a = sym (low-digits b) ∙ mod-eq-of-lt h in
-    (omega arith, sized s (b % 2 ^ 52) 0 t m e p ∙ ap₂ (λ (q k : ℕ). q * 2 ^ k) (d ∙ sym (significand-small a h)) (sym (shift-at a 0 f)))
+    sized a s (b % 2 ^ 52) 0 t m e p (omega arith) (d ∙ sym (significand-small a h)) (sym (shift-at a 0 f))
 fields s b t m e (suc x) f p = go (eqb (suc x) 2047) (λ q. eq→eqb q) p
   where
     go : (w : Bool) → (suc x ≡ 2047 → T w) → cond w (cond (eqb (b % 2 ^ 52) 0) (inf s) nan) (odd 53 s (2 ^ 52 + b % 2 ^ 52) x 1074) ≡ fin t m e → Finite (b % 2 ^ 63) m e
@@ -108,11 +111,9 @@ fields s b t m e (suc x) f p = go (eqb (suc x) 2047) (λ q. eq→eqb q) p
         let a = b % 2 ^ 63 in
         let r : a < 2 ^ 63 = mod-lt b (pow-pos 63) in
         let h : 2 ^ 52 ≤ a = omega (arith, f) in
-        let n : suc x ≢ 2047 = w in (
-          omega (arith, f, n, r),
-          sized s (2 ^ 52 + b % 2 ^ 52) x t m e p
-              ∙ ap₂ (λ (q k : ℕ). q * 2 ^ k) (ap (λ (y : ℕ). 2 ^ 52 + y) (sym (low-digits b)) ∙ sym (significand-large a h)) (sym (shift-at a (suc x) f ∙ less x)),
-        )
+        let n : suc x ≢ 2047 = w in
+        sized a s (2 ^ 52 + b % 2 ^ 52) x t m e p (omega (arith, f, n, r))
+        (ap (λ (y : ℕ). 2 ^ 52 + y) (sym (low-digits b)) ∙ sym (significand-large a h)) (sym (shift-at a (suc x) f ∙ less x))
       where
         less : (x : ℕ) → suc x - 1 ≡ x
         less x = omega arith
@@ -125,6 +126,10 @@ pub finite-size : (s : Bool) (m : ℕ) (e : ℤ) → T (fits binary64 (fin s m e
 finite-size s m e f =
     let b = toBits binary64 (fin s m e) in
     fields (leb (2 ^ 63) b) b s m e (b % 2 ^ 63 / 2 ^ 52) refl (sym (read b) ∙ ofBits-toBits binary64 (fin s m e) f)
+
+-- every finite binary64 is a whole number of units
+pub exact-units : (s : Bool) (m : ℕ) (e : ℤ) → T (fits binary64 (fin s m e)) → Equals (fin s m e) (inUnits m e) (2 ^ 1074)
+exact-units s m e f = let w = finite-size s m e f in w .2 ∙ ap (λ (a : ℕ). a * down e) (sym (w .1))
 
 pub kind : (x : Float) → T (fits binary64 x) → Kind x (toBits binary64 x % 2 ^ 63)
 unfolding toBits
