@@ -3,7 +3,8 @@ use mathlib.Core.Path.{subst}
 use Prim.Native.Nat.{ℕ, _+_, _-_, _*_, _/_, _^_, _≤_}
 use native.Mathlib.Omega.{arith}
 use borrow.Author.Needs.{needs}
-use Rattle.norm.proofs.Check.{few, passes, none}
+use Rattle.norm.proofs.Middles.{few, passes}
+use Rattle.norm.proofs.Check.{none}
 use Rattle.norm.proofs.guess.settled.Statement.{statement}
 use Rattle.norm.proofs.guess.settled.Tie as tie
 
@@ -38,9 +39,11 @@ returns-4 c h =
     let p = s .pre .0 in
     let l : 2 ≤ m = omega (arith, p) in
     let u : 2 ≤ x / 2 ^ 42 = omega (arith, p) in
+    let v = c .if3 .left in
+    let high : t - q .high-square .result ≤ i * (x / 2 ^ 42) + (x / 2 ^ 42 - 2) = omega (arith, v) in
     passes m i t l (picked o)
     (subst (λ (y : ℕ). y + i * (x / 2 ^ 42) + 4 ≤ t) (q .high-square .ensures) (from-below t (q .high-square .result) (i * (x / 2 ^ 42)) (x / 2 ^ 42) (e .if1 .left) (c .before .if2 .left)))
-    (subst (λ (y : ℕ). t + 2 ≤ y + i * (x / 2 ^ 42) + x / 2 ^ 42) (q .high-square .ensures) (from-above t (q .high-square .result) (i * (x / 2 ^ 42)) (x / 2 ^ 42) (e .if1 .left) (c .if3 .left) u))
+    (subst (λ (y : ℕ). t + 2 ≤ y + i * (x / 2 ^ 42) + x / 2 ^ 42) (q .high-square .ensures) (from-above t (q .high-square .result) (i * (x / 2 ^ 42)) (x / 2 ^ 42) (e .if1 .left) high u))
 
 pub settled-spec : {M : Type 1} → statement M
 settled-spec =

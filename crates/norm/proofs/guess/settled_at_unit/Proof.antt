@@ -1,11 +1,12 @@
 -- `norm::guess::settled_at_unit` meets its contract: what is returned has passed the check. Assumes nothing.
-use Prim.Native.Nat.{ℕ, _+_, _*_, _/_, _^_, _≤_, _<_}
+use Prim.Native.Nat.{ℕ, _+_, _-_, _*_, _/_, _^_, _≤_, _<_}
 use native.Mathlib.Nat.{le-trans, le-add-right}
 use native.Mathlib.Omega.{arith}
 use borrow.Author.Needs.{needs}
 use lib.Dec.{lit<}
 use lib.Pow.{shr-le}
-use Rattle.norm.proofs.Check.{some-kept, middle-fits, middle-small, two-units, short-at-unit, passes-at-unit, none}
+use Rattle.norm.proofs.Middles.{some-kept, middle-fits, middle-small, two-units, short-at-unit, passes-at-unit}
+use Rattle.norm.proofs.Check.{none}
 use Rattle.norm.proofs.guess.settled_at_unit.Statement.{statement}
 use Rattle.norm.proofs.guess.settled_at_unit.Tie as tie
 
@@ -46,9 +47,11 @@ returns-5 c =
     let s = p .before in
     let d = s .args .d in
     let w = p .power .result in
-    let q = picked o in (
+    let q = picked o in
+    let f = c .if4 .left in
+    let two : 2 ≤ a .high-square3 .result - s .args .t = omega (arith, f) in (
       short-at-unit q d w (p .power .ensures) (e1 .if1 .left),
-      λ h. passes-at-unit q d w (s .args .t) (b .high-square2 .result) (a .high-square3 .result) (some o) (p .power .ensures) (b .high-square2 .ensures) (a .high-square3 .ensures) (e2 .if2 .left) (e3 .if3 .left) (c .if4 .left),
+      λ h. passes-at-unit q d w (s .args .t) (b .high-square2 .result) (a .high-square3 .result) (some o) (p .power .ensures) (b .high-square2 .ensures) (a .high-square3 .ensures) (e2 .if2 .left) (e3 .if3 .left) two,
     )
 
 pub settled-at-unit-spec : {M : Type 1} → statement M

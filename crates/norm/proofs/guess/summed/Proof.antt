@@ -3,7 +3,8 @@ use mathlib.Core.Path.{_≡_, sym, ap, ap₂, _∙_, subst}
 use Prim.Native.Nat.{ℕ, _+_, _*_, _/_, _^_}
 use borrow.Author.Needs.{needs}
 use Rattle.norm.specs.Checked.{Covers, squares}
-use Rattle.norm.proofs.Check.{covers, twice-shifted, none}
+use Rattle.norm.proofs.Middles.{covers, twice-shifted}
+use Rattle.norm.proofs.Check.{none}
 use Rattle.norm.proofs.guess.summed.Statement.{statement}
 use Rattle.norm.proofs.guess.summed.Tie as tie
 
