@@ -17,7 +17,7 @@ squares qa qb gap = 2 * qa * (2 * qa) + 4 * qb * (4 * qb) / 2 ^ (2 * gap + 2)
 abbrev pub Covers : ℕ → ℕ → ℕ → Type 0
 Covers t sum more = (t * (2 ^ 44 * 4 ^ more) ≤ sum) × (sum < (t + 2) * (2 ^ 44 * 4 ^ more))
 
--- the larger significand has its leading digit, or neither part is shifted and they are as large as their significands
+-- the larger part's significand has its leading digit; or neither part is shifted, and it is the larger significand
 abbrev pub Ranked : ℕ → ℕ → ℕ → Type 0
 Ranked qa qb shift = (2 ^ 52 ≤ qa) ⊎ ((shift ≡ 0) × (0 < qa) × (qb ≤ qa))
 

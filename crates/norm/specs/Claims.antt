@@ -12,6 +12,7 @@ use lib.Ieee.Exact.{HasValue}
 use Rattle.norm.specs.Norm.{norm, roundedRoot, inUnits}
 use Rattle.norm.specs.Sizes as Sizes
 use Rattle.norm.specs.Nearest as Nearest
+use Rattle.norm.specs.Value as Value
 use Rattle.norm.specs.Order as Order
 use Rattle.norm.specs.Threshold as Threshold
 use Rattle.norm.specs.Symmetry as Symmetry
@@ -23,6 +24,10 @@ Size x a = Equals x a (2 ^ 1074)
 -- every finite binary64 is a whole number of units, which `inUnits` gives: nothing is cut off
 pub whole-units : (s : Bool) (m : ℕ) (e : ℤ) → T (fits binary64 (fin s m e)) → Size (fin s m e) (inUnits m e)
 whole-units = Sizes.exact-units
+
+-- the norm is a binary64, whatever the parts
+pub a-binary64 : (x y : Float) → T (fits binary64 (norm x y))
+a-binary64 = Value.norm-fits
 
 -- (2^54 − 1)·2^970, in units
 abbrev pub limit : ℕ
@@ -41,13 +46,13 @@ module _ (x y : Float) (a b : ℕ) (first : Size x a) (second : Size y b) where
   -- root or farther, so that the root is not on its side of the middle of the two, (w + c)·u / 2
   module _ (w : ℕ) (result : Size (norm x y) w) (z : Float) (c : ℕ) (held : T (fits binary64 z)) (other : Size z c) where
     pub nearest : (c < w → (w + c) * (w + c) ≤ 4 * (a ^ 2 + b ^ 2)) × (w < c → 4 * (a ^ 2 + b ^ 2) ≤ (w + c) * (w + c))
-    nearest = Order.nearest-size (a ^ 2 + b ^ 2) w c (subst (λ (r : Float). Size r w) (Nearest.norm-of-sizes x y a b first second) result) (Nearest.every-size z c held other)
+    nearest = Value.nearest-size (a ^ 2 + b ^ 2) w c (subst (λ (r : Float). Size r w) (Nearest.norm-of-sizes x y a b first second) result) (Nearest.every-size z c held other)
 
     -- "ties to the even significand": where the root is that middle, the last of the norm's own bits is 0
     pub even-at-a-tie : (c ≡ w → ⊥) → 4 * (a ^ 2 + b ^ 2) ≡ (w + c) * (w + c) → toBits binary64 (norm x y) % 2 ≡ 0
     even-at-a-tie d t =
         ap (λ (r : Float). toBits binary64 r % 2) (Nearest.norm-of-sizes x y a b first second)
-        ∙ Order.last-bit (a ^ 2 + b ^ 2) w c (subst (λ (r : Float). Size r w) (Nearest.norm-of-sizes x y a b first second) result) (Nearest.every-size z c held other) d t
+        ∙ Value.last-bit (a ^ 2 + b ^ 2) w c (subst (λ (r : Float). Size r w) (Nearest.norm-of-sizes x y a b first second) result) (Nearest.every-size z c held other) d t
 
 -- a larger sum of squares never gives a smaller norm
 pub order-kept : (x y x' y' : Float) (a b a' b' : ℕ) → Size x a → Size y b → Size x' a' → Size y' b' → a ^ 2 + b ^ 2 ≤ a' ^ 2 + b' ^ 2 → T (le (norm x y) (norm x' y'))

@@ -12,6 +12,7 @@ pub mod Cell
 pub mod Encoding
 pub mod Sizes
 pub mod Nearest
+pub mod Value
 pub mod Order
 pub mod Threshold
 pub mod Symmetry

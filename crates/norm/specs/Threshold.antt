@@ -10,7 +10,8 @@ use lib.Ieee.Exact.{HasValue}
 use Rattle.norm.specs.Norm.{root, roundedRoot}
 use Rattle.norm.specs.Squares.{square-le, square-double}
 use Rattle.norm.specs.Nearest.{roundedSize, Representable, no-nearer}
-use Rattle.norm.specs.Order.{size-kept, rounded-value, rounded-infinite}
+use Rattle.norm.specs.Value.{rounded-value, rounded-infinite}
+use Rattle.norm.specs.Order.{size-kept}
 
 abbrev pub threshold : ℕ
 threshold = (2 ^ 54 - 1) * 2 ^ 2044
