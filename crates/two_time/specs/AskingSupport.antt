@@ -1,9 +1,8 @@
--- Line 9 as the code asks it: in each row from the place after the diagonal on, and lines 1 to 3 again before it. Assumes nothing.
-use mathlib.Core.Path.{_≡_, refl, _∙_}
+-- Line 9 as the code asks it: in each row from the place after the diagonal on, and where the lines before it pass. Assumes nothing.
+use mathlib.Core.Path.{_≡_, ap, _∙_}
 use mathlib.Core.Bool.{true}
-use mathlib.Core.List.{List, [], _∷_}
+use mathlib.Core.List.{List}
 use Prim.Native.Nat.{ℕ, _≤_, _<_}
-use lib.ListN.{length}
 use lib.Ieee.{Float}
 use borrow.Author.Tests.{lt-ltb, le-ltb}
 use Rattle.complex.specs.Arithmetic.{div, larger, plusZero}
@@ -12,12 +11,12 @@ use Rattle.matrix.specs.Operations.{largestNorm, cnorm}
 use Rattle.refusal.specs.declared.Verdict.{Verdict}
 use Rattle.refusal.specs.declared.Verdict.the-variants.{Pass}
 use Rattle.refusal.specs.Verdict.{_then_}
-use Rattle.refusal.specs.Lines.{finiteEntries, validTolerance, retardedAt}
-use Rattle.refusal.specs.Agreement.{then-agree, then-assoc, then-after}
-use Rattle.two_time.specs.Layout.{TwoTime, readAs}
-use Rattle.two_time.specs.Support.{scaleOf, residual, retardedPlace, retarded}
-use Rattle.two_time.specs.Calls.{sizeLines, retardedLine, checkSupport}
-use Rattle.two_time.specs.Working.{operands-last}
+use Rattle.refusal.specs.Lines.{validTolerance, retardedAt}
+use Rattle.refusal.specs.Agreement.{then-assoc, then-pass}
+use Rattle.two_time.specs.Layout.{TwoTime}
+use Rattle.two_time.specs.Support.{scaleOf, residual, retardedPlace}
+use Rattle.two_time.specs.Calls.{sizeLines, operandLines}
+use Rattle.two_time.specs.SizeLines.{SizesPassed, sizes-passed}
 
 module _ (points orbitals operand : ℕ) (tolerance : Float) (x : TwoTime) (t u : ℕ) where
   -- a place up to the diagonal
@@ -30,13 +29,14 @@ module _ (points orbitals operand : ℕ) (tolerance : Float) (x : TwoTime) (t u 
   unfolding residual
   place-asked scale largest v h s l e = let own : largest ≡ largestNorm orbitals orbitals (x t u) = l ∙ unfold largestNorm in from-zero orbitals orbitals (λ a b. cnorm (x t u a b)) in rw (lt-ltb t u h, ← s, ← own, e)
 
-module _ (points orbitals : ℕ) (xs : List Float) (tolerance : Float) where
-  abbrev sizes : Verdict
-  sizes = sizeLines points orbitals true (xs ∷ [])
+-- the lines before 9, as the code joins them
+module _ (points orbitals : ℕ) (operands : List (List Float)) (tolerance : Float) where
+  abbrev pub beforeNine : Verdict
+  beforeNine = sizeLines points orbitals true operands then (operandLines 0 operands then validTolerance tolerance)
 
-  -- lines 1 to 3 are not asked again to another end
-  pub support-asked : (sizes then (finiteEntries 0 xs (length xs) then validTolerance tolerance) then retardedLine points orbitals 0 tolerance xs) ≡ checkSupport points orbitals xs tolerance
-  unfolding checkSupport retardedLine
-  support-asked =
-      then-agree sizes sizes _ _ refl
-      (λ p. rw (← operands-last 0 xs (finiteEntries 0 xs (length xs)) refl, then-after sizes (retarded points orbitals 0 tolerance (readAs points orbitals xs)) p, then-assoc))
+  pub nine-last : (later : Verdict) → (beforeNine then later) ≡ (sizeLines points orbitals true operands then operandLines 0 operands then validTolerance tolerance then later)
+  nine-last later = then-assoc _ _ _ ∙ ap (λ (v : Verdict). sizeLines points orbitals true operands then v) (then-assoc _ _ _)
+
+  -- what line 9 needs of their pass
+  pub nine-sizes : beforeNine ≡ Pass → SizesPassed points orbitals true operands
+  nine-sizes h = sizes-passed points orbitals true operands (then-pass _ _ h .0)

@@ -2,7 +2,7 @@
 use Prim.Native.Nat.{ℕ, zero, suc}
 use mathlib.Core.Bool.{Bool, true, _&&_}
 use mathlib.Core.List.{List, [], _∷_, _++_}
-use lib.Dec.{eqb}
+use lib.Dec.{eqb, leb}
 use lib.ListN.{length}
 use lib.Ieee.{Float}
 use Rattle.refusal.specs.declared.Verdict.{Verdict}
@@ -10,7 +10,7 @@ use Rattle.refusal.specs.declared.Verdict.the-variants.{Pass}
 use Rattle.refusal.specs.Verdict.{_then_, afterwards}
 use Rattle.refusal.specs.Lines.{largeEnough, withinLimits, fitting, finiteEntries, validTolerance, finiteWork}
 use Rattle.grid.specs.Calls.{timeLines}
-use Rattle.two_time.specs.Layout.{lengthOf, readAs}
+use Rattle.two_time.specs.Layout.{TwoTime, lengthOf, readAs}
 use Rattle.two_time.specs.Convolutions.{convolutionNumbers, convolutionFine, causalNumbers, causalFine}
 use Rattle.two_time.specs.Support.{retarded}
 
@@ -18,6 +18,10 @@ use Rattle.two_time.specs.Support.{retarded}
 unfoldable pub allLong : ℕ → List (List Float) → Bool
 allLong count [] = true
 allLong count (xs ∷ rest) = eqb (length xs) count && allLong count rest
+
+-- N and n are within the limits of line 2, and each of the slices holds a function
+unfoldable pub allFit : ℕ → ℕ → List (List Float) → Bool
+allFit points orbitals slices = (leb points 256 && leb orbitals 16) && allLong (lengthOf points orbitals) slices
 
 -- lines 1 to 3: `fits` says whether what is lent beside the two-time functions has its length too
 unfoldable pub sizeLines : ℕ → ℕ → Bool → List (List Float) → Verdict
@@ -54,12 +58,19 @@ module _ (points orbitals : ℕ) (times left right out : List Float) where
   unfoldable pub causalConvolution : Convolved
   causalConvolution = convolved (causalFine points orbitals times left right) (causalNumbers points orbitals times left right)
 
--- line 9 of one operand, after lines 1 to 3 of it
-unfoldable pub retardedLine : ℕ → ℕ → ℕ → Float → List Float → Verdict
-retardedLine points orbitals operand tolerance xs =
-    sizeLines points orbitals true (xs ∷ []) then retarded points orbitals operand tolerance (readAs points orbitals xs)
-
 -- `check_retarded_support`: lines 1 to 3, 7, 8 and 9 of one function, operand 0
 unfoldable pub checkSupport : ℕ → ℕ → List Float → Float → Verdict
 checkSupport points orbitals xs tolerance =
     sizeLines points orbitals true (xs ∷ []) then operandLines 0 (xs ∷ []) then validTolerance tolerance then retarded points orbitals 0 tolerance (readAs points orbitals xs)
+
+-- of a Dyson call: "Order: 8, 9 for free, 9 for self-energy"
+unfoldable pub supportLines : ℕ → ℕ → Float → TwoTime → TwoTime → Verdict
+supportLines points orbitals tolerance free selfEnergy =
+    validTolerance tolerance then retarded points orbitals 0 tolerance free then retarded points orbitals 1 tolerance selfEnergy
+
+-- `check_retarded_inputs`: lines 1 to 3, 7, 8 and 9 of free, operand 0, and the self-energy, operand 1
+unfoldable pub checkInputs : ℕ → ℕ → List Float → List Float → Float → Verdict
+checkInputs points orbitals free selfEnergy tolerance =
+    sizeLines points orbitals true (free ∷ selfEnergy ∷ [])
+    then operandLines 0 (free ∷ selfEnergy ∷ [])
+    then supportLines points orbitals tolerance (readAs points orbitals free) (readAs points orbitals selfEnergy)

@@ -5,11 +5,12 @@ use mathlib.Core.Bool.{Bool, cond, _&&_}
 use mathlib.Core.List.{List}
 use lib.Dec.{leb, ltb}
 use lib.ListN.{length}
-use lib.Ieee.{Float, nan}
+use lib.Ieee.{Float}
 use Rattle.lists.specs.Indexed.{join, allBelow}
-use Rattle.complex.specs.declared.Complex.{Complex}
 use Rattle.complex.specs.Numbers.{entryAt}
 use Rattle.matrix.specs.Block.{Entries, layOut}
+use Rattle.two_time.specs.declared.layout.Stored.{Stored}
+use Rattle.two_time.specs.declared.layout.Stored.the-variants.{Entry, Outside}
 
 -- the block at times t and u
 abbrev pub TwoTime : Type 0
@@ -31,10 +32,10 @@ isPlace stride orbitals t u a b = (leb stride 256 && leb orbitals 16) && ((ltb t
 abbrev pub lengthOf : ℕ → ℕ → ℕ
 lengthOf points orbitals = 2 * points * points * orbitals * orbitals
 
--- an entry of a list that holds a function; a NaN where there is none
-unfoldable pub readWithin : ℕ → ℕ → List Float → ℕ → ℕ → ℕ → ℕ → Complex
-readWithin stride orbitals xs t u a b =
-    cond (isPlace stride orbitals t u a b && leb (lengthOf stride orbitals) (length xs)) (readAs stride orbitals xs t u a b) (record { re = nan; im = nan })
+-- an entry of a list that holds a function, where there is one
+unfoldable pub storedAt : ℕ → ℕ → List Float → ℕ → ℕ → ℕ → ℕ → Stored
+storedAt stride orbitals xs t u a b =
+    cond (isPlace stride orbitals t u a b && leb (lengthOf stride orbitals) (length xs)) (Entry (readAs stride orbitals xs t u a b)) Outside
 
 -- a two-time function laid out as such a list
 unfoldable pub layOutAll : ℕ → ℕ → TwoTime → List Float

@@ -4,9 +4,8 @@ use mathlib.Core.List.{List, [], _∷_}
 use Prim.Native.Nat.{ℕ}
 use lib.ListN.{replicate}
 use lib.Ieee as Ieee
-use lib.Ieee.{Float, nan}
+use lib.Ieee.{Float}
 use Rattle.lists.specs.Indexed.{fold, allBelow}
-use Rattle.complex.specs.declared.Complex.{Complex}
 use Rattle.complex.specs.Arithmetic.{plusZero, one, czero, cone, minusI, finite, cfinite, cadd, cmul, conj}
 use Rattle.complex.specs.Sum.{sumFrom}
 use Rattle.matrix.specs.Operations.{product, scaled, adjoint}
@@ -16,7 +15,8 @@ use Rattle.two_time.specs.declared.sums.CheckedEntry.the-variants.{Finit
 use Rattle.two_time.specs.declared.sums.Weights.the-variants.{Full, Interval}
 use Rattle.two_time.specs.declared.sums.Factor.{Factor}
 use Rattle.two_time.specs.declared.sums.Factor.the-variants.{Stored, Adjoint}
-use Rattle.two_time.specs.Layout.{isPlace, readWithin}
+use Rattle.two_time.specs.declared.layout.Stored.the-variants.{Entry, Outside}
+use Rattle.two_time.specs.Layout.{isPlace, storedAt}
 use Rattle.two_time.specs.WeightedSum.{productAt, termAt, partialSum, weightedSum, finiteSum}
 use Rattle.two_time.specs.Sums.{weightBy, rightBy, checkedSum, reaches, sumOrOverflow}
 
@@ -31,12 +31,9 @@ abbrev imaginaries : List Float
 imaginaries = plusZero ∷ one ∷ plusZero ∷ one ∷ plusZero ∷ one ∷ plusZero ∷ one ∷ []
 
 -- an entry; past the slice, past the stride and past the block there is none
-abbrev none : Complex
-none = record { re = nan; im = nan }
-
-reads : readWithin 2 1 imaginaries 1 0 0 0 ∷ readWithin 2 1 (replicate 7 one) 1 0 0 0 ∷ readWithin 2 1 imaginaries 2 0 0 0 ∷ readWithin 2 1 imaginaries 1 0 1 0 ∷ []
-    ≡ record { re = plusZero; im = one } ∷ none ∷ none ∷ none ∷ []
-unfolding readWithin isPlace
+reads : storedAt 2 1 imaginaries 1 0 0 0 ∷ storedAt 2 1 (replicate 7 one) 1 0 0 0 ∷ storedAt 2 1 imaginaries 2 0 0 0 ∷ storedAt 2 1 imaginaries 1 0 1 0 ∷ []
+    ≡ Entry (record { re = plusZero; im = one }) ∷ Outside ∷ Outside ∷ Outside ∷ []
+unfolding storedAt isPlace
 reads = refl
 
 -- the sum at (1, 0) over s = 0 and 1 of half of 1·1, and of half of 1 by the adjoint of i, which is −i

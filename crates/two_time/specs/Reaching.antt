@@ -14,7 +14,8 @@ use borrow.Author.Tests.{leb-true, ltb-true, le-leb, lt-leb}
 use Rattle.lists.specs.Agreement.{both}
 use Rattle.complex.specs.declared.Complex.{Complex}
 use Rattle.two_time.specs.declared.sums.Summation.{Summation}
-use Rattle.two_time.specs.Layout.{isPlace, lengthOf, readAs, readWithin}
+use Rattle.two_time.specs.declared.layout.Stored.the-variants.{Entry}
+use Rattle.two_time.specs.Layout.{isPlace, lengthOf, readAs, storedAt}
 use Rattle.two_time.specs.Sums.{reaches, termsBy, checkedSum, sumOrOverflow}
 use Rattle.two_time.specs.Places.{Placed, is-placed, placed-is}
 
@@ -76,6 +77,6 @@ module _ (sum : Summation) (stride n : ℕ) (left right : List Float) (t u a b :
   sum-reached h times first = rw (placed-is (h .placed), le-leb _ _ (h .left-room), le-leb _ _ (h .right-room), le-leb _ _ (h .span))
 
 -- an entry that is there
-pub read-placed : {stride n t u a b : ℕ} (xs : List Float) → Placed stride n t u a b → lengthOf stride n ≤ length xs → readWithin stride n xs t u a b ≡ readAs stride n xs t u a b
-unfolding readWithin
+pub read-placed : {stride n t u a b : ℕ} (xs : List Float) → Placed stride n t u a b → lengthOf stride n ≤ length xs → storedAt stride n xs t u a b ≡ Entry (readAs stride n xs t u a b)
+unfolding storedAt
 read-placed xs p l = rw (placed-is p, le-leb _ _ l)

@@ -3,20 +3,20 @@ use mathlib.Core.Path.{_≡_, refl, sym, ap, _∙_}
 use mathlib.Core.Bool.{Bool, true, false, _||_}
 use mathlib.Core.List.{List}
 use Prim.Native.Nat.{ℕ, _*_, _<_}
+use native.Mathlib.Nat.{mul-left-comm}
 use lib.Dec.{eqb}
 use lib.ListN.{length}
 use lib.Ieee.{Float}
 use Rattle.lists.specs.Indexed.{join, allBelow}
 use Rattle.lists.specs.Agreement.{join-agree, all-agree, each-all}
-use Rattle.lists.specs.Reading.{length-join}
-use Rattle.lists.specs.Filling.{over, over-all}
+use Rattle.lists.specs.Filling.{over}
 use Rattle.complex.specs.Arithmetic.{cfinite}
 use Rattle.complex.specs.Numbers.{pair}
 use Rattle.complex.specs.Filling.{cells, length-cells}
 use Rattle.matrix.specs.Block.{Entries, layOut}
 use Rattle.two_time.specs.WeightedSum.{Terms, weightedSum, finiteSum}
 use Rattle.two_time.specs.OneTest.{one-test}
-use Rattle.two_time.specs.Filling.{length-block}
+use Rattle.two_time.specs.Filling.{parts-laid}
 use Rattle.two_time.specs.Rows.{numberAt}
 
 or-all : (e : Bool) (n : ℕ) (p : ℕ → Bool) → e || allBelow n p ≡ allBelow n (λ b. e || p b)
@@ -38,10 +38,10 @@ module _ (n : ℕ) (f : Entries) where
   abbrev pub rowOf : ℕ → List Float
   rowOf a = cells n (f a)
 
-  pub length-rows : (k : ℕ) → length (join k rowOf) ≡ k * (2 * n)
-  length-rows k = length-join k (2 * n) rowOf (λ a h. length-cells n (f a))
+  pub length-row : (a : ℕ) → length (rowOf a) ≡ 2 * n
+  length-row a = length-cells n (f a)
 
   -- a block that is written row by row
   pub rows-laid : (d out : List Float) (k : ℕ) → k ≡ n → length d ≡ 2 * (n * n) → out ≡ over d (join k rowOf) → out ≡ layOut n n f
   unfolding layOut
-  rows-laid d out k e long h = h ∙ ap (λ (m : ℕ). over d (join m rowOf)) e ∙ over-all d (layOut n n f) (length-block n f ∙ sym long)
+  rows-laid d out k e long h = parts-laid (2 * n) rowOf length-row n d out k e (long ∙ sym (mul-left-comm n 2 n)) h

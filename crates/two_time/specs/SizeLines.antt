@@ -1,4 +1,4 @@
--- Lines 1 to 3 as the code asks them, with N and n cut to their limits, and what it says that they pass. Assumes nothing.
+-- Lines 1 to 3 as the code asks them, with the limits of N and n in the third too, and what it says that they pass. Assumes nothing.
 use mathlib.Core.Path.{_≡_, refl, sym, _∙_}
 use mathlib.Core.Bool.{Bool, true, false, _&&_}
 use mathlib.Core.List.{List, [], _∷_}
@@ -15,7 +15,8 @@ use Rattle.refusal.specs.Verdict.{by, ask, _then_}
 use Rattle.refusal.specs.Lines.{largeEnough, withinLimits, fitting}
 use Rattle.refusal.specs.Agreement.{ask-pass, then-pass, then-agree}
 use Rattle.two_time.specs.Layout.{lengthOf}
-use Rattle.two_time.specs.Calls.{allLong, sizeLines}
+use Rattle.two_time.specs.Calls.{allLong, allFit, sizeLines}
+use Rattle.two_time.specs.Reaching.{and-agree}
 
 -- two tests of orders that both hold
 orders : (a b c d : ℕ) → leb a b && leb c d ≡ true → (a ≤ b) × (c ≤ d)
@@ -40,12 +41,11 @@ pub record SizesPassed (points orbitals : ℕ) (fits : Bool) (slices : List (Lis
   pub long : allLong (lengthOf points orbitals) slices ≡ true
 
 module _ (points orbitals : ℕ) (fits : Bool) (slices : List (List Float)) where
-  -- where line 2 passes N and n are not cut, and where it does not line 3 is not reached
-  pub sizes-lines : (largeEnough points orbitals then withinLimits points orbitals then fitting (fits && allLong (lengthOf (min points 256) (min orbitals 16)) slices))
-      ≡ sizeLines points orbitals fits slices
-  unfolding sizeLines
+  -- where line 2 passes its limits are kept, and where it does not line 3 is not reached
+  pub sizes-lines : (largeEnough points orbitals then withinLimits points orbitals then fitting (fits && allFit points orbitals slices)) ≡ sizeLines points orbitals fits slices
+  unfolding sizeLines allFit
   sizes-lines =
-      then-agree _ _ _ _ refl (λ l. then-agree _ _ _ _ refl (λ e. let most = limited points orbitals e in rw (min-eq-left (most .0), min-eq-left (most .1))))
+      then-agree _ _ _ _ refl (λ l. then-agree _ _ _ _ refl (λ e. let most = limited points orbitals e in rw (le-leb _ _ (most .0), le-leb _ _ (most .1))))
 
   pub sizes-passed : sizeLines points orbitals fits slices ≡ Pass → SizesPassed points orbitals fits slices
   unfolding sizeLines fitting
@@ -77,27 +77,32 @@ pub long-first : (count : ℕ) (xs : List Float) (rest : List (List Float)) → 
 unfolding allLong
 long-first count xs rest e = let tests = both (eqb (length xs) count) (allLong count rest) e in (eqb-true (length xs) count (tests .0), tests .1)
 
--- tests of single slices, as the code makes them, are the test of all: the last, and one before others
 module _ (points orbitals : ℕ) where
-  abbrev count : ℕ
-  count = lengthOf (min points 256) (min orbitals 16)
+  -- a slice's test, as the code makes it: N and n are cut to their limits, so that the product fits
+  pub fits-one : (xs : List Float) → (leb points 256 && leb orbitals 16) && eqb (length xs) (lengthOf (min points 256) (min orbitals 16)) ≡ allFit points orbitals (xs ∷ [])
+  unfolding allFit
+  fits-one xs =
+      and-agree _ _ _ (λ h. let most = orders points 256 orbitals 16 h in rw (min-eq-left (most .0), min-eq-left (most .1)) (sym (long-one (lengthOf points orbitals) xs)))
 
-  pub fits-last : (xs : List Float) (b : Bool) → b ≡ eqb (length xs) count → b ≡ allLong count (xs ∷ [])
-  fits-last xs b e = e ∙ sym (long-one count xs)
+  -- the test of one slice and that of others are the test of all
+  pub fits-more : (xs : List Float) (rest : List (List Float)) (b all : Bool) → b ≡ allFit points orbitals (xs ∷ []) → all ≡ allFit points orbitals rest → b && all ≡ allFit points orbitals (xs ∷ rest)
+  unfolding allFit allLong
+  fits-more xs rest b all e h = rw (e, h) (joined (leb points 256 && leb orbitals 16) (eqb (length xs) (lengthOf points orbitals)) (allLong (lengthOf points orbitals) rest))
+    where
+      joined : (limits x y : Bool) → (limits && (x && true)) && (limits && y) ≡ limits && (x && y)
+      joined true true y = refl
+      joined true false y = refl
+      joined false x y = refl
 
-  pub fits-more : (xs : List Float) (rest : List (List Float)) (b all : Bool) → b ≡ eqb (length xs) count → all ≡ allLong count rest → b && all ≡ allLong count (xs ∷ rest)
-  unfolding allLong
-  fits-more xs rest b all e h = rw (e, h)
-
-  -- and with them lines 1 to 3 are asked
-  pub sizes-asked : (slices : List (List Float)) (fits all : Bool) (v : Verdict) → all ≡ allLong count slices
+  -- and with it lines 1 to 3 are asked
+  pub sizes-asked : (slices : List (List Float)) (fits all : Bool) (v : Verdict) → all ≡ allFit points orbitals slices
       → v ≡ (largeEnough points orbitals then withinLimits points orbitals then fitting (fits && all)) → v ≡ sizeLines points orbitals fits slices
   sizes-asked slices fits all v h e = e ∙ rw h (sizes-lines points orbitals fits slices)
 
 -- lines 1 to 3 of one function, with nothing lent beside it
-pub sizes-one : {fits : Bool} {v : Verdict} (points orbitals : ℕ) (xs : List Float) → fits ≡ eqb (length xs) (lengthOf (min points 256) (min orbitals 16))
+pub sizes-one : {fits : Bool} {v : Verdict} (points orbitals : ℕ) (xs : List Float) → fits ≡ allFit points orbitals (xs ∷ [])
     → v ≡ (largeEnough points orbitals then withinLimits points orbitals then fitting fits) → v ≡ sizeLines points orbitals true (xs ∷ [])
-sizes-one {fits} {v} points orbitals xs f e = sizes-asked points orbitals (xs ∷ []) true fits v (fits-last points orbitals xs fits f) e
+sizes-one {fits} {v} points orbitals xs f e = sizes-asked points orbitals (xs ∷ []) true fits v f e
 
 -- back: sizes within the limits, and slices of their length, pass
 pub long-also : (count : ℕ) (xs : List Float) (rest : List (List Float)) → length xs ≡ count → allLong count rest ≡ true → allLong count (xs ∷ rest) ≡ true

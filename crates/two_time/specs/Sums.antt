@@ -5,7 +5,7 @@ use mathlib.Core.List.{List}
 use lib.Dec.{leb, ltb}
 use lib.ListN.{length}
 use lib.Ieee.{Float}
-use Rattle.lists.specs.Indexed.{allIn}
+use Rattle.lists.specs.Indexed.{allBelow, allIn}
 use Rattle.complex.specs.declared.Complex.{Complex}
 use Rattle.complex.specs.Arithmetic.{czero}
 use Rattle.matrix.specs.Block.{Entries}
@@ -83,6 +83,10 @@ module _ (sums : Sums) (points orbitals : ℕ) (times left right : List Float) w
 
   unfoldable pub madeBy : TwoTime
   madeBy t u = weightedSum orbitals (termsAt t u)
+
+  -- of row t, and of all rows
+  abbrev pub rowFine : ℕ → Bool
+  rowFine t = allBelow points (λ u. blockFine (summationAt sums points t u) points orbitals times left right t u)
 
   unfoldable pub fineBy : Bool
   fineBy = everywhere points orbitals (λ t u a b. finiteSum orbitals (termsAt t u) a b)

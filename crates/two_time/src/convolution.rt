@@ -7,6 +7,7 @@ use crate::lines::sizes;
 use crate::sums::Sums;
 use crate::sums::weighted_sums;
 use grid::time_lines;
+use refusal::Refusal;
 use refusal::Verdict;
 
 pub(crate) fn convolve(
@@ -30,5 +31,8 @@ pub(crate) fn convolve(
     let Verdict::Pass = verdict else {
         return verdict;
     };
-    weighted_sums(sums, times, left, right, points, orbitals, out)
+    if weighted_sums(sums, times, left, right, points, orbitals, out).is_finite() {
+        return Verdict::Pass;
+    }
+    Verdict::Refused(Refusal::by(10))
 }

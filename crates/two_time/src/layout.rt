@@ -4,9 +4,17 @@ ghost use mathlib.Core.Path.{_≡_};
 ghost use Prim.Native.Nat.{_+_, _*_, _<_, _≤_, min};
 ghost use lib.ListN.{length, replicate, set};
 ghost use Rattle.complex.specs.Arithmetic.{plusZero};
-ghost use Rattle.two_time.specs.Layout.{place, isPlace, readAs, readWithin, lengthOf};
+ghost use Rattle.complex.specs.Numbers.{entryAt};
+ghost use Rattle.two_time.specs.Layout.{place, isPlace, readAs, storedAt, lengthOf};
 ghost use Rattle.two_time.specs.Places.{Placed};
 use complex::Complex;
+
+// What a slice holds at a place of a function.
+pub enum Stored {
+    Entry(Complex),
+    // The indices, N, n or the slice do not reach.
+    Outside,
+}
 
 pub(crate) fn least(x: usize, y: usize) -> usize
     ensures { λ r. ⌜ r ≡ min x y ⌝ }
@@ -31,6 +39,14 @@ pub(crate) fn place(stride: usize, orbitals: usize, t: usize, u: usize, a: usize
     2 * (((t * stride + u) * orbitals + a) * orbitals + b)
 }
 
+// The complex number whose real part stands at i.
+pub(crate) fn number_at(xs: &[f64], i: usize) -> Complex
+    requires { ⌜ i + 1 < length (now xs) ⌝ }
+    ensures { λ r. ⌜ r ≡ entryAt (now (xs .entry)) i ⌝ }
+{
+    Complex::new(xs[i], xs[i + 1])
+}
+
 // Entry (a, b) of block (t, u).
 pub(crate) fn entry(
     xs: &[f64],
@@ -45,11 +61,7 @@ pub(crate) fn entry(
     requires { ⌜ lengthOf stride orbitals ≤ length (now xs) ⌝ }
     ensures { λ r. ⌜ r ≡ readAs stride orbitals (now (xs .entry)) t u a b ⌝ }
 {
-    let at = place(stride, orbitals, t, u, a, b);
-    Complex {
-        re: xs[at],
-        im: xs[at + 1],
-    }
+    number_at(xs, place(stride, orbitals, t, u, a, b))
 }
 
 // Whether (t, u) is a place and (a, b) an entry there, within the limits of N and n.
@@ -67,7 +79,7 @@ pub(crate) fn is_place(
     limits & (((t < stride) & (u < stride)) & ((a < orbitals) & (b < orbitals)))
 }
 
-// Entry (a, b) of block (t, u), and NaN parts where there is none.
+// Entry (a, b) of block (t, u), where there is one.
 pub fn read(
     xs: &[f64],
     stride: usize,
@@ -76,17 +88,14 @@ pub fn read(
     u: usize,
     a: usize,
     b: usize,
-) -> Complex
-    ensures { λ r. ⌜ r ≡ readWithin stride orbitals (now (xs .entry)) t u a b ⌝ }
+) -> Stored
+    ensures { λ r. ⌜ r ≡ storedAt stride orbitals (now (xs .entry)) t u a b ⌝ }
 {
     let room = function_length(stride, orbitals) <= xs.len();
     if is_place(stride, orbitals, t, u, a, b) & room {
-        return entry(xs, stride, orbitals, t, u, a, b);
+        return Stored::Entry(entry(xs, stride, orbitals, t, u, a, b));
     }
-    Complex {
-        re: 0.0 / 0.0,
-        im: 0.0 / 0.0,
-    }
+    Stored::Outside
 }
 
 // Writes z as the p-th complex number.

@@ -48,6 +48,9 @@ pub fn check_retarded_support(xs: &[f64], points: usize, orbitals: usize, tolera
 {
     let fits = lines::has_length(points, orbitals, xs);
     let finite = lines::operand(0, xs).then(valid_tolerance(tolerance));
-    let sizes = lines::sizes(points, orbitals, fits);
-    sizes.then(finite.then(support::retarded(0, xs, points, orbitals, tolerance)))
+    let verdict = lines::sizes(points, orbitals, fits).then(finite);
+    let Verdict::Pass = verdict else {
+        return verdict;
+    };
+    support::retarded(0, xs, points, orbitals, tolerance)
 }

@@ -1,13 +1,10 @@
 // The lines that every call on two-time functions asks of what it is lent (document 01, "Questions in order").
 ghost use mathlib.Core.Path.{_≡_};
 ghost use mathlib.Core.List.{[], _∷_};
-ghost use Prim.Native.Nat.{min};
-ghost use lib.Dec.{eqb};
 ghost use lib.ListN.{length};
 ghost use Rattle.refusal.specs.Verdict.{_then_};
 ghost use Rattle.refusal.specs.Lines.{largeEnough, withinLimits, fitting, finiteEntries};
-ghost use Rattle.two_time.specs.Layout.{lengthOf};
-ghost use Rattle.two_time.specs.Calls.{allLong};
+ghost use Rattle.two_time.specs.Calls.{allFit};
 use crate::layout::function_length;
 use refusal::Verdict;
 use refusal::lines::finite_entries;
@@ -15,11 +12,12 @@ use refusal::lines::fitting;
 use refusal::lines::large_enough;
 use refusal::lines::within_limits;
 
-// Whether a slice has a function's length. Where N or n is above its limit the answer says nothing, and line 2 comes first.
+// Whether N and n are within the limits of line 2 and a slice has a function's length.
 pub fn has_length(points: usize, orbitals: usize, xs: &[f64]) -> bool
-    ensures { λ r. ⌜ r ≡ eqb (length (now (xs .entry))) (lengthOf (min points 256) (min orbitals 16)) ⌝ }
+    ensures { λ r. ⌜ r ≡ allFit points orbitals (now (xs .entry) ∷ []) ⌝ }
 {
-    xs.len() == function_length(points, orbitals)
+    let limits = (points <= 256) & (orbitals <= 16);
+    limits & (xs.len() == function_length(points, orbitals))
 }
 
 // The same of four slices.
@@ -31,7 +29,7 @@ pub fn all_fit(
     points: usize,
     orbitals: usize,
 ) -> bool
-    ensures { λ r. ⌜ r ≡ allLong (lengthOf (min points 256) (min orbitals 16)) (now (first .entry) ∷ now (second .entry) ∷ now (third .entry) ∷ now (fourth .entry) ∷ []) ⌝ }
+    ensures { λ r. ⌜ r ≡ allFit points orbitals (now (first .entry) ∷ now (second .entry) ∷ now (third .entry) ∷ now (fourth .entry) ∷ []) ⌝ }
 {
     let first_fits = has_length(points, orbitals, first);
     let second_fits = has_length(points, orbitals, second);

@@ -14,10 +14,7 @@ pub(crate) fn number(xs: &[f64], b: usize) -> Complex
     requires { ⌜ (b < 16) × (length (now xs) ≡ 32) ⌝ }
     ensures { λ r. ⌜ r ≡ numberAt (now (xs .entry)) b ⌝ }
 {
-    Complex {
-        re: xs[b],
-        im: xs[b + 16],
-    }
+    Complex::new(xs[b], xs[b + 16])
 }
 
 pub(crate) fn set_number(xs: &mut [f64], b: usize, z: Complex)
@@ -36,10 +33,7 @@ pub(crate) fn add_scaled(weight: f64, row: &[f64], columns: usize, totals: &mut 
     for b in 0..columns {
         let p = number(row, b);
         let z = number(totals, b);
-        let sum = z.plus(p.times(Complex {
-            re: weight,
-            im: 0.0,
-        }));
+        let sum = z.plus(p.times(Complex::real(weight)));
         set_number(totals, b, sum);
     }
 }

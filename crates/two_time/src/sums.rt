@@ -3,13 +3,14 @@ ghost use mathlib.Core.Path.{_≡_};
 ghost use mathlib.Core.Bool.{true};
 ghost use Prim.Native.Nat.{ℕ, _+_, _*_, _<_, _≤_};
 ghost use lib.ListN.{length};
+ghost use Rattle.lists.specs.Indexed.{allBelow, join};
 ghost use Rattle.complex.specs.Arithmetic.{czero, real, cadd, cmul};
 ghost use Rattle.matrix.specs.Block.{layOut};
 ghost use Rattle.matrix.specs.Operations.{product};
 ghost use Rattle.two_time.specs.Layout.{readAs, lengthOf, layOutAll};
 ghost use Rattle.two_time.specs.WeightedSum.{weightedSum};
-ghost use Rattle.two_time.specs.Sums.{weightBy, rightBy, termsBy, checkedSum, sumOrOverflow, summationAt, madeBy, blockFine, fineBy};
-ghost use Rattle.two_time.specs.Outcome.{summed};
+ghost use Rattle.two_time.specs.Sums.{weightBy, rightBy, termsBy, checkedSum, sumOrOverflow, summationAt, madeBy, blockFine, rowFine, fineBy};
+ghost use Rattle.two_time.specs.Outcome.{summed, allSummed};
 ghost use Rattle.two_time.specs.Places.{Placed};
 ghost use Rattle.two_time.specs.Walking.{rightPlace, rightStep, rightBeside, rightNumber};
 ghost use Rattle.two_time.specs.Rows.{numberAt, Mapped};
@@ -18,6 +19,7 @@ use crate::layout::clear;
 use crate::layout::function_length;
 use crate::layout::is_place;
 use crate::layout::least;
+use crate::layout::number_at;
 use crate::layout::place;
 use crate::lines::has_length;
 use crate::lines::sizes;
@@ -28,13 +30,35 @@ use crate::rows::write_row;
 use complex::Complex;
 use grid::full_weight;
 use grid::trapezoid_weight;
-use refusal::Refusal;
 use refusal::Verdict;
 
 // An entry of a block that is made during the work, or that it, or a block on the way to it, is not finite (number 10).
 pub enum CheckedEntry {
     Finite(Complex),
     Overflow,
+}
+
+// What became of the sums at all places.
+pub enum Summed {
+    // All that is made for them is finite.
+    Finite,
+    // Something is not.
+    Overflow,
+    // N, n or a slice is not what lines 1 to 3 ask for: nothing is summed.
+    Unfit,
+}
+
+impl Summed {
+    // Whether the sums are there.
+    pub fn is_finite(self) -> bool
+        ensures { λ r. ⌜ r ≡ allSummed self ⌝ }
+    {
+        match self {
+            Summed::Finite => true,
+            Summed::Overflow => false,
+            Summed::Unfit => false,
+        }
+    }
 }
 
 // The weights of a sum.
@@ -130,10 +154,7 @@ fn right_number(factor: Factor, xs: &[f64], at: usize) -> Complex
     requires { ⌜ at + 1 < length (now xs) ⌝ }
     ensures { λ r. ⌜ r ≡ rightNumber factor (entryAt (now (xs .entry)) at) ⌝ }
 {
-    let z = Complex {
-        re: xs[at],
-        im: xs[at + 1],
-    };
+    let z = number_at(xs, at);
     match factor {
         Factor::Stored => z,
         Factor::Adjoint => z.conj(),
@@ -165,10 +186,7 @@ fn product_entry(
     let step = right_step(factor, orbitals);
     let mut sum = Complex::ZERO;
     for k in 0..orbitals {
-        let x = Complex {
-            re: left[i],
-            im: left[i + 1],
-        };
+        let x = number_at(left, i);
         let y = right_number(factor, right, j);
         sum = sum.plus(x.times(y));
         i += 2;
@@ -207,7 +225,7 @@ fn sum_entry(
         let s = from + k;
         let p = product_entry(factor, left, right, stride, orbitals, t, s, u, a, b);
         let w = weight(weights, times, s);
-        total = total.plus(p.times(Complex { re: w, im: 0.0 }));
+        total = total.plus(p.times(Complex::real(w)));
     }
     if (count == 0) | total.is_finite() {
         CheckedEntry::Finite(total)
@@ -282,10 +300,7 @@ fn add_product(
     let step = right_step(factor, orbitals);
     let mut sums = [0.0; 32];
     for k in 0..orbitals {
-        let x = Complex {
-            re: left[i],
-            im: left[i + 1],
-        };
+        let x = number_at(left, i);
         add_row(factor, x, right, orbitals, j, &mut sums);
         i += 2;
         j += step;
@@ -422,29 +437,27 @@ fn block(
     true
 }
 
-// Writes the sums at all places, rows first, and answers whether all are finite.
-fn fill(
+// Writes the blocks of row t, and answers whether all are finite; at the first that is not the work ends.
+fn fill_row(
     sums: Sums,
     times: &[f64],
     left: &[f64],
     right: &[f64],
     points: usize,
     orbitals: usize,
+    t: usize,
     out: &mut [f64],
 ) -> bool
-    requires { ⌜ (0 < points) × (points ≤ 256) × (0 < orbitals) × (orbitals ≤ 16) ⌝ }
+    requires { ⌜ (t < points) × (points ≤ 256) × (0 < orbitals) × (orbitals ≤ 16) ⌝ }
     requires { ⌜ lengthOf points orbitals ≤ length (now left) ⌝ }
     requires { ⌜ lengthOf points orbitals ≤ length (now right) ⌝ }
-    requires { ⌜ length (now out) ≡ lengthOf points orbitals ⌝ }
-    ensures { λ r. ⌜ (r ≡ fineBy sums points orbitals (now (times .entry)) (now (left .entry)) (now (right .entry)))
-        × (r ≡ true → now (out .exit) ≡ layOutAll points orbitals (madeBy sums points orbitals (now (times .entry)) (now (left .entry)) (now (right .entry)))) ⌝ }
+    requires { ⌜ length (now out) ≡ points * (2 * (orbitals * orbitals)) ⌝ }
+    ensures { λ r. ⌜ (r ≡ rowFine sums points orbitals (now (times .entry)) (now (left .entry)) (now (right .entry)) t)
+        × (r ≡ true → now (out .exit) ≡ join points (λ u. layOut orbitals orbitals (madeBy sums points orbitals (now (times .entry)) (now (left .entry)) (now (right .entry)) t u))) ⌝ }
 {
     let width = 2 * (orbitals * orbitals);
-    let count = points * points;
-    for p in 0..count {
-        let t = p / points;
-        let u = p % points;
-        let start = p * width;
+    for u in 0..points {
+        let start = u * width;
         let end = start + width;
         let sum = summation_at(sums, points, t, u);
         let fine = block(
@@ -465,7 +478,46 @@ fn fill(
     true
 }
 
-// The sums at all places, laid out in the slice lent for them: lines 1 to 3, then 10, which leaves +0 throughout.
+// Writes the sums at all places, and answers whether all are finite.
+fn fill(
+    sums: Sums,
+    times: &[f64],
+    left: &[f64],
+    right: &[f64],
+    points: usize,
+    orbitals: usize,
+    out: &mut [f64],
+) -> bool
+    requires { ⌜ (0 < points) × (points ≤ 256) × (0 < orbitals) × (orbitals ≤ 16) ⌝ }
+    requires { ⌜ lengthOf points orbitals ≤ length (now left) ⌝ }
+    requires { ⌜ lengthOf points orbitals ≤ length (now right) ⌝ }
+    requires { ⌜ length (now out) ≡ lengthOf points orbitals ⌝ }
+    ensures { λ r. ⌜ (r ≡ fineBy sums points orbitals (now (times .entry)) (now (left .entry)) (now (right .entry)))
+        × (r ≡ true → now (out .exit) ≡ layOutAll points orbitals (madeBy sums points orbitals (now (times .entry)) (now (left .entry)) (now (right .entry)))) ⌝ }
+{
+    let width = points * (2 * (orbitals * orbitals));
+    for t in 0..points {
+        let start = t * width;
+        let end = start + width;
+        let fine = fill_row(
+            sums,
+            times,
+            left,
+            right,
+            points,
+            orbitals,
+            t,
+            &mut out[start..end],
+        );
+        if !fine {
+            return false;
+        }
+    }
+    true
+}
+
+// The sums at all places, laid out in the slice lent for them: +0 throughout where something is not finite, and as it was where nothing is
+// summed.
 pub fn weighted_sums(
     sums: Sums,
     times: &[f64],
@@ -474,7 +526,7 @@ pub fn weighted_sums(
     points: usize,
     orbitals: usize,
     out: &mut [f64],
-) -> Verdict
+) -> Summed
     ensures { λ r. ⌜ (r ≡ summed sums points orbitals (now (times .entry)) (now (left .entry)) (now (right .entry)) (now (out .entry)) .answer)
         × (now (out .exit) ≡ summed sums points orbitals (now (times .entry)) (now (left .entry)) (now (right .entry)) (now (out .entry)) .out) ⌝ }
 {
@@ -483,11 +535,11 @@ pub fn weighted_sums(
     let out_fits = has_length(points, orbitals, out);
     let verdict = sizes(points, orbitals, left_fits & (right_fits & out_fits));
     let Verdict::Pass = verdict else {
-        return verdict;
+        return Summed::Unfit;
     };
     if fill(sums, times, left, right, points, orbitals, out) {
-        return Verdict::Pass;
+        return Summed::Finite;
     }
     clear(out);
-    Verdict::Refused(Refusal::by(10))
+    Summed::Overflow
 }

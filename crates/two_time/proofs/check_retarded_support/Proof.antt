@@ -1,13 +1,33 @@
 -- `two_time::check_retarded_support` meets its contract: it asks the lines of `checkSupport` in their order. Assumes nothing.
-use mathlib.Core.Path.{_≡_, ap₂, _∙_}
+use mathlib.Core.Path.{_≡_, sym, ap₂, _∙_}
+use mathlib.Core.List.{[], _∷_}
+use native.Mathlib.Nat.{le-of-eq}
+use native.Mathlib.Omega.{arith}
+use denote.Ref.{now}
 use borrow.Author.Needs.{needs}
 use Rattle.refusal.specs.Verdict.{_then_}
-use Rattle.two_time.specs.SizeLines.{sizes-one}
-use Rattle.two_time.specs.AskingSupport.{support-asked}
+use Rattle.refusal.specs.Agreement.{then-after, then-refused}
+use Rattle.two_time.specs.Calls.{checkSupport}
+use Rattle.two_time.specs.SizeLines.{sizes-one, long-first}
+use Rattle.two_time.specs.Working.{operands-last}
+use Rattle.two_time.specs.AskingSupport.{beforeNine, nine-last, nine-sizes}
 use Rattle.two_time.proofs.check_retarded_support.Statement.{statement}
 use Rattle.two_time.proofs.check_retarded_support.Tie as tie
 
+abbrev start : tie.After-then2 → tie.Start
+start c = c .before .before .before .before .before .before .before
+
+-- the lines before 9
+asked : (c : tie.After-then2) → let x = start c .args in c .then2 .result ≡ beforeNine (x .points) (x .orbitals) (now (x .xs) ∷ []) (x .tolerance)
+asked c =
+    let s = c .before in
+    let f = s .before in
+    c .then2 .ensures
+    ∙ ap₂ _then_ (sizes-one _ _ _ (f .before .before .before .has-length .ensures) (s .sizes .ensures))
+    (f .then .ensures ∙ ap₂ _then_ (operands-last 0 _ _ (f .before .before .operand .ensures)) (f .before .valid-tolerance .ensures))
+
 pub check-retarded-support-spec : {M : Type 1} → statement M
+unfolding checkSupport
 check-retarded-support-spec =
     tie.close
     (tie.spec
@@ -16,13 +36,21 @@ check-retarded-support-spec =
     (λ c κs. search needs)  -- valid-tolerance-requires
     (λ c κs. search needs)  -- then-requires
     (λ c κs. search needs)  -- sizes-requires
-    (λ c κs. search needs)  -- retarded-requires
     (λ c κs. search needs)  -- then-requires-2
-    (λ c κs. search needs)  -- then-requires-3
+    (λ c. search needs)  -- enum-told
+    (λ c. search needs)  -- enum-told-2
     (λ c.
-    let asked = c .before .before .before .before in
-    c .then3 .ensures
-    ∙ ap₂ _then_ (sizes-one _ _ _ (asked .before .before .before .has-length .ensures) (c .before .before .before .sizes .ensures))
-    (c .before .then2 .ensures
-    ∙ ap₂ _then_ (asked .then .ensures ∙ ap₂ _then_ (asked .before .before .operand .ensures) (asked .before .valid-tolerance .ensures)) (c .before .before .retarded .ensures))
-    ∙ support-asked _ _ _ _))  -- returns
+    let told = c .enum-told2 .given .1 in
+    let v = c .before .before in
+    let x = start v .args in
+    told ∙ sym (then-refused _ _ _ (sym (asked v) ∙ told)) ∙ nine-last (x .points) (x .orbitals) (now (x .xs) ∷ []) (x .tolerance) _)  -- returns
+    (λ c κs.
+    let v = c .before .before in
+    let x = start v .args in
+    let z = nine-sizes (x .points) (x .orbitals) (now (x .xs) ∷ []) (x .tolerance) (sym (asked v) ∙ c .enum-told .given .1) in
+    ((omega arith, z .points-most, z .orbitals-most), le-of-eq (sym (long-first _ _ _ (z .long) .0))))  -- retarded-requires
+    (λ c.
+    let e = c .before in
+    let v = e .before .before in
+    let x = start v .args in
+    c .retarded .ensures ∙ sym (then-after _ _ (sym (asked v) ∙ e .enum-told .given .1)) ∙ nine-last (x .points) (x .orbitals) (now (x .xs) ∷ []) (x .tolerance) _))  -- returns-2

@@ -7,13 +7,14 @@ use lib.ListN.{length}
 use denote.Ref.{now}
 use borrow.Author.Needs.{needs}
 use Rattle.refusal.specs.declared.Verdict.{Verdict}
+use Rattle.refusal.specs.declared.Verdict.the-variants.{Refused}
 use Rattle.refusal.specs.Verdict.{_then_}
 use Rattle.two_time.specs.Layout.{layOutAll}
 use Rattle.two_time.specs.Sums.{madeBy}
-use Rattle.two_time.specs.Calls.{Convolved, inputLines, convolved}
-use Rattle.two_time.specs.Outcome.{convolvedBy, same-outcome}
-use Rattle.two_time.specs.SizeLines.{sizes-asked, fits-last, fits-more}
-use Rattle.two_time.specs.Working.{kept, inputs-keeping, operands-last, operands-more, inputs-asked}
+use Rattle.two_time.specs.Calls.{inputLines, convolved}
+use Rattle.two_time.specs.Outcome.{convolvedBy, sums-finite, sums-overflow}
+use Rattle.two_time.specs.SizeLines.{SizesPassed, sizes-asked, fits-more, long-first}
+use Rattle.two_time.specs.Working.{accepted, overflowed, kept, inputs-keeping, inputs-sizes, operands-last, operands-more, inputs-asked}
 use Rattle.two_time.proofs.convolution.convolve.Statement.{statement}
 use Rattle.two_time.proofs.convolution.convolve.Tie as tie
 
@@ -34,28 +35,64 @@ asked c =
     let entries = sizes .before in
     inputs-asked (x .points) (x .orbitals) (now (x .times)) (now (x .left) ∷ now (x .right) ∷ []) (now (x .out) ∷ []) (sizes .sizes .result) (grid .time-lines .result) (entries .then .result) _
     (sizes-asked (x .points) (x .orbitals) (now (x .left) ∷ now (x .right) ∷ now (x .out) ∷ []) (eqb (length (now (x .times))) (x .points)) _ _
-    (fits-more _ _ _ _ _ _ (h .before .before .before .has-length .ensures) (fits-more _ _ _ _ _ _ (h .before .before .has-length2 .ensures) (fits-last _ _ _ _ (h .has-length3 .ensures))))
+    (fits-more _ _ _ _ _ _ (h .before .before .before .has-length .ensures) (fits-more _ _ _ _ _ _ (h .before .before .has-length2 .ensures) (h .has-length3 .ensures)))
     (sizes .sizes .ensures))
     (grid .time-lines .ensures)
     (operands-more 0 (now (x .left)) (now (x .right) ∷ []) _ _ _ (entries .before .before .operand .ensures) (operands-last 1 (now (x .right)) _ (entries .before .operand2 .ensures)) (entries .then .ensures))
     (c .then3 .ensures ∙ ap (λ (v : Verdict). sizes .sizes .result then v) (c .before .then2 .ensures))
 
+-- what is made
+abbrev numbers : tie.After-then3 → List Float
+numbers c = let x = start c .args in layOutAll (x .points) (x .orbitals) (madeBy (x .sums) (x .points) (x .orbitals) (now (x .times)) (now (x .left)) (now (x .right)))
+
 returns : tie.Need-returns
 unfolding convolvedBy convolved
 returns c =
     let s = c .before .before in
-    let x = start s .args in
-    let k = kept _ _ (asked s) (layOutAll (x .points) (x .orbitals) (madeBy (x .sums) (x .points) (x .orbitals) (now (x .times)) (now (x .left)) (now (x .right)))) (now (x .out)) (inputs-keeping _ _ _ _ _) _ (c .enum-told2 .given .1) _ in
+    let k = kept _ _ (asked s) (numbers s) (now (start s .args .out)) (inputs-keeping _ _ _ _ _) _ (c .enum-told2 .given .1) _ in
     (k .answered, k .holds)
 
+abbrev told : tie.After-is-finite → tie.After-enum-told
+told c = c .before .before .before .before .before
+
+-- the slices have their length
+module _ (c : tie.After-is-finite) where
+  abbrev asks : tie.After-then3
+  asks = told c .before .before
+
+  sizes : let x = start asks .args in SizesPassed (x .points) (x .orbitals) (eqb (length (now (x .times))) (x .points)) (now (x .left) ∷ now (x .right) ∷ now (x .out) ∷ [])
+  sizes = inputs-sizes _ _ _ (now (start asks .args .left) ∷ now (start asks .args .right) ∷ []) (now (start asks .args .out) ∷ []) (sym (asked asks) ∙ told c .enum-told .given .1)
+
 returns-2 : tie.Need-returns-2
+unfolding convolvedBy convolved
 returns-2 c =
-    let w = c .before .before in
-    let e = w .before .before in
-    let s = e .before .before in
+    let f = c .before in
+    let w = f .before .before .before in
+    let e = told f in
+    let s = asks f in
     let x = start s .args in
-    let same = same-outcome (x .sums) (x .points) (x .orbitals) (now (x .times)) (now (x .left)) (now (x .right)) (now (x .out)) (sym (asked s) ∙ e .enum-told .given .1) in
-    (w .weighted-sums .ensures .0 ∙ ap (λ (o : Convolved). o .answer) same, w .weighted-sums .ensures .1 ∙ ap (λ (o : Convolved). o .out) same)
+    let l = long-first _ _ _ (sizes f .long) in
+    let r = long-first _ _ _ (l .1) in
+    let o = long-first _ _ _ (r .1) in
+    let made = sums-finite (x .sums) (x .points) (x .orbitals) (now (x .times)) (now (x .left)) (now (x .right)) (now (x .out)) (sizes f) (l .0) (r .0) (o .0) _ _ (w .weighted-sums .ensures .0) (w .weighted-sums .ensures .1) (sym (f .is-finite .ensures) ∙ c .if1 .taken) in
+    let k = accepted _ _ (asked s) (numbers s) (now (x .out)) (e .enum-told .given .1) _ (made .0) in
+    (k .answered, made .1 ∙ k .holds)
+
+returns-3 : tie.Need-returns-3
+unfolding convolvedBy convolved
+returns-3 c =
+    let i = c .before in
+    let f = i .before in
+    let w = f .before .before .before in
+    let e = told f in
+    let s = asks f in
+    let x = start s .args in
+    let l = long-first _ _ _ (sizes f .long) in
+    let r = long-first _ _ _ (l .1) in
+    let o = long-first _ _ _ (r .1) in
+    let lost = sums-overflow (x .sums) (x .points) (x .orbitals) (now (x .times)) (now (x .left)) (now (x .right)) (now (x .out)) (sizes f) (l .0) (r .0) (o .0) _ _ (w .weighted-sums .ensures .0) (w .weighted-sums .ensures .1) (sym (f .is-finite .ensures) ∙ i .if1 .left) in
+    let k = overflowed _ _ (asked s) (numbers s) (now (x .out)) (e .enum-told .given .1) _ (lost .0) in
+    (ap Refused (c .by .ensures) ∙ k .answered, lost .1 ∙ k .holds)
 
 pub convolve-spec : {M : Type 1} → statement M
 convolve-spec =
@@ -76,5 +113,9 @@ convolve-spec =
     (λ c. search needs)  -- same-length
     returns
     (λ c κs. search needs)  -- weighted-sums-requires
+    (λ c κs. search needs)  -- is-finite-requires
     (λ c. search needs)  -- same-length-2
-    returns-2)
+    returns-2
+    (λ c κs. search needs)  -- by-requires
+    (λ c. search needs)  -- same-length-3
+    returns-3)

@@ -1,15 +1,15 @@
 -- `two_time::layout::read` meets its contract. Assumes nothing.
-use mathlib.Core.Path.{_≡_, sym, _∙_}
+use mathlib.Core.Path.{_≡_, sym, ap, _∙_}
 use mathlib.Core.Bool.{Bool, true, false, _&&_}
 use Prim.Native.Nat.{_≤_}
 use lib.Dec.{leb}
 use lib.ListN.{length}
-use lib.Ieee as Ieee
 use denote.Ref.{now}
 use borrow.Author.Needs.{needs}
 use borrow.Author.Tests.{leb-true}
 use Rattle.lists.specs.Agreement.{both}
-use Rattle.two_time.specs.Layout.{lengthOf, isPlace, readWithin}
+use Rattle.two_time.specs.declared.layout.Stored.the-variants.{Entry}
+use Rattle.two_time.specs.Layout.{lengthOf, isPlace, storedAt}
 use Rattle.two_time.specs.Places.{Placed, is-placed}
 use Rattle.two_time.specs.Reaching.{within-asked}
 use Rattle.two_time.proofs.layout.read.Statement.{statement}
@@ -32,11 +32,11 @@ inside c =
     (is-placed (x .stride) (x .orbitals) (x .t) (x .u) (x .a) (x .b) (p .0), leb-true _ _ (p .1))
 
 returns : tie.Need-returns
-unfolding readWithin
-returns c = rw (test (c .before .before) true (c .before .if1 .taken)) (c .entry .ensures)
+unfolding storedAt
+returns c = rw (test (c .before .before) true (c .before .if1 .taken)) (ap Entry (c .entry .ensures))
 
 returns-2 : tie.Need-returns-2
-unfolding readWithin Ieee.div Ieee.ofBits
+unfolding storedAt
 returns-2 c = rw (test (c .before) false (c .if1 .left))
 
 pub read-spec : {M : Type 1} → statement M

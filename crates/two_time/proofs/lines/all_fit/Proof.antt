@@ -1,6 +1,6 @@
 -- `two_time::lines::all_fit` meets its contract. Assumes nothing.
 use borrow.Author.Needs.{needs}
-use Rattle.two_time.specs.SizeLines.{fits-last, fits-more}
+use Rattle.two_time.specs.SizeLines.{fits-more}
 use Rattle.two_time.proofs.lines.all_fit.Statement.{statement}
 use Rattle.two_time.proofs.lines.all_fit.Tie as tie
 
@@ -12,4 +12,4 @@ all-fit-spec =
     (λ c κs. search needs)  -- has-length-requires-2
     (λ c κs. search needs)  -- has-length-requires-3
     (λ c κs. search needs)  -- has-length-requires-4
-    (λ c. fits-more _ _ _ _ _ _ (c .before .before .before .has-length .ensures) (fits-more _ _ _ _ _ _ (c .before .before .has-length2 .ensures) (fits-more _ _ _ _ _ _ (c .before .has-length3 .ensures) (fits-last _ _ _ _ (c .has-length4 .ensures))))))  -- returns
+    (λ c. fits-more _ _ _ _ _ _ (c .before .before .before .has-length .ensures) (fits-more _ _ _ _ _ _ (c .before .before .has-length2 .ensures) (fits-more _ _ _ _ _ _ (c .before .has-length3 .ensures) (c .has-length4 .ensures)))))  -- returns

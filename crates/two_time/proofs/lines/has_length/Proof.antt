@@ -1,11 +1,20 @@
 -- `two_time::lines::has_length` meets its contract. Assumes nothing.
-use mathlib.Core.Path.{ap}
-use lib.Dec.{eqb}
+use mathlib.Core.Path.{ap, _∙_}
+use mathlib.Core.Bool.{Bool, _&&_}
+use lib.Dec.{eqb, leb}
+use Prim.Native.Nat.{ℕ}
 use lib.ListN.{length}
 use denote.Ref.{now}
 use borrow.Author.Needs.{needs}
+use Rattle.two_time.specs.SizeLines.{fits-one}
 use Rattle.two_time.proofs.lines.has_length.Statement.{statement}
 use Rattle.two_time.proofs.lines.has_length.Tie as tie
 
 pub has-length-spec : {M : Type 1} → statement M
-has-length-spec = tie.close (tie.spec (λ c κs. search needs) (λ c. ap (eqb (length (now (c .before .before .args .xs)))) (c .function-length .ensures)))
+has-length-spec =
+    tie.close
+    (tie.spec
+    (λ c κs. search needs)  -- function-length-requires
+    (λ c.
+    let x = c .before .before .args in
+    ap (λ (m : ℕ). (leb (x .points) 256 && leb (x .orbitals) 16) && eqb (length (now (x .xs))) m) (c .function-length .ensures) ∙ fits-one (x .points) (x .orbitals) (now (x .xs))))  -- returns

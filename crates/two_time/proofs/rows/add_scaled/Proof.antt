@@ -1,5 +1,5 @@
 -- `two_time::rows::add_scaled` meets its contract: before turn b the first b totals are made. Assumes nothing.
-use mathlib.Core.Path.{ap, ap₂, _∙_}
+use mathlib.Core.Path.{ap₂, _∙_}
 use mathlib.Core.List.{List}
 use Prim.Native.Nat.{ℕ, _-_, _≤_}
 use native.Mathlib.Omega.{arith}
@@ -27,14 +27,15 @@ loop-again c =
     let set = c .before .before in
     let plus = set .before .before in
     let times = plus .before in
-    let z = times .before in
+    let w = times .before in
+    let z = w .before in
     let p = z .before .before in
     let l = p .before .before in
     let s = l .before .before .before in
     let x = s .args in (
       omega arith,
       mapped-next (made (x .weight) (now (x .row))) (l .loop .b) (now (x .totals)) (l .loop .totals) _ (plus .plus .result) (l .loop .inv .1) (s .pre .2) (omega arith)
-          (plus .plus .ensures ∙ ap₂ cadd (z .number2 .ensures) (times .times .ensures ∙ ap (λ (y : Complex). cmul y (real (x .weight))) (p .number .ensures)))
+          (plus .plus .ensures ∙ ap₂ cadd (z .number2 .ensures) (times .times .ensures ∙ ap₂ cmul (p .number .ensures) (w .real .ensures)))
           (set .set-number .ensures),
     )
 
@@ -47,6 +48,7 @@ add-scaled-spec =
     (λ c. (omega arith, mapped-none _ _))  -- loop-holds
     (λ c κs. search needs)  -- number-requires
     (λ c κs. search needs)  -- number-requires-2
+    (λ c κs. search needs)  -- real-requires
     (λ c κs. search needs)  -- times-requires
     (λ c κs. search needs)  -- plus-requires
     (λ c κs. search needs)  -- set-number-requires

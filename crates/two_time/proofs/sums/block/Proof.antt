@@ -17,12 +17,11 @@ use Rattle.lists.specs.Turns.{all-more, join-more}
 use Rattle.lists.specs.Filling.{over, over-none, over-part}
 use Rattle.refusal.specs.Search.{all-no}
 use Rattle.complex.specs.Arithmetic.{czero}
-use Rattle.complex.specs.Filling.{length-cells}
 use Rattle.two_time.specs.WeightedSum.{Terms, weightedSum, finiteSum}
 use Rattle.two_time.specs.Sums.{termsBy, blockFine}
 use Rattle.two_time.specs.Places.{product-most}
-use Rattle.two_time.specs.Filling.{part-within}
-use Rattle.two_time.specs.RowSums.{row-finite, row-cells, rowOf, length-rows, rows-laid}
+use Rattle.two_time.specs.Filling.{part-within, length-parts}
+use Rattle.two_time.specs.RowSums.{row-finite, row-cells, rowOf, length-row, rows-laid}
 use Rattle.two_time.proofs.sums.block.Statement.{statement}
 use Rattle.two_time.proofs.sums.block.Tie as tie
 
@@ -95,7 +94,7 @@ loop-again c =
       o .out .given .1 ∙ i .1,
       r .sum-row .kept .1 .1 .1 .1 .1 .1 .1 .1 .1 .0 ∙ i .2,
       rw (all-more, i .3) (sym (told w) ∙ not-false _ (c .if1 .left)),
-      rw (i .4, e, join-more) (over-part (now (x .out)) (join a (rowOf n f)) (rowOf n f a) (a * (2 * n)) (a * (2 * n) + 2 * n - a * (2 * n)) (length-rows n f a) (length-cells n (f a) ∙ omega arith)),
+      rw (i .4, e, join-more) (over-part (now (x .out)) (join a (rowOf n f)) (rowOf n f a) (a * (2 * n)) (a * (2 * n) + 2 * n - a * (2 * n)) (length-parts (2 * n) (rowOf n f) (length-row n f) a) (length-row n f a ∙ omega arith)),
     )
 
 returns-2 : tie.Need-returns-2 Inv-loop μ-loop

@@ -49,23 +49,11 @@ turn c =
 
 -- the sizes of turn k, of plain numbers
 module _ (i : ℕ) {len : ℕ} (h : i + 1 < len) where
-  eight : len ≤ 33554432 → Fits w64 (i * 8)
-  eight m = omega arith
-
-  one : len ≤ 33554432 → Fits w64 (i + 1)
-  one m = omega arith
-
-  next-eight : len ≤ 33554432 → Fits w64 ((i + 1) * 8)
-  next-eight m = omega arith
-
   onward : {s : ℕ} → s ≤ 32 → len ≤ 33554432 → Fits w64 (i + s)
   onward a m = omega arith
 
   two : len ≤ 33554432 → Fits w64 (i + 2)
   two m = omega arith
-
-  at : {l : ℕ} → len ≤ l → i < l
-  at m = omega arith
 
   at-next : {l : ℕ} → len ≤ l → i + 1 < l
   at-next m = omega arith
@@ -73,7 +61,8 @@ module _ (i : ℕ) {len : ℕ} (h : i + 1 < len) where
 loop-again : tie.Need-loop-again Inv-loop μ-loop
 loop-again c =
     let r = c .before .before in
-    let t = r .before .before .before in
+    let z = r .before in
+    let t = z .before in
     let l = t .before in
     let x = start l .args in
     let k = l .loop .k in
@@ -81,7 +70,7 @@ loop-again c =
     let y : r .right-number .result ≡ rightBy (x .factor) (readAs (x .stride) (x .orbitals) (now (x .right))) (x .s) (x .u) k (x .b) =
     r .right-number .ensures ∙ ap (λ (j : ℕ). rightNumber (x .factor) (entryAt (now (x .right)) j)) (i .3) ∙ right-read (x .factor) (x .stride) (x .orbitals) (now (x .right)) (x .s) (x .u) k (x .b) in (
       omega arith,
-      c .plus .ensures ∙ ap₂ cadd (i .1) (c .before .times .ensures ∙ ap₂ cmul (ap (entryAt (now (x .left))) (i .2)) y) ∙ sym (sum-more czero _ k),
+      c .plus .ensures ∙ ap₂ cadd (i .1) (c .before .times .ensures ∙ ap₂ cmul (z .number-at .ensures ∙ ap (entryAt (now (x .left))) (i .2)) y) ∙ sym (sum-more czero _ k),
       ap (λ (m : ℕ). m + 2) (i .2) ∙ left-next (x .stride) (x .orbitals) (x .t) (x .s) (x .a) k,
       ap₂ (λ (m s : ℕ). m + s) (i .3) (l .before .right-step .ensures) ∙ right-next (x .factor) (x .stride) (x .orbitals) (x .s) (x .u) k (x .b),
     )
@@ -97,16 +86,12 @@ product-entry-spec =
     (λ c κs. let q = c .before .before .before .pre .1 .0 in entry-placed 0 _ q (omega (arith, q .row)) (q .column))  -- right-place-requires
     (λ c κs. c .before .before .before .before .pre .0 .orbitals-most)  -- right-step-requires
     (λ c. (omega arith, sym (sum-none czero _ 0), c .before .before .place .ensures .0, c .before .right-place .ensures))  -- loop-holds
-    (λ c. let t = turn c in eight _ (t .left) (t .all))  -- mul-t19
-    (λ c. at _ (turn (c .before) .left) (start (c .before .before) .pre .1 .1 .0))  -- shared-slice-read-t21
-    (λ c. let t = turn (c .before) in one _ (t .left) (t .all))  -- add-t22
-    (λ c. let t = turn (c .before) in next-eight _ (t .left) (t .all))  -- mul-t23
-    (λ c. at-next _ (turn (c .before .before) .left) (start (c .before .before .before) .pre .1 .1 .0))  -- shared-slice-read-t25
-    (λ c κs. at-next _ (turn (c .before .before) .right) (start (c .before .before .before) .pre .1 .1 .1))  -- right-number-requires
+    (λ c κs. at-next _ (turn c .left) (start (c .before) .pre .1 .1 .0))  -- number-at-requires
+    (λ c κs. at-next _ (turn (c .before) .right) (start (c .before .before) .pre .1 .1 .1))  -- right-number-requires
     (λ c κs. search needs)  -- times-requires
     (λ c κs. search needs)  -- plus-requires
-    (λ c. let t = turn (c .before .before .before .before .before) in two _ (t .left) (t .all))  -- add-i
-    (λ c. let t = turn (c .before .before .before .before .before) in onward _ (t .right) (t .short) (t .all))  -- add-j
+    (λ c. let t = turn (c .before .before .before .before) in two _ (t .left) (t .all))  -- add-i
+    (λ c. let t = turn (c .before .before .before .before) in onward _ (t .right) (t .short) (t .all))  -- add-j
     (λ c. search needs)  -- add-k
     (λ c. search needs)  -- loop-less
     loop-again

@@ -1,6 +1,7 @@
 -- `two_time::sums::right_number` meets its contract. Assumes nothing.
-use mathlib.Core.Path.{_≡_}
+use mathlib.Core.Path.{_≡_, ap, _∙_}
 use borrow.Author.Needs.{needs}
+use Rattle.complex.specs.Arithmetic.{conj}
 use Rattle.two_time.specs.Walking.{rightNumber}
 use Rattle.two_time.proofs.sums.right_number.Statement.{statement}
 use Rattle.two_time.proofs.sums.right_number.Tie as tie
@@ -10,13 +11,9 @@ unfolding rightNumber
 right-number-spec =
     tie.close
     (tie.spec
-    (λ c. search needs)  -- mul-t5
-    (λ c. search needs)  -- shared-slice-read-t7
-    (λ c. search needs)  -- add-t8
-    (λ c. search needs)  -- mul-t9
-    (λ c. search needs)  -- shared-slice-read-t11
+    (λ c κs. search needs)  -- number-at-requires
     (λ c. search needs)  -- enum-told
     (λ c. search needs)  -- enum-told-2
     (λ c κs. search needs)  -- conj-requires
-    (λ c. rw (c .enum-told .given .1))  -- returns
-    (λ c. rw (c .before .enum-told2 .given .1) (c .conj .ensures)))  -- returns-2
+    (λ c. rw (c .enum-told .given .1) (c .before .before .number-at .ensures))  -- returns
+    (λ c. rw (c .before .enum-told2 .given .1) (c .conj .ensures ∙ ap conj (c .before .before .before .number-at .ensures))))  -- returns-2

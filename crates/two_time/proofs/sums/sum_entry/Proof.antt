@@ -10,7 +10,7 @@ use lib.Ieee.{Float}
 use denote.Ref.{now}
 use borrow.Author.Needs.{needs}
 use Rattle.complex.specs.declared.Complex.{Complex}
-use Rattle.complex.specs.Arithmetic.{cadd}
+use Rattle.complex.specs.Arithmetic.{cadd, cmul}
 use Rattle.two_time.specs.declared.sums.Summation.{Summation}
 use Rattle.two_time.specs.WeightedSum.{Terms, partialSum, weightedSum}
 use Rattle.two_time.specs.Sums.{termsBy}
@@ -44,11 +44,12 @@ whole c =
 
 loop-again : tie.Need-loop-again Inv-loop μ-loop
 loop-again c =
-    let w = c .before .before in
+    let r = c .before .before in
+    let w = r .before in
     let p = w .before in
     let l = p .before .before in
     let total = l .loop .total in
-    (omega arith, partial-turn _ _ _ _ (l .loop .k) total (p .product-entry .result) _ (w .weight .result) (l .loop .inv .1) (p .product-entry .ensures) (w .weight .ensures) (c .plus .ensures ∙ ap (cadd total) (c .before .times .ensures)))
+    (omega arith, partial-turn _ _ _ _ (l .loop .k) total (p .product-entry .result) _ (w .weight .result) (l .loop .inv .1) (p .product-entry .ensures) (w .weight .ensures) (c .plus .ensures ∙ ap (cadd total) (c .before .times .ensures ∙ ap (cmul (p .product-entry .result)) (r .real .ensures))))
 
 returns : tie.Need-returns Inv-loop μ-loop
 returns c =
@@ -72,6 +73,7 @@ sum-entry-spec =
     (λ c. search needs)  -- add-s
     (λ c κs. search needs)  -- product-entry-requires
     (λ c κs. search needs)  -- weight-requires
+    (λ c κs. search needs)  -- real-requires
     (λ c κs. search needs)  -- times-requires
     (λ c κs. search needs)  -- plus-requires
     (λ c. search needs)  -- add-k

@@ -1,22 +1,19 @@
--- `two_time::sums::weighted_sums` meets its contract: refused, accepted, or 10 with the slice cleared. Assumes nothing.
-use mathlib.Core.Path.{_≡_, refl, sym, ap, _∙_}
-use mathlib.Core.Bool.{Bool, true, false}
+-- `two_time::sums::weighted_sums` meets its contract: unfit, finite, or not finite with the slice cleared. Assumes nothing.
+use mathlib.Core.Path.{_≡_, sym, ap, _∙_}
+use mathlib.Core.Bool.{true}
 use mathlib.Core.List.{List, [], _∷_}
 use lib.Ieee.{Float}
 use Prim.Native.Nat.{ℕ}
 use native.Mathlib.Omega.{arith}
-use lib.ListN.{length, replicate}
+use lib.ListN.{replicate}
 use denote.Ref.{now}
 use borrow.Author.Needs.{needs}
 use Rattle.complex.specs.Arithmetic.{plusZero}
 use Rattle.refusal.specs.declared.Verdict.{Verdict}
 use Rattle.refusal.specs.declared.Verdict.the-variants.{Refused}
-use Rattle.two_time.specs.Layout.{layOutAll}
-use Rattle.two_time.specs.Sums.{madeBy, fineBy}
 use Rattle.two_time.specs.Calls.{sizeLines}
-use Rattle.two_time.specs.Outcome.{summed}
-use Rattle.two_time.specs.SizeLines.{SizesPassed, sizes-passed, sizes-asked, fits-last, fits-more, long-first}
-use Rattle.two_time.specs.Working.{accepted, overflowed, kept, sizes-keeping}
+use Rattle.two_time.specs.Outcome.{summed, summedAfter}
+use Rattle.two_time.specs.SizeLines.{SizesPassed, sizes-passed, sizes-asked, fits-more, long-first}
 use Rattle.two_time.proofs.sums.weighted_sums.Statement.{statement}
 use Rattle.two_time.proofs.sums.weighted_sums.Tie as tie
 
@@ -29,19 +26,13 @@ slices c = let x = start c .args in now (x .left) ∷ now (x .right) ∷ now (x 
 abbrev lines : tie.After-sizes → Verdict
 lines c = let x = start c .args in sizeLines (x .points) (x .orbitals) true (slices c)
 
-abbrev numbers : tie.After-sizes → List Float
-numbers c = let x = start c .args in layOutAll (x .points) (x .orbitals) (madeBy (x .sums) (x .points) (x .orbitals) (now (x .times)) (now (x .left)) (now (x .right)))
-
-abbrev fine : tie.After-sizes → Bool
-fine c = let x = start c .args in fineBy (x .sums) (x .points) (x .orbitals) (now (x .times)) (now (x .left)) (now (x .right))
-
 -- the verdict is that of lines 1 to 3
 asked : (c : tie.After-sizes) → c .sizes .result ≡ lines c
 asked c =
     let x = start c .args in
     let h = c .before in
     sizes-asked (x .points) (x .orbitals) (slices c) true _ _
-    (fits-more _ _ _ _ _ _ (h .before .before .before .has-length .ensures) (fits-more _ _ _ _ _ _ (h .before .before .has-length2 .ensures) (fits-last _ _ _ _ (h .has-length3 .ensures))))
+    (fits-more _ _ _ _ _ _ (h .before .before .before .has-length .ensures) (fits-more _ _ _ _ _ _ (h .before .before .has-length2 .ensures) (h .has-length3 .ensures)))
     (c .sizes .ensures)
 
 -- what it says that they pass
@@ -49,11 +40,8 @@ sizes : (c : tie.After-enum-told) → let s = c .before .before in SizesPassed (
 sizes c = sizes-passed _ _ _ _ (sym (asked (c .before .before)) ∙ c .enum-told .given .1)
 
 returns : tie.Need-returns
-unfolding summed
-returns c =
-    let s = c .before .before in
-    let k = kept _ _ (asked s) (numbers s) (now (start s .args .out)) (sizes-keeping _ _ _ _) _ (c .enum-told2 .given .1) _ in
-    (k .answered, k .holds)
+unfolding summed summedAfter
+returns c = let lines : lines (c .before .before) ≡ Refused _ = sym (asked (c .before .before)) ∙ c .enum-told2 .given .1 in (rw lines, rw lines)
 
 fill-requires : tie.Need-fill-requires
 fill-requires c κs =
@@ -65,24 +53,24 @@ fill-requires c κs =
     ((omega arith, z .points-most, omega arith, z .orbitals-most), (omega arith, (omega arith, o .0)))
 
 returns-2 : tie.Need-returns-2
-unfolding summed
+unfolding summed summedAfter
 returns-2 c =
     let f = c .before .before .before in
     let e = f .before .before in
-    let s = e .before .before in
-    let k = accepted _ _ (asked s) (numbers s) (now (start s .args .out)) (e .enum-told .given .1) (fine s) (sym (f .fill .ensures .0) ∙ c .if1 .taken) in
-    (k .answered, f .fill .ensures .1 (c .if1 .taken) ∙ k .holds)
+    let pass = sym (asked (e .before .before)) ∙ e .enum-told .given .1 in
+    let fine = sym (f .fill .ensures .0) ∙ c .if1 .taken in
+    (rw (pass, fine), rw (pass, fine) (f .fill .ensures .1 (c .if1 .taken)))
 
 returns-3 : tie.Need-returns-3
-unfolding summed
+unfolding summed summedAfter
 returns-3 c =
-    let d = c .before .before .before in
+    let d = c .before .before in
     let i = d .before .before in
     let f = i .before .before .before in
     let e = f .before .before in
-    let s = e .before .before in
-    let k = overflowed _ _ (asked s) (numbers s) (now (start s .args .out)) (e .enum-told .given .1) (fine s) (sym (f .fill .ensures .0) ∙ i .if1 .left) in
-    (ap Refused (c .by .ensures) ∙ k .answered, d .clear .ensures ∙ ap (λ (m : ℕ). replicate m plusZero) (f .fill .kept .1 .1 .1 .1 .1 .1 .0) ∙ k .holds)
+    let pass = sym (asked (e .before .before)) ∙ e .enum-told .given .1 in
+    let fine = sym (f .fill .ensures .0) ∙ i .if1 .left in
+    (rw (pass, fine), rw (pass, fine) (d .clear .ensures ∙ ap (λ (m : ℕ). replicate m plusZero) (f .fill .kept .1 .1 .1 .1 .1 .1 .0)))
 
 pub weighted-sums-spec : {M : Type 1} → statement M
 weighted-sums-spec =
@@ -100,6 +88,5 @@ weighted-sums-spec =
     (λ c. search needs)  -- same-length-2
     returns-2
     (λ c κs. search needs)  -- clear-requires
-    (λ c κs. search needs)  -- by-requires
     (λ c. search needs)  -- same-length-3
     returns-3)
