@@ -1,7 +1,6 @@
 -- The outcome of a call that lays the sums at all places out in a lent slice: asked of its sizes alone, and of all its input.
 use mathlib.Core.Path.{_≡_, refl, sym, ap, _∙_}
 use Prim.Native.Nat.{ℕ}
-use native.Mathlib.Omega.{arith}
 use mathlib.Core.Bool.{Bool, true, false}
 use mathlib.Core.List.{List, [], _∷_}
 use lib.ListN.{length, replicate}
@@ -24,11 +23,17 @@ pub record SumsLeft : Type 0 where
   pub answer : Summed
   pub out : List Float
 
--- where lines 1 to 3 refuse nothing is summed
-unfoldable pub summedAfter : Verdict → Bool → List Float → List Float → SumsLeft
-summedAfter (Refused r) fine made before = record { answer = Unfit; out = before }
-summedAfter Pass true made before = record { answer = Finite; out = made }
-summedAfter Pass false made before = record { answer = Overflow; out = replicate (length before) plusZero }
+-- the answer: where lines 1 to 3 refuse nothing is summed
+unfoldable pub summedAnswer : Verdict → Bool → Summed
+summedAnswer (Refused r) fine = Unfit
+summedAnswer Pass true = Finite
+summedAnswer Pass false = Overflow
+
+-- what a lent slice holds afterwards
+unfoldable pub summedOut : Summed → List Float → List Float → List Float
+summedOut Finite made before = made
+summedOut Overflow made before = replicate (length before) plusZero
+summedOut Unfit made before = before
 
 -- the sums are there
 unfoldable pub allSummed : Summed → Bool
@@ -36,19 +41,39 @@ allSummed Finite = true
 allSummed Overflow = false
 allSummed Unfit = false
 
+-- what an answer says once lines 1 to 3 pass: all was finite and made, or something was not and +0 is left
+module _ (v : Verdict) (fine : Bool) (passed : v ≡ Pass) (answer : Summed) (answered : answer ≡ summedAnswer v fine) where
+  pub left-finite : allSummed answer ≡ true → (fine ≡ true) × ((made before after : List Float) → after ≡ summedOut (summedAnswer v fine) made before → after ≡ made)
+  unfolding summedAnswer summedOut allSummed
+  left-finite h = by-flag fine refl
+    where
+      by-flag : (f : Bool) → fine ≡ f → (fine ≡ true) × ((made before after : List Float) → after ≡ summedOut (summedAnswer v fine) made before → after ≡ made)
+      by-flag true e = (e, λ made before after s. s ∙ rw (passed, e))
+      by-flag false e = let lost : answer ≡ Overflow = answered ∙ rw (passed, e) in never (sym (ap allSummed lost) ∙ h)
+
+  pub left-overflow : allSummed answer ≡ false → (fine ≡ false) × ((made before after : List Float) → after ≡ summedOut (summedAnswer v fine) made before → after ≡ replicate (length before) plusZero)
+  unfolding summedAnswer summedOut allSummed
+  left-overflow h = by-flag fine refl
+    where
+      by-flag : (f : Bool) → fine ≡ f → (fine ≡ false) × ((made before after : List Float) → after ≡ summedOut (summedAnswer v fine) made before → after ≡ replicate (length before) plusZero)
+      by-flag true e = let there : answer ≡ Finite = answered ∙ rw (passed, e) in never (sym h ∙ ap allSummed there)
+      by-flag false e = (e, λ made before after s. s ∙ rw (passed, e))
+
 module _ (sums : Sums) (points orbitals : ℕ) (times left right out : List Float) where
   abbrev numbersBy : List Float
   numbersBy = layOutAll points orbitals (madeBy sums points orbitals times left right)
 
   -- `weighted_sums`
   unfoldable pub summed : SumsLeft
-  summed = summedAfter (sizeLines points orbitals true (left ∷ right ∷ out ∷ [])) (fineBy sums points orbitals times left right) numbersBy out
+  summed =
+      let answer = summedAnswer (sizeLines points orbitals true (left ∷ right ∷ out ∷ [])) (fineBy sums points orbitals times left right) in
+      record { answer = answer; out = summedOut answer numbersBy out }
 
   -- lines 1 to 7, then 10
   unfoldable pub convolvedBy : Convolved
   convolvedBy = convolved points orbitals times left right out (fineBy sums points orbitals times left right) numbersBy
 
-  -- what the outcome says where the sizes are what lines 1 to 3 ask for: all was finite and made, or something was not and +0 is left
+  -- what the outcome says of slices that have their length
   module _ {fits : Bool} {others : List (List Float)} (z : SizesPassed points orbitals fits others)
       (left-long : length left ≡ lengthOf points orbitals) (right-long : length right ≡ lengthOf points orbitals) (out-long : length out ≡ lengthOf points orbitals)
       (answer : Summed) (after : List Float) (answered : answer ≡ summed .answer) (holds : after ≡ summed .out) where
@@ -57,26 +82,10 @@ module _ (sums : Sums) (points orbitals : ℕ) (times left right out : List Floa
         let count = lengthOf points orbitals in
         sizes-pass _ z (long-also count left _ left-long (long-also count right _ right-long (long-also count out _ out-long (long-none count))))
 
-    by-fine : summed ≡ summedAfter Pass (fineBy sums points orbitals times left right) numbersBy out
-    unfolding summed
-    by-fine = rw sizes
-
-    told : (fine : Bool) → fineBy sums points orbitals times left right ≡ fine → (answer ≡ summedAfter Pass fine numbersBy out .answer) × (after ≡ summedAfter Pass fine numbersBy out .out)
-    told fine e = (answered ∙ rw (by-fine, e), holds ∙ rw (by-fine, e))
-
     pub sums-finite : allSummed answer ≡ true → (fineBy sums points orbitals times left right ≡ true) × (after ≡ layOutAll points orbitals (madeBy sums points orbitals times left right))
-    unfolding summedAfter allSummed
-    sums-finite h = by-flag (fineBy sums points orbitals times left right) refl
-      where
-        by-flag : (fine : Bool) → fineBy sums points orbitals times left right ≡ fine
-            → (fineBy sums points orbitals times left right ≡ true) × (after ≡ layOutAll points orbitals (madeBy sums points orbitals times left right))
-        by-flag true e = (e, told true e .1)
-        by-flag false e = never (sym (ap allSummed (told false e .0)) ∙ h)
+    unfolding summed
+    sums-finite h = let told = left-finite _ _ sizes answer answered h in (told .0, told .1 _ _ after holds)
 
     pub sums-overflow : allSummed answer ≡ false → (fineBy sums points orbitals times left right ≡ false) × (after ≡ replicate (length out) plusZero)
-    unfolding summedAfter allSummed
-    sums-overflow h = by-flag (fineBy sums points orbitals times left right) refl
-      where
-        by-flag : (fine : Bool) → fineBy sums points orbitals times left right ≡ fine → (fineBy sums points orbitals times left right ≡ false) × (after ≡ replicate (length out) plusZero)
-        by-flag true e = never (sym h ∙ ap allSummed (told true e .0))
-        by-flag false e = (e, told false e .1)
+    unfolding summed
+    sums-overflow h = let told = left-overflow _ _ sizes answer answered h in (told .0, told .1 _ out after holds)

@@ -2,9 +2,9 @@
 ghost use mathlib.Core.Path.{_≡_};
 ghost use mathlib.Core.Bool.{true};
 ghost use Prim.Native.Nat.{ℕ, _+_, _*_, _<_, _≤_};
-ghost use lib.ListN.{length};
+ghost use lib.ListN.{length, replicate};
 ghost use Rattle.lists.specs.Indexed.{allBelow, join};
-ghost use Rattle.complex.specs.Arithmetic.{czero, real, cadd, cmul};
+ghost use Rattle.complex.specs.Arithmetic.{plusZero, czero, real, cadd, cmul};
 ghost use Rattle.matrix.specs.Block.{layOut};
 ghost use Rattle.matrix.specs.Operations.{product};
 ghost use Rattle.two_time.specs.Layout.{readAs, lengthOf, layOutAll};
@@ -308,7 +308,7 @@ fn add_product(
     add_scaled(weight, &sums, orbitals, totals);
 }
 
-// Leaves row a of the sum at (t, u): each column by the same steps as an entry alone.
+// Leaves row a of the sum at (t, u) in a row of +0: each column by the same steps as an entry alone.
 fn sum_row(
     sum: Summation,
     times: &[f64],
@@ -325,14 +325,13 @@ fn sum_row(
     requires { ⌜ sum .from + sum .count ≤ stride ⌝ }
     requires { ⌜ lengthOf stride orbitals ≤ length (now left) ⌝ }
     requires { ⌜ lengthOf stride orbitals ≤ length (now right) ⌝ }
-    requires { ⌜ length (now totals) ≡ 32 ⌝ }
+    requires { ⌜ now totals ≡ replicate 32 plusZero ⌝ }
     ensures { λ _. ⌜ ((b : ℕ) → b < orbitals → numberAt (now (totals .exit)) b ≡ weightedSum orbitals (termsBy sum stride orbitals (now (times .entry)) (now (left .entry)) (now (right .entry)) t u czero) a b) ⌝ }
 {
     let weights = sum.weights;
     let factor = sum.factor;
     let from = sum.from;
     let count = sum.count;
-    clear(totals);
     for k in 0..count {
         let s = from + k;
         let scale = weight(weights, times, s);
@@ -413,10 +412,10 @@ fn block(
 {
     let count = sum.count;
     let width = 2 * orbitals;
-    let mut totals = [0.0; 32];
     for a in 0..orbitals {
         let start = a * width;
         let end = start + width;
+        let mut totals = [0.0; 32];
         sum_row(
             sum,
             times,

@@ -26,13 +26,13 @@ use Rattle.two_time.proofs.sums.block.Statement.{statement}
 use Rattle.two_time.proofs.sums.block.Tie as tie
 
 abbrev Inv-loop : tie.InvT-loop
-Inv-loop sum times left right stride n t u out₀ count width totals₀ a₀ out totals a =
+Inv-loop sum times left right stride n t u out₀ count width a₀ out a =
     let x = termsBy sum stride n times left right t u czero in
-    (a ≤ n) × (length out ≡ length out₀) × (length totals ≡ 32) × (allBelow a (λ k. allBelow n (finiteSum n x k)) ≡ true)
+    (a ≤ n) × (length out ≡ length out₀) × (allBelow a (λ k. allBelow n (finiteSum n x k)) ≡ true)
     × (out ≡ over out₀ (join a (rowOf n (weightedSum n x))))
 
 abbrev μ-loop : tie.MeasureT-loop
-μ-loop sum times left right stride n t u out₀ count width totals₀ a₀ out totals a = n - a
+μ-loop sum times left right stride n t u out₀ count width a₀ out a = n - a
 
 abbrev start : tie.At-loop Inv-loop μ-loop → tie.Start Inv-loop μ-loop
 start c = c .before .before .before .before .before
@@ -92,9 +92,8 @@ loop-again c =
     let h = within t in (
       omega arith,
       o .out .given .1 ∙ i .1,
-      r .sum-row .kept .1 .1 .1 .1 .1 .1 .1 .1 .1 .0 ∙ i .2,
-      rw (all-more, i .3) (sym (told w) ∙ not-false _ (c .if1 .left)),
-      rw (i .4, e, join-more) (over-part (now (x .out)) (join a (rowOf n f)) (rowOf n f a) (a * (2 * n)) (a * (2 * n) + 2 * n - a * (2 * n)) (length-parts (2 * n) (rowOf n f) (length-row n f) a) (length-row n f a ∙ omega arith)),
+      rw (all-more, i .2) (sym (told w) ∙ not-false _ (c .if1 .left)),
+      rw (i .3, e, join-more) (over-part (now (x .out)) (join a (rowOf n f)) (rowOf n f a) (a * (2 * n)) (a * (2 * n) + 2 * n - a * (2 * n)) (length-parts (2 * n) (rowOf n f) (length-row n f) a) (length-row n f a ∙ omega arith)),
     )
 
 returns-2 : tie.Need-returns-2 Inv-loop μ-loop
@@ -105,7 +104,7 @@ returns-2 c =
     let s = start l in
     let n = s .args .orbitals in
     let e : l .loop .a ≡ n = le-antisymm (i .0) (c .loop-test .left) in
-    (sym (ap (λ (k : ℕ). allBelow k (λ a. allBelow n (finiteSum n (terms l) a))) (sym e) ∙ i .3), λ h. rows-laid n (weightedSum n (terms l)) _ _ (l .loop .a) e (s .pre .1 .1 .1 .1) (i .4))
+    (sym (ap (λ (k : ℕ). allBelow k (λ a. allBelow n (finiteSum n (terms l) a))) (sym e) ∙ i .2), λ h. rows-laid n (weightedSum n (terms l)) _ _ (l .loop .a) e (s .pre .1 .1 .1 .1) (i .3))
 
 pub block-spec : {M : Type 1} → statement M
 unfolding allBelow join
@@ -115,11 +114,11 @@ block-spec =
     Inv-loop
     μ-loop
     (λ c. search needs)  -- mul-width
-    (λ c. (omega arith, refl, refl, refl, sym (over-none _)))  -- loop-holds
+    (λ c. (omega arith, refl, refl, sym (over-none _)))  -- loop-holds
     (λ c. let h = within c in omega arith)  -- mul-start
     (λ c. let h = within c in omega arith)  -- add-end
     (λ c. search needs)  -- slice-aggregate-sum-row
-    (λ c κs. let p = start (c .before .before) .pre in (record { first = p .0 .0; second = p .0 .1; row = c .before .loop-test .taken; column = p .0 .3; stride-most = p .0 .2; orbitals-most = p .0 .4 }, (p .1 .0, (p .1 .1 .0, (p .1 .1 .1 .0, c .before .before .loop .inv .2)))))  -- sum-row-requires
+    (λ c κs. let p = start (c .before .before) .pre in (record { first = p .0 .0; second = p .0 .1; row = c .before .loop-test .taken; column = p .0 .3; stride-most = p .0 .2; orbitals-most = p .0 .4 }, (p .1 .0, (p .1 .1 .0, (p .1 .1 .1 .0, refl)))))  -- sum-row-requires
     (λ c. search needs)  -- slice-aggregate-write-row
     (λ c. let h = within (c .before .before .before .before) in omega arith)  -- mul-write-row
     (λ c. let h = within (c .before .before .before .before) in omega arith)  -- sub-write-row

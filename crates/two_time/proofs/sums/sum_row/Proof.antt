@@ -4,11 +4,11 @@ use mathlib.Core.List.{List}
 use Prim.Native.Nat.{ℕ, _-_, _≤_, _<_}
 use native.Mathlib.Nat.{le-antisymm}
 use native.Mathlib.Omega.{arith}
-use lib.ListN.{length, replicate}
+use lib.ListN.{length}
 use lib.Ieee.{Float}
 use denote.Ref.{now}
 use borrow.Author.Needs.{needs}
-use Rattle.complex.specs.Arithmetic.{czero, plusZero}
+use Rattle.complex.specs.Arithmetic.{czero}
 use Rattle.two_time.specs.WeightedSum.{Terms, partialSum, weightedSum}
 use Rattle.two_time.specs.Sums.{termsBy}
 use Rattle.two_time.specs.OneTest.{partial-none, partial-turn}
@@ -25,7 +25,7 @@ abbrev μ-loop : tie.MeasureT-loop
 μ-loop times left right stride n t u a totals₀ weights factor from count k₀ totals k = count - k
 
 abbrev start : tie.At-loop Inv-loop μ-loop → tie.Start Inv-loop μ-loop
-start c = c .before .before .before .before .before .before .before .before .before
+start c = c .before .before .before .before .before
 
 abbrev terms : tie.At-loop Inv-loop μ-loop → Terms
 terms c =
@@ -34,10 +34,9 @@ terms c =
 
 loop-holds : tie.Need-loop-holds Inv-loop μ-loop
 loop-holds c =
-    let made = c .before .before in
-    let s = made .before .before .before .before .before .before in
-    let cleared : made .clear .last .0 ≡ replicate 32 plusZero = made .clear .ensures ∙ ap (λ (m : ℕ). replicate m plusZero) (s .pre .1 .1 .1 .1) in
-    (omega arith, ap length cleared, λ b h. ap (λ (xs : List Float). numberAt xs b) cleared ∙ number-zero b (omega (arith, s .pre .0 .orbitals-most)) ∙ sym (partial-none _ _ _ _))
+    let s = c .before .before .before .before in
+    let zeros = s .pre .1 .1 .1 .1 in
+    (omega arith, ap length zeros, λ b h. ap (λ (xs : List Float). numberAt xs b) zeros ∙ number-zero b (omega (arith, s .pre .0 .orbitals-most)) ∙ sym (partial-none _ _ _ _))
 
 loop-again : tie.Need-loop-again Inv-loop μ-loop
 loop-again c =
@@ -65,7 +64,6 @@ sum-row-spec =
     (tie.spec
     Inv-loop
     μ-loop
-    (λ c κs. search needs)  -- clear-requires
     loop-holds
     (λ c. search needs)  -- add-s
     (λ c κs. search needs)  -- weight-requires

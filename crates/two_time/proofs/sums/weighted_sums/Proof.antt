@@ -12,7 +12,7 @@ use Rattle.complex.specs.Arithmetic.{plusZero}
 use Rattle.refusal.specs.declared.Verdict.{Verdict}
 use Rattle.refusal.specs.declared.Verdict.the-variants.{Refused}
 use Rattle.two_time.specs.Calls.{sizeLines}
-use Rattle.two_time.specs.Outcome.{summed, summedAfter}
+use Rattle.two_time.specs.Outcome.{summed, summedAnswer, summedOut}
 use Rattle.two_time.specs.SizeLines.{SizesPassed, sizes-passed, sizes-asked, fits-more, long-first}
 use Rattle.two_time.proofs.sums.weighted_sums.Statement.{statement}
 use Rattle.two_time.proofs.sums.weighted_sums.Tie as tie
@@ -40,7 +40,7 @@ sizes : (c : tie.After-enum-told) → let s = c .before .before in SizesPassed (
 sizes c = sizes-passed _ _ _ _ (sym (asked (c .before .before)) ∙ c .enum-told .given .1)
 
 returns : tie.Need-returns
-unfolding summed summedAfter
+unfolding summed summedAnswer summedOut
 returns c = let lines : lines (c .before .before) ≡ Refused _ = sym (asked (c .before .before)) ∙ c .enum-told2 .given .1 in (rw lines, rw lines)
 
 fill-requires : tie.Need-fill-requires
@@ -53,7 +53,7 @@ fill-requires c κs =
     ((omega arith, z .points-most, omega arith, z .orbitals-most), (omega arith, (omega arith, o .0)))
 
 returns-2 : tie.Need-returns-2
-unfolding summed summedAfter
+unfolding summed summedAnswer summedOut
 returns-2 c =
     let f = c .before .before .before in
     let e = f .before .before in
@@ -62,7 +62,7 @@ returns-2 c =
     (rw (pass, fine), rw (pass, fine) (f .fill .ensures .1 (c .if1 .taken)))
 
 returns-3 : tie.Need-returns-3
-unfolding summed summedAfter
+unfolding summed summedAnswer summedOut
 returns-3 c =
     let d = c .before .before in
     let i = d .before .before in
