@@ -1,4 +1,4 @@
--- The lines of a Dyson call as the code asks them: lines 1 to 3 again before each support test, which changes nothing. Assumes nothing.
+-- The lines of a Dyson call as the code asks them: lines 1 to 3 and 7 again before the support tests, which changes nothing. Assumes nothing.
 use mathlib.Core.Path.{_≡_, refl, sym, ap, _∙_}
 use mathlib.Core.Bool.{Bool, true, false, cond}
 use mathlib.Core.List.{List, [], _∷_, _++_}
@@ -14,10 +14,10 @@ use Rattle.refusal.specs.Agreement.{then-pass, then-agree, then-after, then-ass
 use Rattle.refusal.specs.Keeping.{Keeping, passed, ask-keeping, then-keeping, all-keeping}
 use Rattle.two_time.specs.Layout.{TwoTime, readAs, lengthOf}
 use Rattle.two_time.specs.Support.{retarded, retardedPlace, residual}
-use Rattle.two_time.specs.Calls.{sizeLines, inputLines, retardedLine}
+use Rattle.two_time.specs.Calls.{sizeLines, operandLines, inputLines, checkInputs}
 use Rattle.two_time.specs.SizeLines.{SizesPassed, sizes-pass, long-first, long-also, long-none}
 use Rattle.two_time.specs.Working.{inputs-keeping, inputs-sizes}
-use Rattle.dyson.specs.Calls.{Solved, supportLines, supportAsked, greenFine, solvedRetarded, dysonVerdict, dysonWithTolerance}
+use Rattle.dyson.specs.Calls.{supportLines, greenFine, dysonVerdict}
 
 module _ (points n : ℕ) (tolerance : Float) where
   -- a support test never refuses by 10
@@ -34,17 +34,19 @@ module _ (points n : ℕ) (tolerance : Float) where
   unfolding supportLines validTolerance
   support-keeping x y = then-keeping (ask-keeping _ _ refl) (then-keeping (retarded-keeping 0 x) (retarded-keeping 1 y))
 
-  -- of slices that have their length
-  module _ {fits : Bool} {others : List (List Float)} (z : SizesPassed points n fits others) where
-    line-same : (operand : ℕ) (xs : List Float) → length xs ≡ lengthOf points n → retardedLine points n operand tolerance xs ≡ retarded points n operand tolerance (readAs points n xs)
-    unfolding retardedLine
-    line-same operand xs long =
-        then-after (sizeLines points n true (xs ∷ [])) _ (sizes-pass (xs ∷ []) z (long-also (lengthOf points n) xs [] long (long-none (lengthOf points n))))
-
-    pub support-same : (free selfEnergy : List Float) → length free ≡ lengthOf points n → length selfEnergy ≡ lengthOf points n
-        → supportAsked points n tolerance free selfEnergy ≡ supportLines points n tolerance (readAs points n free) (readAs points n selfEnergy)
-    unfolding supportAsked supportLines
-    support-same free selfEnergy f s = rw (line-same 0 free f, line-same 1 selfEnergy s)
+  -- after lines 1 to 7 of a call that has both among its operands, asking them again changes nothing
+  pub asked-again : (times free selfEnergy : List Float) (rest lent : List (List Float)) → inputLines points n times (free ∷ selfEnergy ∷ rest) lent ≡ Pass
+      → checkInputs points n free selfEnergy tolerance ≡ supportLines points n tolerance (readAs points n free) (readAs points n selfEnergy)
+  unfolding checkInputs inputLines operandLines
+  asked-again times free selfEnergy rest lent h =
+      let count = lengthOf points n in
+      let z = inputs-sizes points n times (free ∷ selfEnergy ∷ rest) lent h in
+      let f = long-first count free _ (z .long) in
+      let g = long-first count selfEnergy _ (f .1) in
+      let first = then-pass _ _ (then-pass _ _ (then-pass _ _ h .1) .1) in
+      let second = then-pass _ _ (first .1) in
+      then-after _ _ (sizes-pass (free ∷ selfEnergy ∷ []) z (long-also count free _ (f .0) (long-also count selfEnergy _ (g .0) (long-none count))))
+      ∙ then-after _ _ (then-after _ _ (first .0) ∙ then-after _ _ (second .0))
 
   module _ (times free selfEnergy green kernel : List Float) where
     abbrev inputs : Verdict
@@ -54,14 +56,8 @@ module _ (points n : ℕ) (tolerance : Float) where
     abbrev pub lines : Verdict
     lines = inputs then supportLines points n tolerance (readAs points n free) (readAs points n selfEnergy)
 
-    pub lines-asked : (i s v : Verdict) → i ≡ inputs → s ≡ supportAsked points n tolerance free selfEnergy → v ≡ (i then s) → v ≡ lines
-    lines-asked i s v ei es e =
-        e ∙ then-agree i inputs s _ ei
-        (λ p.
-        let z = inputs-sizes points n times (free ∷ selfEnergy ∷ []) (green ∷ kernel ∷ []) (sym ei ∙ p) in
-        let f = long-first (lengthOf points n) free _ (z .long) in
-        let g = long-first (lengthOf points n) selfEnergy _ (f .1) in
-        es ∙ support-same z free selfEnergy (f .0) (g .0))
+    pub lines-asked : (i s v : Verdict) → i ≡ inputs → s ≡ checkInputs points n free selfEnergy tolerance → v ≡ (i then s) → v ≡ lines
+    lines-asked i s v ei es e = e ∙ then-agree i inputs s _ ei (λ p. es ∙ asked-again times free selfEnergy [] (green ∷ kernel ∷ []) (sym ei ∙ p))
 
     pub lines-keeping : Keeping lines
     lines-keeping = then-keeping (inputs-keeping points n times (free ∷ selfEnergy ∷ []) (green ∷ kernel ∷ [])) (support-keeping _ _)
@@ -70,10 +66,6 @@ module _ (points n : ℕ) (tolerance : Float) where
     unfolding dysonVerdict
     verdict-lines = sym (then-assoc inputs _ _)
 
-    -- where they pass the work decides
-    pub same-outcome : lines ≡ Pass → solvedRetarded points n times free selfEnergy green kernel ≡ dysonWithTolerance points n tolerance times free selfEnergy green kernel
-    unfolding solvedRetarded dysonWithTolerance
-    same-outcome h =
-        let z = inputs-sizes points n times (free ∷ selfEnergy ∷ []) (green ∷ kernel ∷ []) (then-pass _ _ h .0) in
-        let sizes : sizeLines points n true (free ∷ selfEnergy ∷ green ∷ kernel ∷ []) ≡ Pass = sizes-pass _ z (z .long) in
-        rw (verdict-lines, h, sizes)
+    -- what it says of the sizes that they pass
+    pub lines-sizes : lines ≡ Pass → SizesPassed points n (eqb (length times) points) (free ∷ selfEnergy ∷ green ∷ kernel ∷ [])
+    lines-sizes h = inputs-sizes points n times (free ∷ selfEnergy ∷ []) (green ∷ kernel ∷ []) (then-pass _ _ h .0)

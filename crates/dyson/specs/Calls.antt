@@ -5,12 +5,15 @@ use mathlib.Core.List.{List, [], _∷_}
 use lib.Ieee.{Float, binary64, ofBits}
 use Rattle.refusal.specs.declared.Verdict.{Verdict}
 use Rattle.refusal.specs.Verdict.{_then_, afterwards}
-use Rattle.refusal.specs.Lines.{validTolerance, finiteWork}
-use Rattle.two_time.specs.Layout.{TwoTime, readAs}
+use Rattle.refusal.specs.Lines.{finiteWork}
+use Rattle.two_time.specs.Layout.{readAs}
 use Rattle.two_time.specs.Convolutions.{causalNumbers, causalFine}
-use Rattle.two_time.specs.Support.{retarded}
-use Rattle.two_time.specs.Calls.{sizeLines, inputLines, retardedLine}
+use Rattle.two_time.specs.declared.sums.Summed.{Summed}
+use Rattle.two_time.specs.Calls.{sizeLines, inputLines}
+use Rattle.two_time.specs.Outcome.{summedAnswer, summedOut}
 use Rattle.dyson.specs.Retarded.{retardedNumbers, retardedFine}
+-- "Order: 8, 9 for free, 9 for self-energy"
+unfoldable pub use Rattle.two_time.specs.Calls.{supportLines}
 
 -- the answer; the retarded function's slice and the kernel's scratch afterwards
 pub record Solved : Type 0 where
@@ -21,16 +24,6 @@ pub record Solved : Type 0 where
 -- "retarded_dyson_with_tolerance; default 1e-12 in retarded_dyson": the binary64 nearest to 1e-12
 abbrev pub defaultTolerance : Float
 defaultTolerance = ofBits binary64 0x3d71_9799_812d_ea11
-
--- "Order: 8, 9 for free, 9 for self-energy"
-unfoldable pub supportLines : ℕ → ℕ → Float → TwoTime → TwoTime → Verdict
-supportLines points orbitals tolerance free selfEnergy =
-    validTolerance tolerance then retarded points orbitals 0 tolerance free then retarded points orbitals 1 tolerance selfEnergy
-
--- the same of the lists, each asked lines 1 to 3 again
-unfoldable pub supportAsked : ℕ → ℕ → Float → List Float → List Float → Verdict
-supportAsked points orbitals tolerance free selfEnergy =
-    validTolerance tolerance then retardedLine points orbitals 0 tolerance free then retardedLine points orbitals 1 tolerance selfEnergy
 
 -- "K is the causal convolution of both", G is made of it, and every block of the two is finite or 10
 module _ (points orbitals : ℕ) (times free selfEnergy : List Float) where
@@ -43,14 +36,19 @@ module _ (points orbitals : ℕ) (times free selfEnergy : List Float) where
   unfoldable pub greenFine : Bool
   greenFine = causalFine points orbitals times free selfEnergy && retardedFine points orbitals times free kernelOf
 
--- K and G alone: lines 1 to 3, then 10
-unfoldable pub solvedRetarded : ℕ → ℕ → List Float → List Float → List Float → List Float → List Float → Solved
+-- `solve_retarded`: K and G alone
+pub record RetardedLeft : Type 0 where
+  pub answer : Summed
+  pub retarded : List Float
+  pub kernel : List Float
+
+unfoldable pub solvedRetarded : ℕ → ℕ → List Float → List Float → List Float → List Float → List Float → RetardedLeft
 solvedRetarded points orbitals times free selfEnergy retarded kernel =
-    let verdict = sizeLines points orbitals true (free ∷ selfEnergy ∷ retarded ∷ kernel ∷ []) then finiteWork (greenFine points orbitals times free selfEnergy) in
+    let answer = summedAnswer (sizeLines points orbitals true (free ∷ selfEnergy ∷ retarded ∷ kernel ∷ [])) (greenFine points orbitals times free selfEnergy) in
     record {
-      answer = verdict;
-      retarded = afterwards verdict (greenOf points orbitals times free selfEnergy) retarded;
-      kernel = afterwards verdict (kernelOf points orbitals times free selfEnergy) kernel;
+      answer = answer;
+      retarded = summedOut answer (greenOf points orbitals times free selfEnergy) retarded;
+      kernel = summedOut answer (kernelOf points orbitals times free selfEnergy) kernel;
     }
 
 -- `retarded_dyson_with_tolerance`: lines 1 to 7, then 8, 9 for free, 9 for self-energy, 10

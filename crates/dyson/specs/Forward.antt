@@ -1,52 +1,71 @@
 -- Forward substitution: an entry of G from K and the numbers written so far is the document's entry of G. Assumes nothing.
-use mathlib.Core.Path.{_≡_, refl, sym, ap, ap₂, _∙_}
+use mathlib.Core.Path.{_≡_, refl, sym, ap, subst, _∙_}
 use mathlib.Core.Bool.{Bool, true, false, cond, _||_}
 use mathlib.Core.List.{List}
-use Prim.Native.Nat.{ℕ, zero, suc, _+_, _-_, _*_, _/_, _%_, _≤_, _<_}
-use native.Mathlib.Nat.{mul-comm, mul-assoc}
+use Prim.Native.Nat.{ℕ, _+_, _-_, _*_, _/_, _%_, _≤_, _<_}
+use native.Mathlib.Nat.{add-zero, add-assoc}
 use native.Mathlib.Omega.{arith}
 use lib.Dec.{ltb}
-use lib.ListN.{length, getD, List·getD-append, drop}
+use lib.ListN.{length, getD, set, List·getD-append, drop}
 use lib.Ieee.{Float, nan}
+use borrow.Author.Count.{below-none, below-more}
 use borrow.Author.Tests.{ltb-true, ltb-false}
 use Rattle.lists.specs.Indexed.{join, allBelow}
-use Rattle.lists.specs.Agreement.{never}
-use Rattle.lists.specs.Turns.{join-flat, all-flat}
+use Rattle.lists.specs.Agreement.{each-all}
+use Rattle.lists.specs.Turns.{join-flat, join-none, all-flat}
 use Rattle.lists.specs.Reading.{getD-join}
-use Rattle.lists.specs.Filling.{over, over-all}
+use Rattle.lists.specs.Filling.{over, over-none, over-all}
 use Rattle.refusal.specs.Search.{all-no}
 use Rattle.complex.specs.declared.Complex.{Complex}
 use Rattle.complex.specs.Arithmetic.{czero}
 use Rattle.complex.specs.Numbers.{entryAt, pair}
-use Rattle.complex.specs.Filling.{cells, length-cells}
-use Rattle.matrix.specs.Block.{Entries, layOut}
-use Rattle.matrix.specs.Agreement.{Agree}
+use Rattle.complex.specs.Filling.{cells, cells-next, length-cells}
+use Rattle.matrix.specs.Block.{layOut}
 use Rattle.two_time.specs.declared.sums.CheckedEntry.{CheckedEntry}
 use Rattle.two_time.specs.declared.sums.CheckedEntry.the-variants.{Finite, Overflow}
 use Rattle.two_time.specs.declared.sums.Weights.the-variants.{Interval}
 use Rattle.two_time.specs.declared.sums.Factor.the-variants.{Stored}
 use Rattle.two_time.specs.declared.sums.Summation.{Summation}
-use Rattle.two_time.specs.Layout.{TwoTime, place, readAs, readWithin, lengthOf, layOutAll, everywhere}
+use Rattle.two_time.specs.declared.layout.Stored.the-variants.{Entry, Outside}
+use Rattle.two_time.specs.Layout.{TwoTime, place, readAs, lengthOf, layOutAll, everywhere}
 use Rattle.two_time.specs.WeightedSum.{Terms, productAt, termAt, partialSum, weightedSum, finiteSum}
 use Rattle.two_time.specs.Sums.{weightBy, rightBy, termsBy, checkedSum, sumOrOverflow}
 use Rattle.two_time.specs.Agreement.{AgreeTerms}
 use Rattle.two_time.specs.OneTest.{checked-agree, of-finite, of-overflow}
-use Rattle.two_time.specs.Places.{Placed}
-use Rattle.two_time.specs.Reaching.{Reached, sum-reached, read-placed}
-use Rattle.dyson.specs.declared.forward.Place.{Place}
+use Rattle.two_time.specs.Places.{Placed, within}
+use Rattle.two_time.specs.Reaching.{Reached, sum-reached}
 use Rattle.dyson.specs.Retarded.{dysonTerms, retardedGreen, retardedNumbers, retardedFine, retardedFinite}
 use Rattle.dyson.specs.Recursion.{recursion, above}
-use Rattle.dyson.specs.Places.{indexOf, placeAt, InPlace, place-index, index-place, placed-at, earlier}
+use Rattle.dyson.specs.Places.{Place, placeAt, index-place, earlier, carry, counted}
 
 -- "for s from j to i−1, adds interval weight (s, j, i) times K(i,s)·G(s,j)"
 abbrev pub dysonSum : ℕ → ℕ → Summation
 dysonSum t u = record { weights = Interval u t; factor = Stored; from = u; count = t - u }
 
--- the entry at a place, from the lists as they stand
-unfoldable pub entryFrom : ℕ → ℕ → List Float → List Float → List Float → List Float → Place → CheckedEntry
-entryFrom points n times free kernel green p =
-    cond (ltb (p .t) (p .u)) (Finite czero)
-    (sumOrOverflow (dysonSum (p .t) (p .u)) points n times kernel green (p .t) (p .u) (p .a) (p .b) (readWithin points n free (p .t) (p .u) (p .a) (p .b)))
+-- entry (a, b) of G(t, u), from the lists as they stand
+unfoldable pub entryFrom : ℕ → ℕ → List Float → List Float → List Float → List Float → ℕ → ℕ → ℕ → ℕ → CheckedEntry
+entryFrom points n times free kernel green t u a b =
+    cond (ltb t u) (Finite czero) (sumOrOverflow (dysonSum t u) points n times kernel green t u a b (readAs points n free t u a b))
+
+-- an entry that a read gives is one
+pub same-entry : {x y : Complex} → Entry x ≡ Entry y → x ≡ y
+same-entry e = cc
+
+pub not-outside : {P : Type 0} {x : Complex} → Entry x ≡ Outside → P
+not-outside e = absurd (let w : _≡_ {A = ℕ} 0 1 = cc in omega arith)
+
+-- the lists have room, and N and n are within the limits
+pub record Room (points n : ℕ) (free kernel out : List Float) : Type 0 where
+  pub points-most : points ≤ 256
+  pub orbitals-most : n ≤ 16
+  pub free-room : lengthOf points n ≤ length free
+  pub kernel-room : lengthOf points n ≤ length kernel
+  pub out-room : lengthOf points n ≤ length out
+
+-- also once something is written
+pub room-kept : {points n : ℕ} {free kernel out : List Float} (out' : List Float) → length out' ≡ length out → Room points n free kernel out → Room points n free kernel out'
+room-kept out' e r =
+    record { points-most = r .points-most; orbitals-most = r .orbitals-most; free-room = r .free-room; kernel-room = r .kernel-room; out-room = omega (arith, r .out-room) }
 
 -- ---- cells that are written are read again
 
@@ -96,109 +115,137 @@ module _ (points n : ℕ) (times free kernel : List Float) where
   abbrev terms : ℕ → ℕ → Terms
   terms t u = dysonTerms n times (readAs points n free) (readAs points n kernel) green t u
 
-  -- all that is made for the entry at a place is finite
+  -- all that is made for the entry of index q is finite
   abbrev pub fineAt : ℕ → Bool
   fineAt q = let p = placeAt points n q in ltb (p .t) (p .u) || finiteSum n (terms (p .t) (p .u)) (p .a) (p .b)
 
-  -- the lists have room, and N and n are within the limits
-  pub record Room (out : List Float) : Type 0 where
-    pub points-most : points ≤ 256
-    pub orbitals-most : n ≤ 16
-    pub free-room : lengthOf points n ≤ length free
-    pub kernel-room : lengthOf points n ≤ length kernel
-    pub out-room : lengthOf points n ≤ length out
+  -- the first q entries of G are finite and written over a list of G's length
+  pub record Written (q : ℕ) (out : List Float) : Type 0 where
+    pub base : List Float
+    pub long : length base ≡ lengthOf points n
+    pub fine : (k : ℕ) → k < q → fineAt k ≡ true
+    pub begun : out ≡ over base (cells q (entryOf points n green))
 
-  module _ (out : List Float) (room : Room out) (t u a b q : ℕ) (ht : t < points) (hu : u < points) (ha : a < n) (hb : b < n) (below : u ≤ t)
-      (index : q ≡ ((t * points + u) * n + a) * n + b) (d : List Float) (written : out ≡ over d (cells q (entryOf points n green))) where
-    placed : Placed points n t u a b
-    placed = record { first = ht; second = hu; row = ha; column = hb; stride-most = room .points-most; orbitals-most = room .orbitals-most }
+  -- what the answer of a part of the work says: it went on to q, or an entry of G is not finite
+  pub record Went (q : ℕ) (out : List Float) (r : Bool) : Type 0 where
+    pub on : r ≡ true → Written q out
+    pub lost : r ≡ false → retardedFine points n times free kernel ≡ false
 
-    reached : Reached (dysonSum t u) points n kernel out t u a b
-    reached = record { placed = placed; span = omega arith; left-room = room .kernel-room; right-room = room .out-room }
-
-    -- the document's terms, begun with the one entry that is asked for
-    abbrev begun : Terms
-    begun = record { start = λ c e. readAs points n free t u a b; weight = terms t u .weight; left = terms t u .left; right = terms t u .right; from = u; count = t - u }
-
-    same-start : checkedSum n begun a b ≡ checkedSum n (terms t u) a b
-    unfolding checkedSum finiteSum weightedSum partialSum productAt termAt
-    same-start = refl
-
-    -- the terms over what is written agree with them in the interval
-    agreeing : AgreeTerms n (termsBy (dysonSum t u) points n times kernel out t u (readAs points n free t u a b)) begun
-    unfolding weightBy rightBy
-    agreeing =
-        record {
-          from = refl;
-          count = refl;
-          start = λ c e hc he. refl;
-          weight = λ s lo hi. refl;
-          left = λ s lo hi c e hc he. refl;
-          right = λ s lo hi c e hc he.
-              rw written (written-read points n green d q s u c e hu hc he (rw index (earlier points n s t u u c e a b (omega arith) hu hc he)));
-        }
-
-    -- so the sum is the document's
-    sum-made : sumOrOverflow (dysonSum t u) points n times kernel out t u a b (readWithin points n free t u a b) ≡ checkedSum n (terms t u) a b
-    sum-made =
-        rw (read-placed free placed (room .free-room))
-        (sum-reached (dysonSum t u) points n kernel out t u a b reached times (readAs points n free t u a b) ∙ checked-agree n _ begun agreeing a b ha hb ∙ same-start)
-
-    -- what an answer says
-    pub sum-finite : (z : Complex) → Finite z ≡ sumOrOverflow (dysonSum t u) points n times kernel out t u a b (readWithin points n free t u a b)
-        → (finiteSum n (terms t u) a b ≡ true) × (z ≡ green t u a b)
-    sum-finite z e =
-        let told = of-finite n (terms t u) a b z (e ∙ sum-made) in
-        (told .0, told .1 ∙ sym (recursion n times (readAs points n free) (readAs points n kernel) t u below a b ha hb))
-
-    pub sum-overflows : Overflow ≡ sumOrOverflow (dysonSum t u) points n times kernel out t u a b (readWithin points n free t u a b) → finiteSum n (terms t u) a b ≡ false
-    sum-overflows e = of-overflow n (terms t u) a b (e ∙ sum-made)
-
-  module _ (out : List Float) (room : Room out) (q : ℕ) (h : q < points * points * n * n) (d : List Float) (written : out ≡ over d (cells q (entryOf points n green))) where
-    abbrev at : Place
-    at = placeAt points n q
-
-    finite-case : (c : Bool) (z : Complex) → ltb (at .t) (at .u) ≡ c
-        → Finite z ≡ cond c (Finite czero) (sumOrOverflow (dysonSum (at .t) (at .u)) points n times kernel out (at .t) (at .u) (at .a) (at .b) (readWithin points n free (at .t) (at .u) (at .a) (at .b)))
-        → (c || finiteSum n (terms (at .t) (at .u)) (at .a) (at .b) ≡ true) × (z ≡ entryOf points n green q)
-    finite-case true z l e =
-        let zero-made : z ≡ czero = cc in
-        (refl, zero-made ∙ sym (above n times (readAs points n free) (readAs points n kernel) (at .t) (at .u) (at .a) (at .b) (ltb-true _ _ l)))
-    finite-case false z l e =
-        let i = placed-at points n q (room .points-most) h in
-        sum-finite out room (at .t) (at .u) (at .a) (at .b) q (i .first) (i .second) (i .row) (i .column) (ltb-false _ _ l) (sym (place-index points n q)) d written z e
-
-    overflow-case : (c : Bool) → ltb (at .t) (at .u) ≡ c
-        → Overflow ≡ cond c (Finite czero) (sumOrOverflow (dysonSum (at .t) (at .u)) points n times kernel out (at .t) (at .u) (at .a) (at .b) (readWithin points n free (at .t) (at .u) (at .a) (at .b)))
-        → c || finiteSum n (terms (at .t) (at .u)) (at .a) (at .b) ≡ false
-    overflow-case true l e = absurd (let w : _≡_ {A = ℕ} 0 1 = cc in omega arith)
-    overflow-case false l e =
-        let i = placed-at points n q (room .points-most) h in
-        sum-overflows out room (at .t) (at .u) (at .a) (at .b) q (i .first) (i .second) (i .row) (i .column) (ltb-false _ _ l) (sym (place-index points n q)) d written e
-
-    pub entry-finite : (z : Complex) → Finite z ≡ entryFrom points n times free kernel out (placeAt points n q) → (fineAt q ≡ true) × (z ≡ entryOf points n green q)
-    unfolding entryFrom
-    entry-finite z e = finite-case (ltb (at .t) (at .u)) z refl e
-
-    pub entry-overflows : Overflow ≡ entryFrom points n times free kernel out (placeAt points n q) → fineAt q ≡ false
-    unfolding entryFrom
-    entry-overflows e = overflow-case (ltb (at .t) (at .u)) refl e
-
-  -- all entries are finite, or one is not
-  pub all-fine : (q : ℕ) → q ≡ points * points * n * n → allBelow q fineAt ≡ true → retardedFine points n times free kernel ≡ true
-  unfolding retardedFine retardedFinite
-  all-fine q e h =
-      sym (ap (λ (m : ℕ). allBelow m fineAt) e ∙ tested-all points n (λ t u a b. ltb t u || finiteSum n (terms t u) a b)) ∙ h
-
-  pub one-overflows : (q : ℕ) → q < points * points * n * n → fineAt q ≡ false → retardedFine points n times free kernel ≡ false
+  -- one entry is not finite
+  one-overflows : (q : ℕ) → q < points * points * n * n → fineAt q ≡ false → retardedFine points n times free kernel ≡ false
   unfolding retardedFine retardedFinite
   one-overflows q l h =
       sym (tested-all points n (λ t u a b. ltb t u || finiteSum n (terms t u) a b)) ∙ all-no fineAt (points * points * n * n) q l h
 
-  -- and what is written is G laid out
-  pub green-written : (d out : List Float) (q : ℕ) → q ≡ points * points * n * n → length d ≡ lengthOf points n → out ≡ over d (cells q (entryOf points n green)) → out ≡ retardedNumbers points n times free kernel
-  unfolding retardedNumbers
-  green-written d out q e long h =
-      h ∙ ap (λ (m : ℕ). over d (cells m (entryOf points n green))) e
-      ∙ over-all d (cells (points * points * n * n) (entryOf points n green)) (length-cells (points * points * n * n) (entryOf points n green) ∙ (simp mul-assoc) ∙ sym long)
-      ∙ written-all points n green
+  -- the entry at a place, where those before it are written
+  module _ (out : List Float) (room : Room points n free kernel out) (t u a b : ℕ) (ht : t < points) (hu : u < points) (ha : a < n) (hb : b < n)
+      (w : Written (((t * points + u) * n + a) * n + b) out) where
+    abbrev q : ℕ
+    q = ((t * points + u) * n + a) * n + b
+
+    pub placed : Placed points n t u a b
+    placed = record { first = ht; second = hu; row = ha; column = hb; stride-most = room .points-most; orbitals-most = room .orbitals-most }
+
+    -- by its index
+    at-place : placeAt points n q ≡ record { t = t; u = u; a = a; b = b }
+    at-place = index-place points n t u a b hu ha hb
+
+    fine-here : fineAt q ≡ ltb t u || finiteSum n (terms t u) a b
+    fine-here = ap (λ (p : Place). ltb (p .t) (p .u) || finiteSum n (terms (p .t) (p .u)) (p .a) (p .b)) at-place
+
+    entry-here : entryOf points n green q ≡ green t u a b
+    entry-here = ap (λ (p : Place). green (p .t) (p .u) (p .a) (p .b)) at-place
+
+    inside : 2 * q + 1 < lengthOf points n
+    inside = within placed .inside
+
+    -- on and below the diagonal
+    module _ (below : u ≤ t) where
+      reached : Reached (dysonSum t u) points n kernel out t u a b
+      reached = record { placed = placed; span = omega arith; left-room = room .kernel-room; right-room = room .out-room }
+
+      -- the document's terms, begun with the one entry that is asked for
+      abbrev begun : Terms
+      begun = record { start = λ c e. readAs points n free t u a b; weight = terms t u .weight; left = terms t u .left; right = terms t u .right; from = u; count = t - u }
+
+      same-start : checkedSum n begun a b ≡ checkedSum n (terms t u) a b
+      unfolding checkedSum finiteSum weightedSum partialSum productAt termAt
+      same-start = refl
+
+      -- the terms over what is written agree with them in the interval
+      agreeing : AgreeTerms n (termsBy (dysonSum t u) points n times kernel out t u (readAs points n free t u a b)) begun
+      unfolding weightBy rightBy
+      agreeing =
+          record {
+            from = refl;
+            count = refl;
+            start = λ c e hc he. refl;
+            weight = λ s lo hi. refl;
+            left = λ s lo hi c e hc he. refl;
+            right = λ s lo hi c e hc he.
+                rw (w .begun) (written-read points n green (w .base) q s u c e hu hc he (earlier points n s t u u c e a b (omega arith) hu hc he));
+          }
+
+      -- so the sum is the document's
+      sum-made : sumOrOverflow (dysonSum t u) points n times kernel out t u a b (readAs points n free t u a b) ≡ checkedSum n (terms t u) a b
+      sum-made =
+          sum-reached (dysonSum t u) points n kernel out t u a b reached times (readAs points n free t u a b) ∙ checked-agree n _ begun agreeing a b ha hb ∙ same-start
+
+    finite-case : (c : Bool) (z : Complex) → ltb t u ≡ c
+        → Finite z ≡ cond c (Finite czero) (sumOrOverflow (dysonSum t u) points n times kernel out t u a b (readAs points n free t u a b))
+        → (c || finiteSum n (terms t u) a b ≡ true) × (z ≡ green t u a b)
+    finite-case true z l e =
+        let zero-made : z ≡ czero = cc in
+        (refl, zero-made ∙ sym (above n times (readAs points n free) (readAs points n kernel) t u a b (ltb-true _ _ l)))
+    finite-case false z l e =
+        let below = ltb-false _ _ l in
+        let told = of-finite n (terms t u) a b z (e ∙ sum-made below) in
+        (told .0, told .1 ∙ sym (recursion n times (readAs points n free) (readAs points n kernel) t u below a b ha hb))
+
+    overflow-case : (c : Bool) → ltb t u ≡ c
+        → Overflow ≡ cond c (Finite czero) (sumOrOverflow (dysonSum t u) points n times kernel out t u a b (readAs points n free t u a b))
+        → c || finiteSum n (terms t u) a b ≡ false
+    overflow-case true l e = absurd (let w : _≡_ {A = ℕ} 0 1 = cc in omega arith)
+    overflow-case false l e = of-overflow n (terms t u) a b (e ∙ sum-made (ltb-false _ _ l))
+
+    -- it is finite and written
+    pub entry-finite : (z : Complex) (next : List Float) → Finite z ≡ entryFrom points n times free kernel out t u a b
+        → next ≡ set (set out (2 * q) (z .re)) (2 * q + 1) (z .im) → Written (q + 1) next
+    unfolding entryFrom
+    entry-finite z next e s =
+        let told = finite-case (ltb t u) z refl e in
+        record {
+          base = w .base;
+          long = w .long;
+          fine = below-more _ _ (w .fine) (fine-here ∙ told .0);
+          begun = cells-next (w .base) out next q (entryOf points n green) z (w .begun) (told .1 ∙ sym entry-here) s (omega (arith, inside, w .long));
+        }
+
+    -- or it is not finite
+    pub entry-overflows : Overflow ≡ entryFrom points n times free kernel out t u a b → retardedFine points n times free kernel ≡ false
+    unfolding entryFrom
+    entry-overflows e = one-overflows q (omega (arith, inside, counted points n)) (fine-here ∙ overflow-case (ltb t u) refl e)
+
+  -- a loop over m parts from x·m on, seen through the parts that an index there has: before it, after one more, and after all
+  module _ (out : List Float) (f : ℕ → ℕ) where
+    pub written-first : (x : ℕ) → Written (f x) out → Written (f (x + 0)) out
+    written-first x w = subst (λ (k : ℕ). Written (f k) out) (sym (add-zero x)) w
+
+    pub written-next : (x k : ℕ) → Written (f (x + k + 1)) out → Written (f (x + (k + 1))) out
+    written-next x k w = subst (λ (j : ℕ). Written (f j) out) (add-assoc x k 1) w
+
+    pub written-last : (x m k : ℕ) → k ≡ m → Written (f (x * m + k)) out → Written (f ((x + 1) * m)) out
+    written-last x m k e w = subst (λ (j : ℕ). Written (f j) out) (ap (λ (j : ℕ). x * m + j) e ∙ carry x m) w
+
+  -- nothing is written yet, and all is: G laid out
+  pub written-none : (out : List Float) → length out ≡ lengthOf points n → Written 0 out
+  written-none out long = record { base = out; long = long; fine = below-none _; begun = sym (ap (over out) (join-none _) ∙ over-none out) }
+
+  pub written-all-of : (out : List Float) → Written (points * points * n * n) out
+      → (retardedFine points n times free kernel ≡ true) × (out ≡ retardedNumbers points n times free kernel)
+  unfolding retardedFine retardedFinite retardedNumbers
+  written-all-of out w =
+      let count = points * points * n * n in (
+        sym (tested-all points n (λ t u a b. ltb t u || finiteSum n (terms t u) a b)) ∙ each-all count fineAt (w .fine),
+        w .begun ∙ over-all (w .base) (cells count (entryOf points n green)) (length-cells count (entryOf points n green) ∙ sym (counted points n) ∙ sym (w .long)) ∙ written-all points n green,
+      )

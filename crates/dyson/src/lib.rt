@@ -2,36 +2,22 @@
 mod forward;
 
 ghost use mathlib.Core.Path.{_≡_};
-ghost use Rattle.dyson.specs.Calls.{dyson, dysonWithTolerance, supportAsked, solvedRetarded};
+ghost use Rattle.dyson.specs.Calls.{dyson, dysonWithTolerance, solvedRetarded};
 use forward::forward;
 use grid::time_lines;
 use refusal::Refusal;
 use refusal::Verdict;
-use refusal::lines::valid_tolerance;
 use two_time::layout::clear;
 use two_time::lines::has_length;
 use two_time::lines::operand;
 use two_time::lines::sizes;
+use two_time::sums::Summed;
 use two_time::sums::Sums;
 use two_time::sums::weighted_sums;
-use two_time::support::retarded;
+use two_time::support::check_retarded_inputs;
 
-// 8, then 9 for free (operand 0) and for the self-energy (operand 1), each after lines 1 to 3 of it.
-pub fn support_lines(
-    free: &[f64],
-    self_energy: &[f64],
-    points: usize,
-    orbitals: usize,
-    tolerance: f64,
-) -> Verdict
-    ensures { λ r. ⌜ r ≡ supportAsked points orbitals tolerance (now (free .entry)) (now («self_energy» .entry)) ⌝ }
-{
-    let first = retarded(0, free, points, orbitals, tolerance);
-    let second = retarded(1, self_energy, points, orbitals, tolerance);
-    valid_tolerance(tolerance).then(first.then(second))
-}
-
-// K, the causal convolution of free and self-energy, in the scratch, and then G in the output: lines 1 to 3, then 10.
+// K, the causal convolution of free and self-energy, in the scratch, and then G in the output: both +0 throughout where something is not
+// finite, and as they were where nothing is summed.
 pub fn solve_retarded(
     times: &[f64],
     free: &[f64],
@@ -40,7 +26,7 @@ pub fn solve_retarded(
     orbitals: usize,
     green: &mut [f64],
     kernel: &mut [f64],
-) -> Verdict
+) -> Summed
     ensures { λ r. ⌜ (r ≡ solvedRetarded points orbitals (now (times .entry)) (now (free .entry)) (now («self_energy» .entry)) (now (green .entry)) (now (kernel .entry)) .answer)
         × (now (green .exit) ≡ solvedRetarded points orbitals (now (times .entry)) (now (free .entry)) (now («self_energy» .entry)) (now (green .entry)) (now (kernel .entry)) .retarded)
         × (now (kernel .exit) ≡ solvedRetarded points orbitals (now (times .entry)) (now (free .entry)) (now («self_energy» .entry)) (now (green .entry)) (now (kernel .entry)) .kernel) ⌝ }
@@ -50,9 +36,8 @@ pub fn solve_retarded(
     let green_fits = has_length(points, orbitals, green);
     let kernel_fits = has_length(points, orbitals, kernel);
     let fits = free_fits & (self_energy_fits & (green_fits & kernel_fits));
-    let verdict = sizes(points, orbitals, fits);
-    let Verdict::Pass = verdict else {
-        return verdict;
+    let Verdict::Pass = sizes(points, orbitals, fits) else {
+        return Summed::Unfit;
     };
     let convolved = weighted_sums(
         Sums::Causal,
@@ -63,16 +48,16 @@ pub fn solve_retarded(
         orbitals,
         kernel,
     );
-    let Verdict::Pass = convolved else {
+    if !convolved.is_finite() {
         clear(green);
-        return convolved;
-    };
+        return Summed::Overflow;
+    }
     if forward(times, free, kernel, points, orbitals, green) {
-        return Verdict::Pass;
+        return Summed::Finite;
     }
     clear(green);
     clear(kernel);
-    Verdict::Refused(Refusal::by(10))
+    Summed::Overflow
 }
 
 // Solves G = free + free ∘ self-energy ∘ G: lines 1 to 7, then 8, 9 for free, 9 for the self-energy, 10. N(N+1)(N+2)/6 products
@@ -101,11 +86,16 @@ pub fn retarded_dyson_with_tolerance(
         times,
         points,
     ).then(entries));
-    let verdict = inputs.then(support_lines(free, self_energy, points, orbitals, tolerance));
+    let support = check_retarded_inputs(free, self_energy, points, orbitals, tolerance);
+    let verdict = inputs.then(support);
     let Verdict::Pass = verdict else {
         return verdict;
     };
-    solve_retarded(times, free, self_energy, points, orbitals, green, kernel)
+    let solved = solve_retarded(times, free, self_energy, points, orbitals, green, kernel);
+    if solved.is_finite() {
+        return Verdict::Pass;
+    }
+    Verdict::Refused(Refusal::by(10))
 }
 
 // The same with the tolerance 1e-12.

@@ -1,21 +1,21 @@
--- `dyson::solve_retarded` meets its contract: refused, accepted, or 10 with both slices cleared. Assumes nothing.
-use mathlib.Core.Path.{_≡_, refl, sym, ap, _∙_}
-use mathlib.Core.Bool.{Bool, true, false}
-use mathlib.Core.List.{List, [], _∷_}
+-- `dyson::solve_retarded` meets its contract: unfit, finite, or not finite with both slices cleared. Assumes nothing.
+use mathlib.Core.Path.{_≡_, sym, ap, _∙_}
+use mathlib.Core.Bool.{true}
+use mathlib.Core.List.{[], _∷_}
 use Prim.Native.Nat.{ℕ}
 use native.Mathlib.Omega.{arith}
-use lib.Ieee.{Float}
-use lib.ListN.{length, replicate}
+use lib.ListN.{replicate}
 use denote.Ref.{now}
 use borrow.Author.Needs.{needs}
+use borrow.Author.Tests.{not-true, not-false}
 use Rattle.complex.specs.Arithmetic.{plusZero}
-use Rattle.refusal.specs.declared.Verdict.the-variants.{Refused}
 use Rattle.two_time.specs.Layout.{lengthOf}
+use Rattle.two_time.specs.Convolutions.{causalFine}
 use Rattle.two_time.specs.Calls.{sizeLines}
-use Rattle.two_time.specs.SizeLines.{SizesPassed, sizes-asked, fits-last, fits-more, long-first}
+use Rattle.two_time.specs.SizeLines.{sizes-asked, fits-more, long-first}
 use Rattle.dyson.specs.Retarded.{retardedNumbers, retardedFine}
-use Rattle.dyson.specs.Calls.{kernelOf, greenOf}
-use Rattle.dyson.specs.Outcome.{Left, kept, sizes, kernel-made, kernel-overflows, accepted, green-overflows}
+use Rattle.dyson.specs.Calls.{kernelOf}
+use Rattle.dyson.specs.Outcome.{unfit, sizes, kernel-made, kernel-overflows, accepted, green-overflows}
 use Rattle.dyson.proofs.solve_retarded.Statement.{statement}
 use Rattle.dyson.proofs.solve_retarded.Tie as tie
 
@@ -30,78 +30,91 @@ asked c =
     let h = c .before in
     sizes-asked (x .points) (x .orbitals) _ true _ _
     (fits-more _ _ _ _ _ _ (h .before .before .before .before .before .has-length .ensures) (fits-more _ _ _ _ _ _ (h .before .before .before .before .has-length2 .ensures)
-    (fits-more _ _ _ _ _ _ (h .before .before .has-length3 .ensures) (fits-last _ _ _ _ (h .has-length4 .ensures)))))
+    (fits-more _ _ _ _ _ _ (h .before .before .has-length3 .ensures) (h .has-length4 .ensures))))
     (c .sizes .ensures)
 
 returns : tie.Need-returns
 returns c =
     let s = c .before .before in
     let x = start s .args in
-    let k = kept (x .points) (x .orbitals) (now (x .times)) (now (x .free)) (now (x .self-energy)) (now (x .green)) (now (x .kernel)) _ (asked s) _ (c .enum-told2 .given .1) in
+    let k = unfit (x .points) (x .orbitals) (now (x .times)) (now (x .free)) (now (x .self-energy)) (now (x .green)) (now (x .kernel)) _ (asked s) _ (c .enum-told2 .given .1) in
     (k .answered, k .green, k .scratch)
 
--- after the convolution
-abbrev sized : tie.After-weighted-sums → tie.After-sizes
-sized w = w .before .before .before .before
+-- the places before the convolution's answer
+abbrev convolved : tie.After-is-finite → tie.After-weighted-sums
+convolved f = f .before .before .before
+
+abbrev told : tie.After-is-finite → tie.After-enum-told
+told f = convolved f .before .before
+
+abbrev sized : tie.After-is-finite → tie.After-sizes
+sized f = told f .before .before
 
 returns-2 : tie.Need-returns-2
 returns-2 c =
     let clear = c .before .before in
-    let told = clear .before .before in
-    let w = told .before .before .before .before in
-    let s = sized w in
+    let i = clear .before .before in
+    let f = i .before in
+    let w = convolved f in
+    let s = sized f in
     let x = start s .args in
-    let k = kernel-overflows (x .points) (x .orbitals) (now (x .times)) (now (x .free)) (now (x .self-energy)) (now (x .green)) (now (x .kernel)) _ (asked s) (w .before .before .enum-told .given .1)
-    _ _ (w .weighted-sums .ensures .0) (w .weighted-sums .ensures .1) _ (told .enum-told4 .given .1) in
+    let k = kernel-overflows (x .points) (x .orbitals) (now (x .times)) (now (x .free)) (now (x .self-energy)) (now (x .green)) (now (x .kernel)) _ (asked s) (told f .enum-told .given .1)
+    _ _ (w .weighted-sums .ensures .0) (w .weighted-sums .ensures .1) (sym (f .is-finite .ensures) ∙ not-true _ (i .if1 .taken)) in
     (k .answered, clear .clear .ensures ∙ k .green, k .scratch)
-
--- after K was made
-abbrev convolved : tie.After-enum-told3 → tie.After-weighted-sums
-convolved c = c .before .before .before .before
 
 forward-requires : tie.Need-forward-requires
 forward-requires c κs =
-    let w = convolved (c .before .before) in
-    let s = sized w in
+    let f = c .before .before .before in
+    let w = convolved f in
+    let s = sized f in
     let x = start s .args in
-    let z = sizes (x .points) (x .orbitals) (now (x .times)) (now (x .free)) (now (x .self-energy)) (now (x .green)) (now (x .kernel)) _ (asked s) (w .before .before .enum-told .given .1) in
+    let z = sizes (x .points) (x .orbitals) (now (x .times)) (now (x .free)) (now (x .self-energy)) (now (x .green)) (now (x .kernel)) _ (asked s) (told f .enum-told .given .1) in
     let count = lengthOf (x .points) (x .orbitals) in
-    let f = long-first count (now (x .free)) _ (z .long) in
-    let e = long-first count (now (x .self-energy)) _ (f .1) in
+    let l = long-first count (now (x .free)) _ (z .long) in
+    let e = long-first count (now (x .self-energy)) _ (l .1) in
     let g = long-first count (now (x .green)) _ (e .1) in
     let k = long-first count (now (x .kernel)) _ (g .1) in
-    ((omega (arith, z .points-least), z .points-most, omega (arith, z .orbitals-least), z .orbitals-most), (omega (arith, f .0), (omega (arith, k .0, w .weighted-sums .kept .1 .1 .1 .1 .1 .1 .0), g .0)))
+    ((z .points-most, z .orbitals-most), (omega (arith, l .0), (omega (arith, k .0, w .weighted-sums .kept .1 .1 .1 .1 .1 .1 .0), g .0)))
+
+-- K is made
+made : (c : tie.Else1) → let s = sized (c .before) in let x = start s .args in
+    (causalFine (x .points) (x .orbitals) (now (x .times)) (now (x .free)) (now (x .self-energy)) ≡ true)
+    × (convolved (c .before) .weighted-sums .last .1 .1 .1 .1 .1 .1 .0 ≡ kernelOf (x .points) (x .orbitals) (now (x .times)) (now (x .free)) (now (x .self-energy)))
+made c =
+    let f = c .before in
+    let w = convolved f in
+    let s = sized f in
+    let x = start s .args in
+    kernel-made (x .points) (x .orbitals) (now (x .times)) (now (x .free)) (now (x .self-energy)) (now (x .green)) (now (x .kernel)) _ (asked s) (told f .enum-told .given .1)
+    _ _ (w .weighted-sums .ensures .0) (w .weighted-sums .ensures .1) (sym (f .is-finite .ensures) ∙ not-false _ (c .if1 .left))
 
 returns-3 : tie.Need-returns-3
 returns-3 c =
-    let f = c .before .before .before in
-    let told = f .before .before .before in
-    let w = convolved told in
-    let s = sized w in
+    let g = c .before .before .before in
+    let k = g .before .before .before in
+    let s = sized (k .before) in
     let x = start s .args in
-    let made = kernel-made (x .points) (x .orbitals) (now (x .times)) (now (x .free)) (now (x .self-energy)) (now (x .green)) (now (x .kernel)) _ (asked s) (w .before .before .enum-told .given .1)
-    _ _ (w .weighted-sums .ensures .0) (w .weighted-sums .ensures .1) (told .enum-told3 .given .1) in
-    let k = accepted (x .points) (x .orbitals) (now (x .times)) (now (x .free)) (now (x .self-energy)) (now (x .green)) (now (x .kernel)) _ (asked s) (w .before .before .enum-told .given .1)
-    (made .0) (sym (f .forward .ensures .0 ∙ ap (retardedFine (x .points) (x .orbitals) (now (x .times)) (now (x .free))) (made .1)) ∙ c .if1 .taken) in
-    (k .answered, f .forward .ensures .1 (c .if1 .taken) ∙ ap (retardedNumbers (x .points) (x .orbitals) (now (x .times)) (now (x .free))) (made .1) ∙ k .green, made .1 ∙ k .scratch)
+    let m = made k in
+    let a = accepted (x .points) (x .orbitals) (now (x .times)) (now (x .free)) (now (x .self-energy)) (now (x .green)) (now (x .kernel)) _ (asked s) (told (k .before) .enum-told .given .1)
+    (m .0) (sym (g .forward .ensures .0 ∙ ap (retardedFine (x .points) (x .orbitals) (now (x .times)) (now (x .free))) (m .1)) ∙ c .if2 .taken) in
+    (a .answered, g .forward .ensures .1 (c .if2 .taken) ∙ ap (retardedNumbers (x .points) (x .orbitals) (now (x .times)) (now (x .free))) (m .1) ∙ a .green, m .1 ∙ a .scratch)
 
 returns-4 : tie.Need-returns-4
 returns-4 c =
-    let second = c .before .before .before in
+    let second = c .before .before in
     let first = second .before .before .before .before in
     let test = first .before .before in
-    let f = test .before .before .before in
-    let told = f .before .before .before in
-    let w = convolved told in
-    let s = sized w in
+    let g = test .before .before .before in
+    let k = g .before .before .before in
+    let w = convolved (k .before) in
+    let s = sized (k .before) in
     let x = start s .args in
-    let made = kernel-made (x .points) (x .orbitals) (now (x .times)) (now (x .free)) (now (x .self-energy)) (now (x .green)) (now (x .kernel)) _ (asked s) (w .before .before .enum-told .given .1)
-    _ _ (w .weighted-sums .ensures .0) (w .weighted-sums .ensures .1) (told .enum-told3 .given .1) in
-    let k = green-overflows (x .points) (x .orbitals) (now (x .times)) (now (x .free)) (now (x .self-energy)) (now (x .green)) (now (x .kernel)) _ (asked s) (w .before .before .enum-told .given .1)
-    (made .0) (sym (f .forward .ensures .0 ∙ ap (retardedFine (x .points) (x .orbitals) (now (x .times)) (now (x .free))) (made .1)) ∙ test .if1 .left) in (
-      ap Refused (c .by .ensures) ∙ k .answered,
-      first .clear2 .ensures ∙ ap (λ (m : ℕ). replicate m plusZero) (f .forward .kept .1 .1 .1 .1 .1 .0) ∙ k .green,
-      second .clear3 .ensures ∙ ap (λ (m : ℕ). replicate m plusZero) (w .weighted-sums .kept .1 .1 .1 .1 .1 .1 .0) ∙ k .scratch,
+    let m = made k in
+    let o = green-overflows (x .points) (x .orbitals) (now (x .times)) (now (x .free)) (now (x .self-energy)) (now (x .green)) (now (x .kernel)) _ (asked s) (told (k .before) .enum-told .given .1)
+    (m .0) (sym (g .forward .ensures .0 ∙ ap (retardedFine (x .points) (x .orbitals) (now (x .times)) (now (x .free))) (m .1)) ∙ test .if2 .left) in (
+      o .answered,
+      first .clear2 .ensures ∙ ap (λ (l : ℕ). replicate l plusZero) (g .forward .kept .1 .1 .1 .1 .1 .0) ∙ o .green,
+      second .clear3 .ensures ∙ ap (λ (l : ℕ). replicate l plusZero) (w .weighted-sums .kept .1 .1 .1 .1 .1 .1 .0) ∙ o .scratch,
     )
 
 pub solve-retarded-spec : {M : Type 1} → statement M
@@ -119,8 +132,7 @@ solve-retarded-spec =
     (λ c. search needs)  -- same-length-2
     returns
     (λ c κs. search needs)  -- weighted-sums-requires
-    (λ c. search needs)  -- enum-told-3
-    (λ c. search needs)  -- enum-told-4
+    (λ c κs. search needs)  -- is-finite-requires
     (λ c κs. search needs)  -- clear-requires
     (λ c. search needs)  -- same-length-3
     (λ c. search needs)  -- same-length-4
@@ -131,7 +143,6 @@ solve-retarded-spec =
     returns-3
     (λ c κs. search needs)  -- clear-requires-2
     (λ c κs. search needs)  -- clear-requires-3
-    (λ c κs. search needs)  -- by-requires
     (λ c. search needs)  -- same-length-7
     (λ c. search needs)  -- same-length-8
     returns-4)
