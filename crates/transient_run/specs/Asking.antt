@@ -1,7 +1,7 @@
 -- The lines of a run as the code asks them, and its outcome by what they and the work say. Assumes nothing.
-use mathlib.Core.Path.{_≡_, refl, sym, ap, _∙_}
-use mathlib.Core.Bool.{Bool, true, false}
-use mathlib.Core.List.{List, [], _∷_, _++_}
+use mathlib.Core.Path.{_≡_, sym, ap, _∙_}
+use mathlib.Core.Bool.{true, false}
+use mathlib.Core.List.{List, [], _∷_}
 use Prim.Native.Nat.{ℕ}
 use lib.ListN.{length, replicate}
 use lib.Ieee.{Float}
@@ -13,16 +13,16 @@ use Rattle.refusal.specs.Verdict.{by, _then_, afterwards}
 use Rattle.refusal.specs.Lines.{finiteWork}
 use Rattle.refusal.specs.Agreement.{then-pass, then-agree, then-assoc}
 use Rattle.refusal.specs.Keeping.{Keeping, then-keeping}
-use Rattle.two_time.specs.Layout.{readAs, lengthOf}
-use Rattle.two_time.specs.Calls.{allLong, sizeLines, inputLines}
-use Rattle.two_time.specs.SizeLines.{SizesPassed, sizes-pass, long-first}
+use Rattle.two_time.specs.Layout.{readAs}
+use Rattle.two_time.specs.Calls.{sizeLines, inputLines, checkInputs}
+use Rattle.two_time.specs.SizeLines.{sizes-pass}
 use Rattle.two_time.specs.Working as Working
 use Rattle.two_time.specs.Working.{inputs-keeping, inputs-sizes}
-use Rattle.dyson.specs.Calls.{supportLines, supportAsked}
-use Rattle.dyson.specs.Asking.{support-same, support-keeping}
+use Rattle.dyson.specs.Calls.{supportLines}
+use Rattle.dyson.specs.Asking.{asked-again, support-keeping}
 use Rattle.transient_run.specs.declared.Solved.{Solved}
 use Rattle.transient_run.specs.declared.Solved.the-variants.{Accepted, Refused as NotSolved}
-use Rattle.transient_run.specs.Calls.{Run, Outcome, solved, runFine, runVerdict, transientRun}
+use Rattle.transient_run.specs.Calls.{Run, solved, runFine, runVerdict, transientRun}
 use Rattle.transient_run.specs.Work.{workKernel, workGreen, workMixed, workLesser, workFine}
 
 -- lines 1 to 9, with the outputs and the scratch as slices
@@ -31,15 +31,10 @@ runLines points n tolerance times free sigma source slices =
     inputLines points n times (free ∷ sigma ∷ source ∷ []) slices then supportLines points n tolerance (readAs points n free) (readAs points n sigma)
 
 pub lines-asked : (points n : ℕ) (tolerance : Float) (times free sigma source : List Float) (slices : List (List Float)) (i s v : Verdict)
-    → i ≡ inputLines points n times (free ∷ sigma ∷ source ∷ []) slices → s ≡ supportAsked points n tolerance free sigma → v ≡ (i then s)
+    → i ≡ inputLines points n times (free ∷ sigma ∷ source ∷ []) slices → s ≡ checkInputs points n free sigma tolerance → v ≡ (i then s)
     → v ≡ runLines points n tolerance times free sigma source slices
 lines-asked points n tolerance times free sigma source slices i s v ei es e =
-    e ∙ then-agree i (inputLines points n times (free ∷ sigma ∷ source ∷ []) slices) s _ ei
-    (λ p.
-    let z = inputs-sizes points n times (free ∷ sigma ∷ source ∷ []) slices (sym ei ∙ p) in
-    let f = long-first (lengthOf points n) free _ (z .long) in
-    let g = long-first (lengthOf points n) sigma _ (f .1) in
-    es ∙ support-same points n tolerance z free sigma (f .0) (g .0))
+    e ∙ then-agree i (inputLines points n times (free ∷ sigma ∷ source ∷ []) slices) s _ ei (λ p. es ∙ asked-again points n tolerance times free sigma (source ∷ []) slices (sym ei ∙ p))
 
 -- the run of a call
 abbrev pub runOf : ℕ → ℕ → Float → List Float → List Float → List Float → List Float → List Float → List Float → List Float → List Float → Run

@@ -44,6 +44,9 @@ two-orbitals = (refl, refl)
 abbrev square : ℕ → ℕ → ℕ → ℕ → List Float
 square a b c d = floats (a ∷ 0 ∷ b ∷ 0 ∷ c ∷ 0 ∷ d ∷ 0 ∷ [])
 
+abbrev half : Float
+half = Ieee.ofBits binary64 0x3fe0000000000000
+
 abbrev none : List Float
 none = square 0 0 0 0
 
@@ -73,10 +76,10 @@ overflow : seen (run one (square 0x4000000000000000 0 0 0) none (square 0x7fe000
 unfolding transientRun runVerdict runFine greenFine solved solvedNumber afterwards finiteWork inputLines sizeLines allLong operandLines timeLines largeEnough withinLimits fitting finiteTimes risingTimes finiteWeights finiteEntries ask askAll _then_ fullWeight halfStep allBelow finite Ieee.ofBits Ieee.sub Ieee.mul Ieee.lt supportLines validTolerance retarded retardedAt residual scaleOf largestNorm largestIn largestFrom fold larger norm Ieee.div Ieee.ne Ieee.eq layOutAll layOut join everywhere weightedSum partialSum termAt productAt finiteSum product scaled adjoint sumFrom intervalWeight cadd cmul conj cfinite toBits Ieee.add Ieee.neg causalNumbers causalFine causal causalFinite retardedNumbers retardedFine retardedGreen retardedFinite solve mixedNumbers mixedFine mixed mixedFinite lesserNumbers lesserFine lesserGreen lesserFinite
 overflow = refl
 
--- 7 of Σ^<, operand 2, before 8 and 9; 8 before 9; Σ^< need not be retarded
+-- 7 of Σ^<, operand 2, before 8 and 9; 8 before 9; 9 of the retarded self-energy, operand 1; Σ^< need not be retarded
 order : map (λ r. transientRun r .answer) (run plusZero none none (plusZero ∷ nan ∷ replicate 6 one) ∷ run plusZero (square 0 0x3ff0000000000000 0 0) none none
-    ∷ run one none (square 0 0x3ff0000000000000 0 0) none ∷ run one none none (square 0 0x3ff0000000000000 0 0) ∷ [])
+    ∷ run half none (square 0 0x3ff0000000000000 0 0) none ∷ run half none none (square 0 0x3ff0000000000000 0 0) ∷ [])
     ≡ NotSolved (record { number = 7; operand = 2; first = 1; second = 0; part = plusZero }) ∷ NotSolved (by 8)
-    ∷ Accepted ∷ Accepted ∷ []
+    ∷ NotSolved (record { number = 9; operand = 1; first = 0; second = 1; part = one }) ∷ Accepted ∷ []
 unfolding transientRun runVerdict runFine greenFine solved solvedNumber afterwards finiteWork inputLines sizeLines allLong operandLines timeLines largeEnough withinLimits fitting finiteTimes risingTimes finiteWeights finiteEntries ask askAll _then_ fullWeight halfStep allBelow finite Ieee.ofBits Ieee.sub Ieee.mul Ieee.lt supportLines validTolerance retarded retardedAt residual scaleOf largestNorm largestIn largestFrom fold larger norm Ieee.div Ieee.ne Ieee.eq layOutAll layOut join everywhere weightedSum partialSum termAt productAt finiteSum product scaled adjoint sumFrom intervalWeight cadd cmul conj cfinite toBits Ieee.add Ieee.neg causalNumbers causalFine causal causalFinite retardedNumbers retardedFine retardedGreen retardedFinite solve mixedNumbers mixedFine mixed mixedFinite lesserNumbers lesserFine lesserGreen lesserFinite
 order = refl

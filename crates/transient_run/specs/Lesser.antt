@@ -1,7 +1,7 @@
 -- Document 01, transient: "After Dyson with G^R, G^A(s,t') is the adjoint of G^R(t',s). X(t,t') sums s from 0 to t' over Σ^<(t,s)·G^A(s,t')
 -- with weights (s, 0, t'); G^<(t,t') sums s from 0 to t over G^R(t,s)·X(s,t') with weights (s, 0, t). ... The device starts empty."
 use Prim.Native.Nat.{ℕ, suc}
-use mathlib.Core.Bool.{Bool, _&&_}
+use mathlib.Core.Bool.{Bool}
 use mathlib.Core.List.{List}
 use lib.Ieee.{Float}
 use Rattle.matrix.specs.Operations.{zeros, adjoint}

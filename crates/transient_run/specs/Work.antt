@@ -1,23 +1,22 @@
 -- The work of a run: K and G^R, then X, then G^<, each made of what stands in the slices before it, and whether all of it is finite.
-use mathlib.Core.Path.{_≡_, refl, sym, ap, ap₂, _∙_}
+use mathlib.Core.Path.{_≡_, sym, ap, ap₂, _∙_}
 use mathlib.Core.Bool.{Bool, true, false, _&&_}
 use mathlib.Core.List.{List, [], _∷_}
-use Prim.Native.Nat.{ℕ, suc, _+_}
+use Prim.Native.Nat.{ℕ}
 use native.Mathlib.Numerals.{add-one}
 use lib.ListN.{length}
 use lib.Ieee.{Float}
-use Rattle.refusal.specs.declared.Refusal.{Refusal}
-use Rattle.refusal.specs.declared.Verdict.{Verdict}
-use Rattle.refusal.specs.declared.Verdict.the-variants.{Pass, Refused}
+use Rattle.lists.specs.Agreement.{never}
+use Rattle.two_time.specs.declared.sums.Summed.{Summed}
 use Rattle.two_time.specs.declared.sums.Sums.the-variants.{Mixed, Lesser}
-use Rattle.two_time.specs.Layout.{readAs, lengthOf, layOutAll}
+use Rattle.two_time.specs.Layout.{lengthOf, layOutAll}
 use Rattle.two_time.specs.Sums.{weightBy, rightBy, summationAt, madeBy, fineBy}
 use Rattle.two_time.specs.Calls.{allLong}
-use Rattle.two_time.specs.Outcome.{summed, sums-passed, sums-refused}
+use Rattle.two_time.specs.Outcome.{summed, allSummed, sums-finite, sums-overflow}
 use Rattle.two_time.specs.Intervals.{laid-agree, everywhere-agree}
-use Rattle.two_time.specs.SizeLines.{SizesPassed, long-first, long-also, long-none}
-use Rattle.dyson.specs.Calls.{kernelOf, greenOf, greenFine, solvedRetarded}
-use Rattle.dyson.specs.Outcome.{Left, solved-passed, solved-refused}
+use Rattle.two_time.specs.SizeLines.{SizesPassed, long-also, long-none}
+use Rattle.dyson.specs.Calls.{kernelOf, greenOf, greenFine}
+use Rattle.dyson.specs.Outcome.{Left, solved-finite, solved-overflow}
 use Rattle.transient_run.specs.Lesser.{mixed, mixedFinite, mixedNumbers, mixedFine, lesserGreen, lesserFinite, lesserNumbers, lesserFine}
 
 module _ (points n : ℕ) (times free sigma source : List Float) where
@@ -64,48 +63,53 @@ module _ (points n : ℕ) (times free sigma source : List Float) {fits : Bool} {
 
   -- K and G^R
   module _ (green kernel : List Float) (green-long : length green ≡ count) (kernel-long : length kernel ≡ count)
-      (answer : Verdict) (green' kernel' : List Float) (told : Left points n times free sigma green kernel answer green' kernel') where
+      (answer : Summed) (green' kernel' : List Float) (told : Left points n times free sigma green kernel answer green' kernel') where
     long : allLong count (free ∷ sigma ∷ green ∷ kernel ∷ []) ≡ true
     long = long-also count free _ free-long (long-also count sigma _ sigma-long (long-also count green _ green-long (long-also count kernel _ kernel-long (long-none count))))
 
-    pub green-passed : answer ≡ Pass → (greenFine points n times free sigma ≡ true) × (green' ≡ workGreen points n times free sigma source) × (kernel' ≡ workKernel points n times free sigma source)
-    green-passed p = solved-passed points n times free sigma green kernel z long answer green' kernel' told p
+    pub green-made : allSummed answer ≡ true → (greenFine points n times free sigma ≡ true) × (green' ≡ workGreen points n times free sigma source) × (kernel' ≡ workKernel points n times free sigma source)
+    green-made p = solved-finite points n times free sigma green kernel z long answer green' kernel' told p
 
-    pub green-refused : (r : Refusal) → answer ≡ Refused r → workFine points n times free sigma source ≡ false
+    pub green-lost : allSummed answer ≡ false → workFine points n times free sigma source ≡ false
     unfolding workFine
-    green-refused r p = rw (solved-refused points n times free sigma green kernel z long answer green' kernel' told r p)
+    green-lost p = rw (solved-overflow points n times free sigma green kernel z long answer green' kernel' told p .0)
 
   -- X, where G^R is made
   module _ (fine : greenFine points n times free sigma ≡ true) (green' : List Float) (made : green' ≡ workGreen points n times free sigma source) (green-long : length green' ≡ count) where
-    module _ (mixed₀ : List Float) (mixed-long : length mixed₀ ≡ count) (answer : Verdict) (mixed' : List Float)
+    module _ (mixed₀ : List Float) (mixed-long : length mixed₀ ≡ count) (answer : Summed) (mixed' : List Float)
         (answered : answer ≡ summed Mixed points n times source green' mixed₀ .answer) (holds : mixed' ≡ summed Mixed points n times source green' mixed₀ .out) where
-      pub mixed-passed : answer ≡ Pass → (mixedFine points n times source (workGreen points n times free sigma source) ≡ true) × (mixed' ≡ workMixed points n times free sigma source)
-      mixed-passed p =
-          let told = sums-passed Mixed points n times source green' mixed₀ z source-long green-long mixed-long answer mixed' answered holds p in (
+      pub mixed-made : allSummed answer ≡ true → (mixedFine points n times source (workGreen points n times free sigma source) ≡ true) × (mixed' ≡ workMixed points n times free sigma source)
+      mixed-made p =
+          let told = sums-finite Mixed points n times source green' mixed₀ z source-long green-long mixed-long answer mixed' answered holds p in (
             sym (mixed-fine points n times source green' ∙ ap (mixedFine points n times source) made) ∙ told .0,
             told .1 ∙ mixed-numbers points n times source green' ∙ ap (mixedNumbers points n times source) made,
           )
 
-      pub mixed-refused : (r : Refusal) → answer ≡ Refused r → workFine points n times free sigma source ≡ false
+      pub mixed-lost : allSummed answer ≡ false → workFine points n times free sigma source ≡ false
       unfolding workFine
-      mixed-refused r p =
-          let told = sums-refused Mixed points n times source green' mixed₀ z source-long green-long mixed-long answer mixed' answered holds r p in
+      mixed-lost p =
+          let told = sums-overflow Mixed points n times source green' mixed₀ z source-long green-long mixed-long answer mixed' answered holds p in
           rw (fine, sym (mixed-fine points n times source green' ∙ ap (mixedFine points n times source) made) ∙ told .0)
 
     -- G^<, where X is made too
     module _ (mixed-fine' : mixedFine points n times source (workGreen points n times free sigma source) ≡ true) (mixed' : List Float) (mixed-made : mixed' ≡ workMixed points n times free sigma source) (mixed-long : length mixed' ≡ count)
-        (lesser₀ : List Float) (lesser-long : length lesser₀ ≡ count) (answer : Verdict) (lesser' : List Float)
+        (lesser₀ : List Float) (lesser-long : length lesser₀ ≡ count) (answer : Summed) (lesser' : List Float)
         (answered : answer ≡ summed Lesser points n times green' mixed' lesser₀ .answer) (holds : lesser' ≡ summed Lesser points n times green' mixed' lesser₀ .out) where
-      pub lesser-passed : answer ≡ Pass → (workFine points n times free sigma source ≡ true) × (lesser' ≡ workLesser points n times free sigma source)
+      lesser-made : allSummed answer ≡ true → (workFine points n times free sigma source ≡ true) × (lesser' ≡ workLesser points n times free sigma source)
       unfolding workFine
-      lesser-passed p =
-          let told = sums-passed Lesser points n times green' mixed' lesser₀ z green-long mixed-long lesser-long answer lesser' answered holds p in (
+      lesser-made p =
+          let told = sums-finite Lesser points n times green' mixed' lesser₀ z green-long mixed-long lesser-long answer lesser' answered holds p in (
             rw (fine, mixed-fine', sym (lesser-fine points n times green' mixed' ∙ ap₂ (lesserFine points n times) made mixed-made) ∙ told .0),
             told .1 ∙ lesser-numbers points n times green' mixed' ∙ ap₂ (lesserNumbers points n times) made mixed-made,
           )
 
-      pub lesser-refused : (r : Refusal) → answer ≡ Refused r → workFine points n times free sigma source ≡ false
+      lesser-lost : allSummed answer ≡ false → workFine points n times free sigma source ≡ false
       unfolding workFine
-      lesser-refused r p =
-          let told = sums-refused Lesser points n times green' mixed' lesser₀ z green-long mixed-long lesser-long answer lesser' answered holds r p in
+      lesser-lost p =
+          let told = sums-overflow Lesser points n times green' mixed' lesser₀ z green-long mixed-long lesser-long answer lesser' answered holds p in
           rw (fine, mixed-fine', sym (lesser-fine points n times green' mixed' ∙ ap₂ (lesserFine points n times) made mixed-made) ∙ told .0)
+
+      -- the last answer is the work's
+      pub lesser-told : (ok : Bool) → ok ≡ allSummed answer → (ok ≡ workFine points n times free sigma source) × (ok ≡ true → lesser' ≡ workLesser points n times free sigma source)
+      lesser-told true e = let made = lesser-made (sym e) in (sym (made .0), λ h. made .1)
+      lesser-told false e = (sym (lesser-lost (sym e)), λ h. never h)

@@ -2,16 +2,13 @@
 ghost use mathlib.Core.Path.{_≡_};
 ghost use mathlib.Core.Bool.{true};
 ghost use mathlib.Core.List.{List, [], _∷_};
-ghost use Prim.Native.Nat.{min};
 ghost use lib.Ieee.{Float};
 ghost use Rattle.refusal.specs.declared.Verdict.the-variants.{Pass};
-ghost use Rattle.two_time.specs.Layout.{lengthOf};
-ghost use Rattle.two_time.specs.Calls.{allLong, sizeLines};
+ghost use Rattle.two_time.specs.Calls.{allFit, sizeLines};
 ghost use Rattle.transient_run.specs.Calls.{transientRun};
 ghost use Rattle.transient_run.specs.Work.{workFine, workGreen, workLesser, workKernel, workMixed};
 ghost use Rattle.transient_run.specs.Asking.{runLines, runOf};
 use dyson::solve_retarded;
-use dyson::support_lines;
 use grid::time_lines;
 use refusal::Refusal;
 use refusal::Verdict;
@@ -22,6 +19,7 @@ use two_time::lines::operand;
 use two_time::lines::sizes;
 use two_time::sums::Sums;
 use two_time::sums::weighted_sums;
+use two_time::support::check_retarded_inputs;
 
 // The answer of a transient run.
 pub enum Solved {
@@ -40,7 +38,7 @@ fn lines(
     tolerance: f64,
     lent: bool,
 ) -> Verdict
-    ensures { λ r. ⌜ ((slices : List (List Float)) → lent ≡ allLong (lengthOf (min points 256) (min orbitals 16)) slices
+    ensures { λ r. ⌜ ((slices : List (List Float)) → lent ≡ allFit points orbitals slices
         → r ≡ runLines points orbitals tolerance (now (times .entry)) (now (free .entry)) (now (sigma .entry)) (now (source .entry)) slices) ⌝ }
 {
     let free_fits = has_length(points, orbitals, free);
@@ -53,7 +51,7 @@ fn lines(
         times,
         points,
     ).then(entries));
-    inputs.then(support_lines(free, sigma, points, orbitals, tolerance))
+    inputs.then(check_retarded_inputs(free, sigma, points, orbitals, tolerance))
 }
 
 // K and G^R, then X, then G^<, and whether all that is made for them is finite; at the first that is not the work ends.
@@ -76,23 +74,17 @@ fn work(
         × (now (kernel .exit) ≡ workKernel points orbitals (now (times .entry)) (now (free .entry)) (now (sigma .entry)) (now (source .entry)))
         × (now (mixed .exit) ≡ workMixed points orbitals (now (times .entry)) (now (free .entry)) (now (sigma .entry)) (now (source .entry)))) ⌝ }
 {
-    let solved = solve_retarded(times, free, sigma, points, orbitals, green, kernel);
-    let Verdict::Pass = solved else {
+    if !solve_retarded(times, free, sigma, points, orbitals, green, kernel).is_finite() {
         return false;
-    };
-    let first = weighted_sums(Sums::Mixed, times, source, green, points, orbitals, mixed);
-    let Verdict::Pass = first else {
+    }
+    if !weighted_sums(Sums::Mixed, times, source, green, points, orbitals, mixed).is_finite() {
         return false;
-    };
-    let second = weighted_sums(Sums::Lesser, times, green, mixed, points, orbitals, lesser);
-    let Verdict::Pass = second else {
-        return false;
-    };
-    true
+    }
+    weighted_sums(Sums::Lesser, times, green, mixed, points, orbitals, lesser).is_finite()
 }
 
 // The transient run of free, the retarded self-energy sigma and the lesser self-energy source: G^R and G^< in the outputs, K and
-// X in the scratch. G^A is never stored: its blocks are read as adjoints of G^R's. N(N+1)(2N+1)/6 − N products of blocks for K and
+// X in the scratch. G^A is never stored: its blocks are read as adjoints of G^R's. N(N+1)(2N+1)/6 products of blocks for K and
 // G^R and N·N·(N+1) for X and G^<.
 pub fn transient_run(
     times: &[f64],

@@ -1,6 +1,6 @@
 -- `transient_run::lines` meets its contract: it asks the lines in their order. Assumes nothing.
-use mathlib.Core.Path.{_≡_, ap, _∙_}
-use mathlib.Core.List.{List, [], _∷_}
+use mathlib.Core.Path.{ap, _∙_}
+use mathlib.Core.List.{[], _∷_}
 use lib.Dec.{eqb}
 use lib.ListN.{length}
 use denote.Ref.{now}
@@ -28,7 +28,7 @@ returns c slices fits =
     let sizes = grid .before in
     let entries = sizes .before in
     let later = entries .before .before in
-    lines-asked (x .points) (x .orbitals) (x .tolerance) (now (x .times)) (now (x .free)) (now (x .sigma)) (now (x .source)) slices (i .then4 .result) (c .before .support-lines .result) _
+    lines-asked (x .points) (x .orbitals) (x .tolerance) (now (x .times)) (now (x .free)) (now (x .sigma)) (now (x .source)) slices (i .then4 .result) (c .before .check-retarded-inputs .result) _
     (inputs-asked (x .points) (x .orbitals) (now (x .times)) (now (x .free) ∷ now (x .sigma) ∷ now (x .source) ∷ []) slices (sizes .sizes .result) (grid .time-lines .result) (entries .then2 .result) _
     (sizes-asked (x .points) (x .orbitals) (now (x .free) ∷ now (x .sigma) ∷ now (x .source) ∷ slices) (eqb (length (now (x .times))) (x .points)) _ _
     (fits-more _ _ _ _ _ _ (h .before .before .has-length .ensures) (fits-more _ _ _ _ _ _ (h .before .has-length2 .ensures) (fits-more _ _ _ _ _ _ (h .has-length3 .ensures) fits)))
@@ -38,7 +38,7 @@ returns c slices fits =
     (operands-more 1 (now (x .sigma)) (now (x .source) ∷ []) _ _ _ (later .before .before .operand .ensures) (operands-last 2 (now (x .source)) _ (later .before .operand2 .ensures)) (later .then .ensures))
     (entries .then2 .ensures))
     (i .then4 .ensures ∙ ap (λ (v : Verdict). sizes .sizes .result then v) (i .before .then3 .ensures)))
-    (c .before .support-lines .ensures)
+    (c .before .check-retarded-inputs .ensures)
     (c .then5 .ensures)
 
 pub lines-spec : {M : Type 1} → statement M
@@ -57,6 +57,6 @@ lines-spec =
     (λ c κs. search needs)  -- time-lines-requires
     (λ c κs. search needs)  -- then-requires-3
     (λ c κs. search needs)  -- then-requires-4
-    (λ c κs. search needs)  -- support-lines-requires
+    (λ c κs. search needs)  -- check-retarded-inputs-requires
     (λ c κs. search needs)  -- then-requires-5
     returns)

@@ -1,11 +1,11 @@
 -- `transient_run::transient_run` meets its contract: refused, accepted, or 10 with all four slices cleared. Assumes nothing.
-use mathlib.Core.Path.{_≡_, refl, sym, ap, _∙_}
+use mathlib.Core.Path.{_≡_, sym, ap, _∙_}
 use mathlib.Core.List.{[], _∷_}
 use denote.Ref.{now}
 use borrow.Author.Needs.{needs}
 use Rattle.two_time.specs.Working.{cleared}
 use Rattle.transient_run.specs.declared.Solved.the-variants.{Refused as NotSolved}
-use Rattle.transient_run.specs.Asking.{runLines, Left, kept, sizes, accepted, overflowed}
+use Rattle.transient_run.specs.Asking.{runLines, kept, sizes, accepted, overflowed}
 use Rattle.transient_run.proofs.transient_run.Statement.{statement}
 use Rattle.transient_run.proofs.transient_run.Tie as tie
 

@@ -1,19 +1,19 @@
 -- `transient_run::work` meets its contract: each step's answer says whether what it makes is finite. Assumes nothing.
-use mathlib.Core.Path.{_≡_, refl, sym, ap, _∙_}
-use mathlib.Core.Bool.{Bool, true, false}
+use mathlib.Core.Path.{_≡_, sym, _∙_}
+use mathlib.Core.Bool.{true}
 use mathlib.Core.List.{List, [], _∷_}
-use Prim.Native.Nat.{ℕ}
 use lib.Ieee.{Float}
 use lib.ListN.{length}
 use denote.Ref.{now}
 use borrow.Author.Needs.{needs}
+use borrow.Author.Tests.{not-true, not-false}
 use Rattle.lists.specs.Agreement.{never}
 use Rattle.two_time.specs.Layout.{lengthOf}
 use Rattle.two_time.specs.SizeLines.{SizesPassed, sizes-passed, long-first}
 use Rattle.dyson.specs.Calls.{greenFine}
 use Rattle.dyson.specs.Outcome.{Left}
 use Rattle.transient_run.specs.Lesser.{mixedFine}
-use Rattle.transient_run.specs.Work.{workGreen, workKernel, workMixed, green-passed, green-refused, mixed-passed, mixed-refused, lesser-passed, lesser-refused}
+use Rattle.transient_run.specs.Work.{workGreen, workKernel, workMixed, green-made, green-lost, mixed-made, mixed-lost, lesser-told}
 use Rattle.transient_run.proofs.work.Statement.{statement}
 use Rattle.transient_run.proofs.work.Tie as tie
 
@@ -45,17 +45,17 @@ lent s =
 abbrev start : tie.After-solve-retarded → tie.Start
 start c = c .before .before .before .before .before .before .before .before .before .before .before
 
-abbrev solved : tie.After-enum-told → tie.After-solve-retarded
-solved c = c .before .before .before .before .before .before
+abbrev solved : tie.After-is-finite → tie.After-solve-retarded
+solved c = c .before .before .before .before .before
 
-abbrev first : tie.After-weighted-sums → tie.After-enum-told
+abbrev first : tie.After-weighted-sums → tie.Else1
 first c = c .before .before .before
 
-abbrev second : tie.After-weighted-sums2 → tie.After-enum-told3
-second c = c .before .before .before .before
+abbrev summed : tie.After-is-finite2 → tie.After-weighted-sums
+summed c = c .before .before .before
 
-abbrev summed : tie.After-enum-told3 → tie.After-weighted-sums
-summed c = c .before .before .before .before
+abbrev second : tie.After-weighted-sums2 → tie.Else2
+second c = c .before .before .before .before
 
 -- what the first call left
 abbrev greenLeft : tie.After-solve-retarded → List Float
@@ -69,15 +69,16 @@ left : (s : tie.After-solve-retarded) → let x = start s .args in
 left s = let e = s .solve-retarded .ensures in record { answered = e .0; green = e .1; scratch = e .2 }
 
 -- K and G^R are made
-greens : (c : tie.After-enum-told) → let s = solved c in let x = start s .args in
+greens : (c : tie.Else1) → let s = solved (c .before) in let x = start s .args in
     (greenFine (x .points) (x .orbitals) (now (x .times)) (now (x .free)) (now (x .sigma)) ≡ true)
     × (greenLeft s ≡ workGreen (x .points) (x .orbitals) (now (x .times)) (now (x .free)) (now (x .sigma)) (now (x .source)))
     × (kernelLeft s ≡ workKernel (x .points) (x .orbitals) (now (x .times)) (now (x .free)) (now (x .sigma)) (now (x .source)))
 greens c =
-    let s = solved c in
+    let f = c .before in
+    let s = solved f in
     let x = start s .args in
     let l = lent (start s) in
-    green-passed (x .points) (x .orbitals) (now (x .times)) (now (x .free)) (now (x .sigma)) (now (x .source)) (l .sizes) (l .free) (l .sigma) (l .source) (now (x .green)) (now (x .kernel)) (l .green) (l .kernel) _ _ _ (left s) (c .enum-told .given .1)
+    green-made (x .points) (x .orbitals) (now (x .times)) (now (x .free)) (now (x .sigma)) (now (x .source)) (l .sizes) (l .free) (l .sigma) (l .source) (now (x .green)) (now (x .kernel)) (l .green) (l .kernel) _ _ _ (left s) (sym (f .is-finite .ensures) ∙ not-false _ (c .if1 .left))
 
 green-long : (s : tie.After-solve-retarded) → length (greenLeft s) ≡ lengthOf (start s .args .points) (start s .args .orbitals)
 green-long s = s .solve-retarded .kept .1 .1 .1 .1 .1 .0 ∙ lent (start s) .green
@@ -86,86 +87,71 @@ green-long s = s .solve-retarded .kept .1 .1 .1 .1 .1 .0 ∙ lent (start s) .gre
 abbrev mixedLeft : tie.After-weighted-sums → List Float
 mixedLeft m = m .weighted-sums .last .1 .1 .1 .1 .1 .1 .0
 
-mixeds : (c : tie.After-enum-told3) → let m = summed c in let x = start (solved (first m)) .args in
+mixeds : (c : tie.Else2) → let m = summed (c .before) in let x = start (solved (first m .before)) .args in
     (mixedFine (x .points) (x .orbitals) (now (x .times)) (now (x .source)) (workGreen (x .points) (x .orbitals) (now (x .times)) (now (x .free)) (now (x .sigma)) (now (x .source))) ≡ true)
     × (mixedLeft m ≡ workMixed (x .points) (x .orbitals) (now (x .times)) (now (x .free)) (now (x .sigma)) (now (x .source)))
 mixeds c =
-    let m = summed c in
-    let s = solved (first m) in
+    let f = c .before in
+    let m = summed f in
+    let s = solved (first m .before) in
     let x = start s .args in
     let l = lent (start s) in
     let g = greens (first m) in
-    mixed-passed (x .points) (x .orbitals) (now (x .times)) (now (x .free)) (now (x .sigma)) (now (x .source)) (l .sizes) (l .free) (l .sigma) (l .source) (g .0) _ (g .1) (green-long s) (now (x .mixed)) (l .mixed) _ _ (m .weighted-sums .ensures .0) (m .weighted-sums .ensures .1) (c .enum-told3 .given .1)
+    mixed-made (x .points) (x .orbitals) (now (x .times)) (now (x .free)) (now (x .sigma)) (now (x .source)) (l .sizes) (l .free) (l .sigma) (l .source) (g .0) _ (g .1) (green-long s) (now (x .mixed)) (l .mixed) _ _ (m .weighted-sums .ensures .0) (m .weighted-sums .ensures .1) (sym (f .is-finite2 .ensures) ∙ not-false _ (c .if2 .left))
 
-mixed-long : (c : tie.After-enum-told3) → let m = summed c in let x = start (solved (first m)) .args in length (mixedLeft m) ≡ lengthOf (x .points) (x .orbitals)
-mixed-long c = let m = summed c in m .weighted-sums .kept .1 .1 .1 .1 .1 .1 .0 ∙ lent (start (solved (first m))) .mixed
+mixed-long : (m : tie.After-weighted-sums) → let x = start (solved (first m .before)) .args in length (mixedLeft m) ≡ lengthOf (x .points) (x .orbitals)
+mixed-long m = m .weighted-sums .kept .1 .1 .1 .1 .1 .1 .0 ∙ lent (start (solved (first m .before))) .mixed
 
 returns : tie.Need-returns
 returns c =
-    let s = c .before .before .before .before .before .before in
+    let f = c .before in
+    let s = solved f in
     let x = start s .args in
     let l = lent (start s) in
-    (sym (green-refused (x .points) (x .orbitals) (now (x .times)) (now (x .free)) (now (x .sigma)) (now (x .source)) (l .sizes) (l .free) (l .sigma) (l .source) (now (x .green)) (now (x .kernel)) (l .green) (l .kernel) _ _ _ (left s) _ (c .enum-told2 .given .1)), λ h. never h)
+    (sym (green-lost (x .points) (x .orbitals) (now (x .times)) (now (x .free)) (now (x .sigma)) (now (x .source)) (l .sizes) (l .free) (l .sigma) (l .source) (now (x .green)) (now (x .kernel)) (l .green) (l .kernel) _ _ _ (left s) (sym (f .is-finite .ensures) ∙ not-true _ (c .if1 .taken))), λ h. never h)
 
 returns-2 : tie.Need-returns-2
 returns-2 c =
-    let m = c .before .before .before .before in
-    let s = solved (first m) in
+    let f = c .before in
+    let m = summed f in
+    let s = solved (first m .before) in
     let x = start s .args in
     let l = lent (start s) in
     let g = greens (first m) in
-    (sym (mixed-refused (x .points) (x .orbitals) (now (x .times)) (now (x .free)) (now (x .sigma)) (now (x .source)) (l .sizes) (l .free) (l .sigma) (l .source) (g .0) _ (g .1) (green-long s) (now (x .mixed)) (l .mixed) _ _ (m .weighted-sums .ensures .0) (m .weighted-sums .ensures .1) _ (c .enum-told4 .given .1)), λ h. never h)
+    (sym (mixed-lost (x .points) (x .orbitals) (now (x .times)) (now (x .free)) (now (x .sigma)) (now (x .source)) (l .sizes) (l .free) (l .sigma) (l .source) (g .0) _ (g .1) (green-long s) (now (x .mixed)) (l .mixed) _ _ (m .weighted-sums .ensures .0) (m .weighted-sums .ensures .1) (sym (f .is-finite2 .ensures) ∙ not-true _ (c .if2 .taken))), λ h. never h)
 
 returns-3 : tie.Need-returns-3
 returns-3 c =
-    let w = c .before .before .before .before in
+    let w = c .before .before .before in
     let e = second w in
-    let s = solved (first (summed e)) in
+    let m = summed (e .before) in
+    let s = solved (first m .before) in
     let x = start s .args in
     let l = lent (start s) in
-    let g = greens (first (summed e)) in
+    let g = greens (first m) in
     let k = mixeds e in
-    (sym (lesser-refused (x .points) (x .orbitals) (now (x .times)) (now (x .free)) (now (x .sigma)) (now (x .source)) (l .sizes) (l .free) (l .sigma) (l .source) (g .0) _ (g .1) (green-long s) (k .0) _ (k .1) (mixed-long e) (now (x .lesser)) (l .lesser) _ _ (w .weighted-sums2 .ensures .0) (w .weighted-sums2 .ensures .1) _ (c .enum-told6 .given .1)), λ h. never h)
-
-returns-4 : tie.Need-returns-4
-returns-4 c =
-    let w = c .before .before .before .before in
-    let e = second w in
-    let s = solved (first (summed e)) in
-    let x = start s .args in
-    let l = lent (start s) in
-    let g = greens (first (summed e)) in
-    let k = mixeds e in
-    let o = lesser-passed (x .points) (x .orbitals) (now (x .times)) (now (x .free)) (now (x .sigma)) (now (x .source)) (l .sizes) (l .free) (l .sigma) (l .source) (g .0) _ (g .1) (green-long s) (k .0) _ (k .1) (mixed-long e) (now (x .lesser)) (l .lesser) _ _ (w .weighted-sums2 .ensures .0) (w .weighted-sums2 .ensures .1) (c .enum-told5 .given .1) in
-    (sym (o .0), λ h. (g .1, o .1, g .2, k .1))
+    let o = lesser-told (x .points) (x .orbitals) (now (x .times)) (now (x .free)) (now (x .sigma)) (now (x .source)) (l .sizes) (l .free) (l .sigma) (l .source) (g .0) _ (g .1) (green-long s) (k .0) _ (k .1) (mixed-long m) (now (x .lesser)) (l .lesser) _ _ (w .weighted-sums2 .ensures .0) (w .weighted-sums2 .ensures .1) _ (c .is-finite3 .ensures) in
+    (o .0, λ h. (g .1, o .1 h, g .2, k .1))
 
 pub work-spec : {M : Type 1} → statement M
 work-spec =
     tie.close
     (tie.spec
     (λ c κs. search needs)  -- solve-retarded-requires
-    (λ c. search needs)  -- enum-told
-    (λ c. search needs)  -- enum-told-2
+    (λ c κs. search needs)  -- is-finite-requires
     (λ c. search needs)  -- same-length
     (λ c. search needs)  -- same-length-2
     returns
     (λ c κs. search needs)  -- weighted-sums-requires
-    (λ c. search needs)  -- enum-told-3
-    (λ c. search needs)  -- enum-told-4
+    (λ c κs. search needs)  -- is-finite-requires-2
     (λ c. search needs)  -- same-length-3
     (λ c. search needs)  -- same-length-4
     (λ c. search needs)  -- same-length-5
     returns-2
     (λ c κs. search needs)  -- weighted-sums-requires-2
-    (λ c. search needs)  -- enum-told-5
-    (λ c. search needs)  -- enum-told-6
+    (λ c κs. search needs)  -- is-finite-requires-3
     (λ c. search needs)  -- same-length-6
     (λ c. search needs)  -- same-length-7
     (λ c. search needs)  -- same-length-8
     (λ c. search needs)  -- same-length-9
-    returns-3
-    (λ c. search needs)  -- same-length-10
-    (λ c. search needs)  -- same-length-11
-    (λ c. search needs)  -- same-length-12
-    (λ c. search needs)  -- same-length-13
-    returns-4)
+    returns-3)
