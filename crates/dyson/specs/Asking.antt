@@ -1,20 +1,20 @@
 -- The lines of a Dyson call as the code asks them: lines 1 to 3 and 7 again before the support tests, which changes nothing. Assumes nothing.
-use mathlib.Core.Path.{_≡_, refl, sym, ap, _∙_}
+use mathlib.Core.Path.{_≡_, refl, sym, _∙_}
 use mathlib.Core.Bool.{Bool, true, false, cond}
-use mathlib.Core.List.{List, [], _∷_, _++_}
+use mathlib.Core.List.{List, [], _∷_}
 use Prim.Native.Nat.{ℕ}
 use lib.Dec.{eqb, ltb}
 use lib.ListN.{length}
 use lib.Ieee.{Float}
 use Rattle.refusal.specs.declared.Verdict.{Verdict}
-use Rattle.refusal.specs.declared.Verdict.the-variants.{Pass, Refused}
-use Rattle.refusal.specs.Verdict.{_then_, afterwards}
+use Rattle.refusal.specs.declared.Verdict.the-variants.{Pass}
+use Rattle.refusal.specs.Verdict.{_then_}
 use Rattle.refusal.specs.Lines.{validTolerance, retardedAt, finiteWork}
 use Rattle.refusal.specs.Agreement.{then-pass, then-agree, then-after, then-assoc}
 use Rattle.refusal.specs.Keeping.{Keeping, passed, ask-keeping, then-keeping, all-keeping}
 use Rattle.two_time.specs.Layout.{TwoTime, readAs, lengthOf}
-use Rattle.two_time.specs.Support.{retarded, retardedPlace, residual}
-use Rattle.two_time.specs.Calls.{sizeLines, operandLines, inputLines, checkInputs}
+use Rattle.two_time.specs.Support.{retarded, residual}
+use Rattle.two_time.specs.Calls.{operandLines, inputLines, checkInputs}
 use Rattle.two_time.specs.SizeLines.{SizesPassed, sizes-pass, long-first, long-also, long-none}
 use Rattle.two_time.specs.Working.{inputs-keeping, inputs-sizes}
 use Rattle.dyson.specs.Calls.{supportLines, greenFine, dysonVerdict}

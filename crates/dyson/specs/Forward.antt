@@ -27,7 +27,7 @@ use Rattle.two_time.specs.declared.sums.Weights.the-variants.{Interval}
 use Rattle.two_time.specs.declared.sums.Factor.the-variants.{Stored}
 use Rattle.two_time.specs.declared.sums.Summation.{Summation}
 use Rattle.two_time.specs.declared.layout.Stored.the-variants.{Entry, Outside}
-use Rattle.two_time.specs.Layout.{TwoTime, place, readAs, lengthOf, layOutAll, everywhere}
+use Rattle.two_time.specs.Layout.{TwoTime, readAs, lengthOf, layOutAll, everywhere}
 use Rattle.two_time.specs.WeightedSum.{Terms, productAt, termAt, partialSum, weightedSum, finiteSum}
 use Rattle.two_time.specs.Sums.{weightBy, rightBy, termsBy, checkedSum, sumOrOverflow}
 use Rattle.two_time.specs.Agreement.{AgreeTerms}

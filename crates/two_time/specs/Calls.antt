@@ -1,5 +1,5 @@
 -- Document 01, convolutions and support: the outcome of each call, and lines 1 to 7 as every call on two-time functions asks them.
-use Prim.Native.Nat.{ℕ, zero, suc}
+use Prim.Native.Nat.{ℕ, suc}
 use mathlib.Core.Bool.{Bool, true, _&&_}
 use mathlib.Core.List.{List, [], _∷_, _++_}
 use lib.Dec.{eqb, leb}

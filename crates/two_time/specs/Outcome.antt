@@ -7,7 +7,6 @@ use lib.ListN.{length, replicate}
 use lib.Ieee.{Float}
 use Rattle.complex.specs.Arithmetic.{plusZero}
 use Rattle.lists.specs.Agreement.{never}
-use Rattle.refusal.specs.declared.Refusal.{Refusal}
 use Rattle.refusal.specs.declared.Verdict.{Verdict}
 use Rattle.refusal.specs.declared.Verdict.the-variants.{Pass, Refused}
 use Rattle.two_time.specs.declared.sums.Sums.{Sums}

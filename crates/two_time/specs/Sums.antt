@@ -1,5 +1,5 @@
 -- Document 01, convolutions: the one sum over times as the code is told it: which weights, which right factor, which s, and what it begins with.
-use Prim.Native.Nat.{ℕ, zero, suc, _+_, _-_, _≤_, _<_}
+use Prim.Native.Nat.{ℕ, _+_, _-_}
 use mathlib.Core.Bool.{Bool, cond, _&&_}
 use mathlib.Core.List.{List}
 use lib.Dec.{leb, ltb}

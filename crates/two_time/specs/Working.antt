@@ -3,7 +3,7 @@
 use mathlib.Core.Path.{_≡_, refl, sym, ap, _∙_}
 use mathlib.Core.Bool.{Bool, true, false}
 use mathlib.Core.List.{List, [], _∷_, _++_}
-use Prim.Native.Nat.{ℕ, zero, suc}
+use Prim.Native.Nat.{ℕ, suc}
 use lib.Dec.{eqb}
 use lib.ListN.{length, replicate}
 use lib.Ieee.{Float}
@@ -13,7 +13,7 @@ use Rattle.refusal.specs.declared.Verdict.{Verdict}
 use Rattle.refusal.specs.declared.Verdict.the-variants.{Pass, Refused}
 use Rattle.refusal.specs.Verdict.{by, ask, _then_, afterwards}
 use Rattle.refusal.specs.Lines.{largeEnough, withinLimits, fitting, finiteTimes, risingTimes, finiteWeights, finiteEntries, finiteWork}
-use Rattle.refusal.specs.Agreement.{ask-pass, not-pass, then-pass, then-refused, then-end}
+use Rattle.refusal.specs.Agreement.{then-pass, then-refused, then-end}
 use Rattle.refusal.specs.Keeping.{Keeping, passed, ask-keeping, then-keeping, all-keeping, keeping-slice}
 use Rattle.grid.specs.Calls.{timeLines}
 use Rattle.two_time.specs.Calls.{sizeLines, operandLines, inputLines}
@@ -43,27 +43,6 @@ module _ (answer v : Verdict) (asked : answer ≡ v) (made before : List Float) 
 -- a slice that is cleared after the work, which has kept its length
 pub cleared : {xs : List Float} {m n : ℕ} → xs ≡ replicate m plusZero → m ≡ n → xs ≡ replicate n plusZero
 cleared e h = e ∙ ap (λ (k : ℕ). replicate k plusZero) h
-
--- what the outcome of such a call says, once its lines pass: all was finite and made, or it was 10
-module _ (answer v : Verdict) (fine : Bool) (made before after : List Float) (passed : v ≡ Pass)
-    (answered : answer ≡ (v then finiteWork fine)) (holds : after ≡ afterwards (v then finiteWork fine) made before) where
-  work : (v then finiteWork fine) ≡ finiteWork fine
-  unfolding _then_
-  work = rw passed
-
-  pub work-passed : answer ≡ Pass → (fine ≡ true) × (after ≡ made)
-  unfolding finiteWork afterwards
-  work-passed p =
-      let all = sym (answered ∙ work) ∙ p in
-      (ask-pass fine (by 10) all, holds ∙ rw (work, all))
-
-  pub work-refused : (r : Refusal) → answer ≡ Refused r → (fine ≡ false) × (answer ≡ Refused (by 10)) × (after ≡ replicate (length before) plusZero)
-  unfolding finiteWork ask afterwards _then_
-  work-refused r p = by-flag fine refl
-    where
-      by-flag : (f : Bool) → fine ≡ f → (fine ≡ false) × (answer ≡ Refused (by 10)) × (after ≡ replicate (length before) plusZero)
-      by-flag true e = not-pass r (sym p ∙ answered ∙ rw (passed, e))
-      by-flag false e = (e, answered ∙ rw (passed, e), holds ∙ rw (passed, e))
 
 -- ---- the lines before the work never refuse by 10
 

@@ -1,7 +1,7 @@
 -- `dyson::retarded_dyson_with_tolerance` meets its contract: refused it leaves the slices, and where lines 1 to 9 pass the work decides.
 -- Assumes nothing.
 use mathlib.Core.Path.{_≡_, sym, ap, _∙_}
-use mathlib.Core.List.{List, [], _∷_}
+use mathlib.Core.List.{[], _∷_}
 use lib.Dec.{eqb}
 use lib.ListN.{length}
 use denote.Ref.{now}

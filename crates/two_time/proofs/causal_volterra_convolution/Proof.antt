@@ -1,5 +1,4 @@
 -- `two_time::causal_volterra_convolution` meets its contract: the sums of `Sums::Causal` are the document's. Assumes nothing.
-use mathlib.Core.Path.{_≡_}
 use borrow.Author.Needs.{needs}
 use Rattle.two_time.specs.Calls.{causalConvolution}
 use Rattle.two_time.specs.Outcome.{convolvedBy}

@@ -1,5 +1,5 @@
 -- `dyson::forward::forward` meets its contract: after t turns the first t rows of blocks are finite and written. Assumes nothing.
-use mathlib.Core.Path.{_≡_, refl, sym, ap, subst, _∙_}
+use mathlib.Core.Path.{_≡_, refl, sym, subst, _∙_}
 use Prim.Native.Nat.{ℕ, _-_, _*_, _≤_}
 use native.Mathlib.Nat.{le-antisymm, le-of-eq, zero-mul}
 use native.Mathlib.Omega.{arith}

@@ -1,6 +1,5 @@
 -- `two_time::layout::function_length` meets its contract: cut to the limits, every product fits. Assumes nothing.
-use mathlib.Core.Path.{_≡_, ap₂}
-use Prim.Native.Nat.{ℕ, _≤_, min}
+use mathlib.Core.Path.{ap₂}
 use native.Mathlib.Nat.{min-le-right}
 use native.Mathlib.Omega.{arith}
 use borrow.Author.Needs.{needs}

@@ -1,6 +1,6 @@
 -- `two_time::lines::has_length` meets its contract. Assumes nothing.
 use mathlib.Core.Path.{ap, _∙_}
-use mathlib.Core.Bool.{Bool, _&&_}
+use mathlib.Core.Bool.{_&&_}
 use lib.Dec.{eqb, leb}
 use Prim.Native.Nat.{ℕ}
 use lib.ListN.{length}

@@ -1,5 +1,5 @@
 -- `two_time::sums::right_number` meets its contract. Assumes nothing.
-use mathlib.Core.Path.{_≡_, ap, _∙_}
+use mathlib.Core.Path.{ap, _∙_}
 use borrow.Author.Needs.{needs}
 use Rattle.complex.specs.Arithmetic.{conj}
 use Rattle.two_time.specs.Walking.{rightNumber}

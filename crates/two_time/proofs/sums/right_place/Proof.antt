@@ -1,7 +1,5 @@
 -- `two_time::sums::right_place` meets its contract. Assumes nothing.
-use mathlib.Core.Path.{_≡_}
 use borrow.Author.Needs.{needs}
-use Rattle.two_time.specs.Places.{Placed}
 use Rattle.two_time.specs.Walking.{rightPlace}
 use Rattle.two_time.proofs.sums.right_place.Statement.{statement}
 use Rattle.two_time.proofs.sums.right_place.Tie as tie

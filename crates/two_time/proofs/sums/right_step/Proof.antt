@@ -1,5 +1,4 @@
 -- `two_time::sums::right_step` meets its contract. Assumes nothing.
-use mathlib.Core.Path.{_≡_}
 use borrow.Author.Needs.{needs}
 use Rattle.two_time.specs.Walking.{rightStep}
 use Rattle.two_time.proofs.sums.right_step.Statement.{statement}

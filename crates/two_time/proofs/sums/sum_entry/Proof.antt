@@ -1,20 +1,14 @@
 -- `two_time::sums::sum_entry` meets its contract: after k turns the total is the running sum of k terms, and one test at the end serves.
 -- Assumes nothing.
-use mathlib.Core.Path.{_≡_, refl, sym, ap, _∙_}
-use mathlib.Core.Bool.{Bool, true, false, _||_}
-use mathlib.Core.List.{List}
-use Prim.Native.Nat.{ℕ, _+_, _-_, _≤_}
+use mathlib.Core.Path.{_≡_, sym, ap, _∙_}
+use Prim.Native.Nat.{ℕ, _-_, _≤_}
 use native.Mathlib.Nat.{le-antisymm}
 use native.Mathlib.Omega.{arith}
-use lib.Ieee.{Float}
 use denote.Ref.{now}
 use borrow.Author.Needs.{needs}
-use Rattle.complex.specs.declared.Complex.{Complex}
 use Rattle.complex.specs.Arithmetic.{cadd, cmul}
-use Rattle.two_time.specs.declared.sums.Summation.{Summation}
 use Rattle.two_time.specs.WeightedSum.{Terms, partialSum, weightedSum}
 use Rattle.two_time.specs.Sums.{termsBy}
-use Rattle.two_time.specs.Places.{Placed}
 use Rattle.two_time.specs.OneTest.{partial-none, partial-turn, fine, over}
 use Rattle.two_time.proofs.sums.sum_entry.Statement.{statement}
 use Rattle.two_time.proofs.sums.sum_entry.Tie as tie

@@ -1,6 +1,4 @@
 -- `two_time::sums::summation_at` meets its contract. Assumes nothing.
-use mathlib.Core.Path.{_≡_, refl}
-use native.Mathlib.Omega.{arith}
 use borrow.Author.Needs.{needs}
 use borrow.Author.Tests.{le-ltb, lt-ltb}
 use Rattle.two_time.specs.Sums.{summationAt}

@@ -1,10 +1,8 @@
 -- `two_time::support::largest_in_time` meets its contract: after u turns the first u blocks are seen. Assumes nothing.
 use mathlib.Core.Path.{_≡_, refl, sym, ap₂, _∙_, subst}
-use mathlib.Core.List.{List}
-use Prim.Native.Nat.{ℕ, _-_, _≤_}
+use Prim.Native.Nat.{_-_, _≤_}
 use native.Mathlib.Nat.{le-antisymm}
 use native.Mathlib.Omega.{arith}
-use lib.Ieee.{Float}
 use borrow.Author.Needs.{needs}
 use Rattle.lists.specs.Turns.{fold-more, fold-none}
 use Rattle.complex.specs.Arithmetic.{larger}

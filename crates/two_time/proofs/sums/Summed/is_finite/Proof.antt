@@ -1,5 +1,4 @@
 -- `two_time::sums::Summed::is_finite` meets its contract. Assumes nothing.
-use mathlib.Core.Path.{_≡_}
 use borrow.Author.Needs.{needs}
 use Rattle.two_time.specs.Outcome.{allSummed}
 use Rattle.two_time.proofs.sums.Summed.is_finite.Statement.{statement}
