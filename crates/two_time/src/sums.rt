@@ -32,7 +32,7 @@ use grid::full_weight;
 use grid::trapezoid_weight;
 use refusal::Verdict;
 
-// An entry of a block that is made during the work, or that it, or a block on the way to it, is not finite (number 10).
+// An entry of a block that is made during the work, or that it, or a block on the way to it, is not finite.
 pub enum CheckedEntry {
     Finite(Complex),
     Overflow,
@@ -300,7 +300,7 @@ fn add_product(
     let step = right_step(factor, orbitals);
     let mut sums = [0.0; 32];
     for k in 0..orbitals {
-        let x = number_at(left, i);
+        let x = Complex::new(left[i], left[i + 1]);
         add_row(factor, x, right, orbitals, j, &mut sums);
         i += 2;
         j += step;

@@ -49,7 +49,7 @@ turn c =
 
 add-row-requires : tie.Need-add-row-requires Inv-loop μ-loop
 add-row-requires c κs =
-    let t = c .before .before in
+    let t = c .before .before .before .before in
     let l = t .before in
     let s = start l in (
       (s .pre .0 .orbitals-most, l .loop .inv .1),
@@ -60,7 +60,7 @@ loop-again : tie.Need-loop-again Inv-loop μ-loop
 loop-again c =
     let r = c .before in
     let z = r .before .before in
-    let t = z .before in
+    let t = z .before .before .before in
     let l = t .before in
     let s = start l in
     let x = s .args in
@@ -72,7 +72,7 @@ loop-again c =
       ap₂ (λ (m s : ℕ). m + s) (i .3) (l .before .right-step .ensures) ∙ right-next (x .factor) (x .stride) (x .orbitals) (x .s) (x .u) k 0,
       λ b h.
           r .add-row .ensures .made b h
-          ∙ ap₂ cadd (i .4 b h) (ap₂ cmul (z .number-at .ensures ∙ ap (entryAt (now (x .left))) (i .2)) (row-read (x .factor) (s .pre .1 .0) k (l .loop .j) (t .loop-test .taken) (i .3) b (now (x .right))))
+          ∙ ap₂ cadd (i .4 b h) (ap₂ cmul (z .new .ensures ∙ ap (entryAt (now (x .left))) (i .2)) (row-read (x .factor) (s .pre .1 .0) k (l .loop .j) (t .loop-test .taken) (i .3) b (now (x .right))))
           ∙ sym (sum-more czero _ k),
     )
 
@@ -99,11 +99,16 @@ add-product-spec =
     (λ c κs. let q = c .before .before .before .before .pre .1 .0 in entry-placed 0 0 q (omega (arith, q .row)) (q .column))  -- right-place-requires
     (λ c κs. c .before .before .before .before .before .pre .0 .orbitals-most)  -- right-step-requires
     (λ c. (omega arith, refl, c .before .before .place .ensures .0, c .before .right-place .ensures, λ b h. number-zero b (omega arith) ∙ sym (sum-none czero _ 0)))  -- loop-holds
-    (λ c κs. let t = turn c in omega (arith, start (c .before) .pre .1 .1 .0))  -- number-at-requires
+    (λ c. let t = turn c in omega arith)  -- mul-new
+    (λ c. let t = turn (c .before) in omega (arith, start (c .before .before) .pre .1 .1 .0))  -- shared-slice-read-new
+    (λ c. let t = turn (c .before) in omega arith)  -- add-new
+    (λ c. let t = turn (c .before) in omega arith)  -- mul-new-2
+    (λ c. let t = turn (c .before .before) in omega (arith, start (c .before .before .before) .pre .1 .1 .0))  -- shared-slice-read-new-2
+    (λ c κs. search needs)  -- new-requires
     (λ c. search needs)  -- slice-aggregate-add-row
     add-row-requires
-    (λ c. let t = turn (c .before .before .before .before) in omega arith)  -- add-i
-    (λ c. let t = turn (c .before .before .before .before) in omega arith)  -- add-j
+    (λ c. let t = turn (c .before .before .before .before .before .before) in omega arith)  -- add-i
+    (λ c. let t = turn (c .before .before .before .before .before .before) in omega arith)  -- add-j
     (λ c. search needs)  -- add-k
     (λ c. search needs)  -- loop-less
     loop-again
