@@ -58,10 +58,6 @@ bond-lent points orbitals lesser time a b w h =
     let bond = then-pass _ _ (last .0) in
     (lent points orbitals lesser time (first .0) (last .1), (orbital b orbitals (bond .1), orbital a orbitals (bond .0)))
 
--- how many entries its blocks have
-pub few : {points orbitals time : ℕ} {lesser : List Float} → Lent points orbitals lesser time → orbitals * orbitals ≤ 256
-few {points} {orbitals} l = product-most orbitals orbitals (l .orbitals-most) (l .orbitals-most)
-
 -- an entry of the density, as it is read
 pub density-read : {points orbitals time : ℕ} {lesser : List Float} (a b : ℕ) → Lent points orbitals lesser time → a < orbitals → b < orbitals
     → cmul minusI (readWithin points orbitals lesser time time a b) ≡ density (readAs points orbitals lesser) time a b

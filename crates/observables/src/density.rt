@@ -1,6 +1,8 @@
 // The density matrix rho(t) = -i G^<(t,t), entry by entry.
 ghost use mathlib.Core.Path.{_≡_};
-ghost use Prim.Native.Nat.{_<_};
+ghost use Prim.Native.Nat.{_*_, _<_};
+ghost use lib.ListN.{length};
+ghost use Rattle.complex.specs.Filling.{cells};
 ghost use Rattle.matrix.specs.Block.{blockOf};
 ghost use Rattle.matrix.specs.Operations.{trace};
 ghost use Rattle.two_time.specs.Layout.{readAs};
@@ -38,17 +40,30 @@ pub(crate) fn trace(lesser: &[f64], points: usize, orbitals: usize, time: usize)
     sum
 }
 
+// Writes row a, its n entries.
+fn row(lesser: &[f64], points: usize, orbitals: usize, time: usize, a: usize, out: &mut [f64])
+    requires { ⌜ Lent points orbitals (now lesser) time ⌝ }
+    requires { ⌜ (a < orbitals) × (length (now out) ≡ 2 * orbitals) ⌝ }
+    ensures { λ _. ⌜ now (out .exit) ≡ cells orbitals (density (readAs points orbitals (now (lesser .entry))) time a) ⌝ }
+{
+    for b in 0..orbitals {
+        let z = entry(lesser, points, orbitals, time, a, b);
+        out[2 * b] = z.re;
+        out[2 * b + 1] = z.im;
+    }
+}
+
 // All entries as one block, with +0 beyond them.
 pub(crate) fn block(lesser: &[f64], points: usize, orbitals: usize, time: usize) -> DenseMatrix
     requires { ⌜ Lent points orbitals (now lesser) time ⌝ }
     ensures { λ r. ⌜ r ≡ blockOf orbitals orbitals (density (readAs points orbitals (now (lesser .entry))) time) ⌝ }
 {
     let mut values = [0.0; 512];
-    let count = orbitals * orbitals;
-    for p in 0..count {
-        let z = entry(lesser, points, orbitals, time, p / orbitals, p % orbitals);
-        values[2 * p] = z.re;
-        values[2 * p + 1] = z.im;
+    let width = 2 * orbitals;
+    for a in 0..orbitals {
+        let start = a * width;
+        let end = start + width;
+        row(lesser, points, orbitals, time, a, &mut values[start..end]);
     }
     DenseMatrix {
         rows: orbitals,

@@ -2,6 +2,8 @@
 ghost use mathlib.Core.Path.{_≡_};
 ghost use Prim.Native.Nat.{_≤_, _<_};
 ghost use lib.ListN.{length};
+ghost use Rattle.lists.specs.Indexed.{allBelow};
+ghost use Rattle.complex.specs.Arithmetic.{cfinite};
 ghost use Rattle.matrix.specs.Block.{entriesIn};
 ghost use Rattle.matrix.specs.Operations.{product, trace, allFinite};
 ghost use Rattle.two_time.specs.Layout.{readAs};
@@ -42,6 +44,27 @@ fn entry(
     sum
 }
 
+// Whether row a of the product is finite.
+fn row_is_finite(
+    values: &[f64],
+    lesser: &[f64],
+    points: usize,
+    orbitals: usize,
+    time: usize,
+    a: usize,
+) -> bool
+    requires { ⌜ Lent points orbitals (now lesser) time ⌝ }
+    requires { ⌜ (a < orbitals) × (512 ≤ length (now values)) ⌝ }
+    ensures { λ r. ⌜ r ≡ allBelow orbitals (λ b. cfinite (product orbitals (entriesIn orbitals (now (values .entry))) (density (readAs points orbitals (now (lesser .entry))) time) a b)) ⌝ }
+{
+    let mut all = true;
+    for b in 0..orbitals {
+        let z = entry(values, lesser, points, orbitals, time, a, b);
+        all = all & z.is_finite();
+    }
+    all
+}
+
 // Whether all entries of the product are finite.
 pub(crate) fn is_finite(
     values: &[f64],
@@ -55,18 +78,9 @@ pub(crate) fn is_finite(
     ensures { λ r. ⌜ r ≡ allFinite orbitals orbitals (product orbitals (entriesIn orbitals (now (values .entry))) (density (readAs points orbitals (now (lesser .entry))) time)) ⌝ }
 {
     let mut all = true;
-    let count = orbitals * orbitals;
-    for p in 0..count {
-        let z = entry(
-            values,
-            lesser,
-            points,
-            orbitals,
-            time,
-            p / orbitals,
-            p % orbitals,
-        );
-        all = all & z.is_finite();
+    for a in 0..orbitals {
+        let row = row_is_finite(values, lesser, points, orbitals, time, a);
+        all = all & row;
     }
     all
 }
