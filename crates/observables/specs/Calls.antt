@@ -1,7 +1,7 @@
 -- Document 01, observables: the outcome of each call. Lines 1, 2, 3 and 7 of the lesser function (operand 0) and of the observable's block
 -- (operand 1) come before the order that the module names.
 use Prim.Native.Nat.{ℕ}
-use mathlib.Core.Bool.{Bool, true, cond, _&&_}
+use mathlib.Core.Bool.{true, cond, _&&_}
 use mathlib.Core.List.{List, [], _∷_}
 use lib.Dec.{eqb}
 use lib.ListN.{length}
@@ -16,7 +16,7 @@ use Rattle.matrix.specs.declared.DenseMatrix.{DenseMatrix}
 use Rattle.matrix.specs.declared.Checked.{Checked}
 use Rattle.matrix.specs.Block.{Entries, entriesOf, countOf, blockOf, checked}
 use Rattle.matrix.specs.Operations.{product, trace, allFinite}
-use Rattle.two_time.specs.Layout.{TwoTime, readAs, lengthOf}
+use Rattle.two_time.specs.Layout.{readAs, lengthOf}
 use Rattle.two_time.specs.Calls.{sizeLines, operandLines}
 use Rattle.observables.specs.declared.Observed.{Observed}
 use Rattle.observables.specs.declared.Observed.the-variants.{Number, NotReal, Refused as NotObserved}

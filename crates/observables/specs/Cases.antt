@@ -1,30 +1,25 @@
 -- Closed cases of the observables: P10 of document 01, the run with two orbitals (reference/expected.py, case d), and each refusal.
 use mathlib.Core.Path.{_≡_, refl}
-use mathlib.Core.Bool.{Bool, true, false, _&&_}
 use mathlib.Core.List.{List, [], _∷_, _++_, map}
 use Prim.Native.Nat.{ℕ}
 use lib.ListN.{replicate, take}
 use lib.Ieee as Ieee
-use lib.Ieee.{Float, nan, inf, binary64, toBits}
+use lib.Ieee.{Float, nan, binary64, toBits}
 use Rattle.lists.specs.Indexed.{fold, join, allBelow}
 use Rattle.complex.specs.declared.Complex.{Complex}
-use Rattle.complex.specs.Arithmetic.{plusZero, one, czero, finite, size, cadd, cmul, cfinite}
+use Rattle.complex.specs.Arithmetic.{plusZero, one, finite, size, cadd, cmul, cfinite}
 use Rattle.complex.specs.Sum.{sumFrom}
-use Rattle.refusal.specs.declared.Verdict.{Verdict}
-use Rattle.refusal.specs.declared.Verdict.the-variants.{Pass, Refused}
-use Rattle.refusal.specs.Verdict.{by, ask, _then_, askAll, numberOf}
+use Rattle.refusal.specs.Verdict.{by, ask, _then_, askAll}
 use Rattle.refusal.specs.Lines.{largeEnough, notEmpty, withinLimits, withinBlock, fitting, finiteEntries, validTolerance, finiteWork, timeBelow, orbitalBelow, finiteFactors, realWithin}
 use Rattle.matrix.specs.declared.DenseMatrix.{DenseMatrix}
-use Rattle.matrix.specs.declared.Checked.{Checked}
 use Rattle.matrix.specs.Block.{layOut, blockOf, checked}
 use Rattle.matrix.specs.Operations.{product, trace, allFinite}
 use Rattle.two_time.specs.Calls.{allLong, sizeLines, operandLines}
 use Rattle.two_time.specs.Example as Example
 use Rattle.two_time.specs.Example.{floats}
-use Rattle.observables.specs.declared.Observed.{Observed}
 use Rattle.observables.specs.declared.Observed.the-variants.{Number, NotReal, Refused as NotObserved}
 use Rattle.observables.specs.Density.{density}
-use Rattle.observables.specs.Calls.{observedNumber, observed, lesserLines, lesserBlockLines, densityMatrix, particleNumber, oneBodyExpectation, bondFlowInto}
+use Rattle.observables.specs.Calls.{observed, lesserLines, lesserBlockLines, densityMatrix, particleNumber, oneBodyExpectation, bondFlowInto}
 
 abbrev f : ℕ → Float
 f = Ieee.ofBits binary64

@@ -1,7 +1,5 @@
 -- Document 01, observables: "Density is (0 − 1i) times each entry of G^<(t,t)."
 use Prim.Native.Nat.{ℕ}
-use mathlib.Core.List.{List}
-use lib.Ieee.{Float}
 use Rattle.complex.specs.Arithmetic.{minusI, cmul}
 use Rattle.matrix.specs.Block.{Entries}
 use Rattle.two_time.specs.Layout.{TwoTime}

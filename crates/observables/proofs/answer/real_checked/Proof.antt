@@ -1,5 +1,5 @@
 -- `observables::answer::real_checked` meets its contract: it asks 8, then 14. Assumes nothing.
-use mathlib.Core.Path.{refl, _∙_, _≡_, sym}
+use mathlib.Core.Path.{refl, _∙_, sym}
 use borrow.Author.Needs.{needs}
 use Rattle.observables.specs.Answering.{observed-yes, observed-no}
 use Rattle.observables.proofs.answer.real_checked.Statement.{statement}

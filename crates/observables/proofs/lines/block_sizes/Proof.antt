@@ -1,5 +1,5 @@
 -- `observables::lines::block_sizes` meets its contract: it asks the lines in their order. Assumes nothing.
-use mathlib.Core.Path.{_≡_, _∙_}
+use mathlib.Core.Path.{_∙_}
 use borrow.Author.Needs.{needs}
 use Rattle.observables.proofs.lines.block_sizes.Statement.{statement}
 use Rattle.observables.proofs.lines.block_sizes.Tie as tie

@@ -1,5 +1,5 @@
 -- `observables::lines::lesser_time_lines` meets its contract: its callees' answers in order. Assumes nothing.
-use mathlib.Core.Path.{_≡_, _∙_}
+use mathlib.Core.Path.{_∙_}
 use borrow.Author.Needs.{needs}
 use Rattle.observables.proofs.lines.lesser_time_lines.Statement.{statement}
 use Rattle.observables.proofs.lines.lesser_time_lines.Tie as tie
