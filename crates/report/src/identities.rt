@@ -36,10 +36,7 @@ fn entry(
     ensures { λ r. ⌜ r ≡ readAs points orbitals (now (xs .entry)) t u a b ⌝ }
 {
     let at = 2 * (((t * points + u) * orbitals + a) * orbitals + b);
-    Complex {
-        re: xs[at],
-        im: xs[at + 1],
-    }
+    Complex::new(xs[at], xs[at + 1])
 }
 
 // Entry (a, b) of x(t,u) - y(t,u).
