@@ -10,7 +10,7 @@ use two_time::layout::clear;
 use two_time::lines::all_fit;
 
 // The Langreth product of two functions by their components: C^R = A^R∘B^R, C^A = A^A∘B^A, C^< = A^R∘B^< + A^<∘B^A, C^> alike. Lines 1
-// to 7, then 10. 4·N³ + N(N+1)(N+2)/3 products of blocks.
+// to 7, then 10. At most 4·N³ + N(N+1)(N+2)/3 products of blocks.
 pub fn langreth_product(
     times: &[f64],
     left_retarded: &[f64],

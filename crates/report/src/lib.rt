@@ -55,8 +55,8 @@ impl ConsistencyReport {
     }
 }
 
-// The six residuals of the components: N·(5·N - 1)·n·n norms. Only the differences G^R - G^A and G^> - G^< can give 10; a residual
-// may be infinite.
+// The six residuals of the components: at most N·(5·N - 1)·n·n norms. Only the differences G^R - G^A and G^> - G^< can give 10; a
+// residual may be infinite.
 pub fn consistency_report(
     retarded: &[f64],
     advanced: &[f64],
