@@ -1,17 +1,15 @@
 -- Closed cases of the Langreth product (reference/expected.py, case e), 10 and another refusal.
 use mathlib.Core.Path.{_≡_, refl}
-use mathlib.Core.Bool.{Bool, true, false, _&&_}
-use mathlib.Core.List.{List, [], _∷_, _++_, map}
+use mathlib.Core.List.{List, [], _∷_, map}
 use Prim.Native.Nat.{ℕ}
-use lib.ListN.{replicate, take}
+use lib.ListN.{replicate}
 use lib.Ieee as Ieee
 use lib.Ieee.{Float, nan, binary64, toBits}
 use Rattle.lists.specs.Indexed.{fold, join, allBelow}
 use Rattle.complex.specs.Arithmetic.{plusZero, one, finite, cadd, cmul, cfinite}
 use Rattle.complex.specs.Sum.{sumFrom}
-use Rattle.refusal.specs.declared.Verdict.{Verdict}
-use Rattle.refusal.specs.declared.Verdict.the-variants.{Pass, Refused}
-use Rattle.refusal.specs.Verdict.{by, ask, _then_, askAll, numberOf, afterwards}
+use Rattle.refusal.specs.declared.Verdict.the-variants.{Refused}
+use Rattle.refusal.specs.Verdict.{by, ask, _then_, askAll, afterwards}
 use Rattle.refusal.specs.Lines.{largeEnough, withinLimits, fitting, finiteTimes, risingTimes, finiteWeights, finiteEntries, finiteWork}
 use Rattle.matrix.specs.Block.{layOut}
 use Rattle.matrix.specs.Operations.{product, scaled, added}
@@ -22,7 +20,7 @@ use Rattle.two_time.specs.WeightedSum.{productAt, termAt, partialSum, weightedS
 use Rattle.two_time.specs.Convolutions.{convolution, convolutionFinite, causal, causalFinite, causalNumbers, causalFine}
 use Rattle.two_time.specs.Calls.{allLong, sizeLines, operandLines, inputLines}
 use Rattle.langreth.specs.Product.{advanced, advancedFinite, correlation, correlationFinite}
-use Rattle.langreth.specs.Calls.{Components, Multiplied, listed, productFine, productVerdict, langrethProduct}
+use Rattle.langreth.specs.Calls.{Components, listed, productFine, productVerdict, langrethProduct}
 
 abbrev floats : List ℕ → List Float
 floats = map (Ieee.ofBits binary64)

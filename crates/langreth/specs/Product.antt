@@ -8,7 +8,7 @@ use lib.Ieee.{Float}
 use Rattle.complex.specs.Arithmetic.{czero, cfinite}
 use Rattle.matrix.specs.Operations.{zeros, added}
 use Rattle.grid.specs.Weights.{intervalWeight}
-use Rattle.two_time.specs.Layout.{TwoTime, readAs, layOutAll, everywhere}
+use Rattle.two_time.specs.Layout.{TwoTime, everywhere}
 use Rattle.two_time.specs.WeightedSum.{Terms, weightedSum, finiteSum}
 use Rattle.two_time.specs.Convolutions.{convolution, convolutionFinite}
 

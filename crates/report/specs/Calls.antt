@@ -1,6 +1,6 @@
 -- Document 01, report: the outcome of `consistency_report` and of `is_consistent`. No answer depends on times, so none are asked for.
 use Prim.Native.Nat.{ℕ}
-use mathlib.Core.Bool.{Bool, true, _&&_}
+use mathlib.Core.Bool.{true, _&&_}
 use mathlib.Core.List.{List, [], _∷_}
 use lib.Ieee.{Float, le}
 use Rattle.refusal.specs.declared.Verdict.{Verdict}

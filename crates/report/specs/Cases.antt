@@ -1,16 +1,14 @@
 -- Closed cases of the report (reference/expected.py, case f), 10 by a subtraction, an infinite residual, and the consistency question.
 use mathlib.Core.Path.{_≡_, refl}
-use mathlib.Core.Bool.{Bool, true, false, _&&_}
-use mathlib.Core.List.{List, [], _∷_, _++_, map}
+use mathlib.Core.List.{List, [], _∷_, map}
 use Prim.Native.Nat.{ℕ}
 use lib.ListN.{replicate}
 use lib.Ieee as Ieee
-use lib.Ieee.{Float, nan, inf, binary64, toBits}
+use lib.Ieee.{Float, nan, binary64}
 use Rattle.lists.specs.Indexed.{fold, allBelow}
 use Rattle.complex.specs.Arithmetic.{plusZero, one, finite, larger, csub, cmul, conj, cfinite}
 use Rattle.complex.specs.Sum.{largestFrom, largestIn}
 use Rattle.norm.specs.Norm.{norm}
-use Rattle.refusal.specs.declared.Verdict.the-variants.{Pass, Refused}
 use Rattle.refusal.specs.declared.Decision.the-variants.{Yes, No, Refused as Undecided}
 use Rattle.refusal.specs.Verdict.{by, ask, _then_, askAll, decide}
 use Rattle.refusal.specs.Lines.{largeEnough, withinLimits, fitting, finiteEntries, validTolerance, finiteWork}
@@ -18,7 +16,6 @@ use Rattle.matrix.specs.Operations.{adjoint, scaled, subtracted, largestNorm}
 use Rattle.two_time.specs.Layout.{everywhere}
 use Rattle.two_time.specs.Calls.{allLong, sizeLines, operandLines}
 use Rattle.report.specs.declared.ConsistencyReport.{ConsistencyReport}
-use Rattle.report.specs.declared.Reported.{Reported}
 use Rattle.report.specs.declared.Reported.the-variants.{Of, Refused as NotReported}
 use Rattle.report.specs.Residuals.{largestOver, retardedCausality, advancedCausality, advancedAdjoint, antihermiticity, spectralIdentity, differencesFinite}
 use Rattle.report.specs.Calls.{reported, consistencyReport, isConsistent}

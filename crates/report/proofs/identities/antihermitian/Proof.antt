@@ -1,5 +1,4 @@
 -- `report::identities::antihermitian` meets its contract. Assumes nothing.
-use mathlib.Core.Path.{_≡_}
 use lib.Ieee as Ieee
 use denote.Ref.{now}
 use borrow.Author.Needs.{needs}

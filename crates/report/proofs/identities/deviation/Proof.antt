@@ -1,10 +1,9 @@
 -- `report::identities::deviation` meets its contract, identity by identity. Assumes nothing.
-use mathlib.Core.Path.{_≡_}
 use native.Mathlib.Omega.{arith}
 use denote.Ref.{now}
 use borrow.Author.Needs.{needs}
 use Rattle.report.specs.Identities.{deviationOf, adjoint-left, spectral-left}
-use Rattle.report.specs.Lent.{Lent, mirrored}
+use Rattle.report.specs.Lent.{mirrored}
 use Rattle.report.proofs.identities.deviation.Statement.{statement}
 use Rattle.report.proofs.identities.deviation.Tie as tie
 

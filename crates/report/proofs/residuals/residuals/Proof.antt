@@ -1,5 +1,4 @@
 -- `report::residuals::residuals` meets its contract: each field is its identity's residual. Assumes nothing.
-use borrow.Author.Needs.{needs}
 use Rattle.report.specs.Identities.{fields-agree}
 use Rattle.report.proofs.residuals.residuals.Statement.{statement}
 use Rattle.report.proofs.residuals.residuals.Tie as tie
