@@ -4,7 +4,7 @@ use mathlib.Core.Bool.{Bool, true, false, _&&_, and-assoc}
 use mathlib.Core.List.{List, [], _∷_, _++_}
 use Prim.Native.Nat.{ℕ, suc, _+_}
 use native.Mathlib.Nat.{zero-add, suc-add, add-suc}
-use lib.Dec.{eqb}
+use lib.Dec.{leb, eqb}
 use lib.ListN.{length, replicate}
 use lib.Ieee.{Float}
 use Rattle.complex.specs.Arithmetic.{plusZero}
@@ -14,9 +14,9 @@ use Rattle.refusal.specs.declared.Verdict.the-variants.{Pass, Refused}
 use Rattle.refusal.specs.Verdict.{by, _then_}
 use Rattle.refusal.specs.Lines.{finiteEntries, finiteWork}
 use Rattle.refusal.specs.Agreement.{then-assoc}
-use Rattle.two_time.specs.Layout.{layOutAll}
+use Rattle.two_time.specs.Layout.{layOutAll, lengthOf}
 use Rattle.two_time.specs.Convolutions.{causalNumbers}
-use Rattle.two_time.specs.Calls.{allLong, operandLines, inputLines}
+use Rattle.two_time.specs.Calls.{allLong, allFit, operandLines, inputLines}
 use Rattle.two_time.specs.SizeLines.{SizesPassed}
 use Rattle.two_time.specs.Working as Working
 use Rattle.two_time.specs.Working.{inputs-keeping, inputs-sizes}
@@ -30,8 +30,16 @@ unfolding allLong
 both-long count [] ys = refl
 both-long count (x ∷ xs) ys = and-assoc (eqb (length x) count) (allLong count xs) (allLong count ys) ∙ ap (λ (b : Bool). eqb (length x) count && b) (both-long count xs ys)
 
-pub long-append : (count : ℕ) (xs ys : List (List Float)) (b c : Bool) → b ≡ allLong count xs → c ≡ allLong count ys → b && c ≡ allLong count (xs ++ ys)
-long-append count xs ys b c e h = ap₂ _&&_ e h ∙ both-long count xs ys
+pub fits-append : (points n : ℕ) (xs ys : List (List Float)) (b c : Bool) → b ≡ allFit points n xs → c ≡ allFit points n ys → b && c ≡ allFit points n (xs ++ ys)
+unfolding allFit
+fits-append points n xs ys b c e h =
+    let limits = leb points 256 && leb n 16 in
+    let count = lengthOf points n in
+    ap₂ _&&_ e h ∙ once limits (allLong count xs) (allLong count ys) ∙ ap (λ (long : Bool). limits && long) (both-long count xs ys)
+  where
+    once : (l x y : Bool) → (l && x) && (l && y) ≡ l && (x && y)
+    once true x y = refl
+    once false x y = refl
 
 pub operands-append : (k : ℕ) (xs ys : List (List Float)) → (operandLines k xs then operandLines (length xs + k) ys) ≡ operandLines k (xs ++ ys)
 unfolding operandLines _then_

@@ -1,19 +1,39 @@
 -- The work of a Langreth product: each component by the sums of two_time, and whether all that is made for it is finite. Assumes nothing.
 use mathlib.Core.Path.{_≡_, refl, sym, ap, ap₂, _∙_}
 use mathlib.Core.Bool.{Bool, true, false, and-true, and-false}
-use mathlib.Core.List.{List}
+use mathlib.Core.List.{List, [], _∷_}
 use Prim.Native.Nat.{ℕ}
 use lib.Dec.{ltb}
 use lib.Ieee.{Float}
+use Rattle.lists.specs.Agreement.{never}
 use Rattle.matrix.specs.Operations.{added}
+use Rattle.two_time.specs.declared.sums.Sums.{Sums}
 use Rattle.two_time.specs.declared.sums.Sums.the-variants.{Full, Causal, Advanced}
+use Rattle.two_time.specs.declared.sums.Summed.{Summed}
 use Rattle.two_time.specs.Layout.{TwoTime, readAs, layOutAll}
 use Rattle.two_time.specs.Sums.{weightBy, rightBy, summationAt, madeBy, fineBy}
+use Rattle.two_time.specs.Outcome.{summed, allSummed, sums-finite, sums-overflow}
+use Rattle.two_time.specs.SizeLines.{SizesPassed}
 use Rattle.two_time.specs.Convolutions.{convolution, convolutionNumbers, convolutionFine, causalNumbers}
 use Rattle.two_time.specs.Intervals.{laid-agree, everywhere-agree, span-entry, span-test, full-numbers, full-fine, causal-fine}
 use Rattle.langreth.specs.Product.{advancedTerms, advanced, advancedFinite, correlation, correlationFinite}
 use Rattle.langreth.specs.Calls.{Components, correlationOf, correlationFineOf, productFine}
+use Rattle.langreth.specs.Lengths.{lengths}
 use Rattle.langreth.specs.Adding.{plus, numbersFinite, plus-laid, finite-laid}
+
+-- the sums at all places, by the answer of `weighted_sums` where the slices have their length
+module _ (sums : Sums) (points n : ℕ) (times left right out : List Float) (z : SizesPassed points n true (left ∷ right ∷ out ∷ []))
+    {answer : Summed} {after : List Float} (answered : answer ≡ summed sums points n times left right out .answer) (holds : after ≡ summed sums points n times left right out .out) where
+  pub sums-told : (fine : Bool) → fine ≡ allSummed answer
+      → (fine ≡ fineBy sums points n times left right) × (fine ≡ true → after ≡ layOutAll points n (madeBy sums points n times left right))
+  sums-told true e =
+      let l = lengths z in
+      let t = sums-finite sums points n times left right out z (l .0) (l .1 .0) (l .1 .1 .0) _ _ answered holds (sym e) in
+      (sym (t .0), λ h. t .1)
+  sums-told false e =
+      let l = lengths z in
+      let t = sums-overflow sums points n times left right out z (l .0) (l .1 .0) (l .1 .1 .0) _ _ answered holds (sym e) in
+      (sym (t .0), λ h. never h)
 
 module _ (points n : ℕ) (times left right : List Float) where
   abbrev pub advancedNumbers : List Float

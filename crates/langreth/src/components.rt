@@ -10,7 +10,6 @@ ghost use Rattle.langreth.specs.Calls.{componentsOf, listed, productFine
 ghost use Rattle.langreth.specs.Adding.{plus, numbersFinite};
 ghost use Rattle.langreth.specs.Work.{correlationNumbers, correlationFine, Made};
 use complex::is_finite;
-use refusal::Verdict;
 use two_time::sums::Sums;
 use two_time::sums::weighted_sums;
 
@@ -28,11 +27,7 @@ fn convolve(
     ensures { λ r. ⌜ (r ≡ fineBy sums points orbitals (now (times .entry)) (now (left .entry)) (now (right .entry)))
         × (r ≡ true → now (out .exit) ≡ layOutAll points orbitals (madeBy sums points orbitals (now (times .entry)) (now (left .entry)) (now (right .entry)))) ⌝ }
 {
-    let verdict = weighted_sums(sums, times, left, right, points, orbitals, out);
-    let Verdict::Pass = verdict else {
-        return false;
-    };
-    true
+    weighted_sums(sums, times, left, right, points, orbitals, out).is_finite()
 }
 
 // Adds a function to another, and answers whether all of the sum is finite. Real and imaginary parts are added alike, so the

@@ -1,10 +1,9 @@
 // Lines 1 to 7 of a Langreth product (document 01, "Questions in order"): operands 0 to 3 are the left components, 4 to 7 the right.
 ghost use mathlib.Core.Path.{_≡_};
 ghost use mathlib.Core.List.{List, [], _∷_, _++_};
-ghost use Prim.Native.Nat.{_≤_, min};
+ghost use Prim.Native.Nat.{_≤_};
 ghost use lib.Ieee.{Float};
-ghost use Rattle.two_time.specs.Layout.{lengthOf};
-ghost use Rattle.two_time.specs.Calls.{allLong, operandLines, inputLines};
+ghost use Rattle.two_time.specs.Calls.{allFit, operandLines, inputLines};
 ghost use Rattle.langreth.specs.Calls.{componentsOf, listed};
 use grid::time_lines;
 use refusal::Verdict;
@@ -43,7 +42,7 @@ pub(crate) fn input_lines(
     orbitals: usize,
     lent: bool,
 ) -> Verdict
-    ensures { λ r. ⌜ ((slices : List (List Float)) → lent ≡ allLong (lengthOf (min points 256) (min orbitals 16)) slices
+    ensures { λ r. ⌜ ((slices : List (List Float)) → lent ≡ allFit points orbitals slices
         → r ≡ inputLines points orbitals (now (times .entry))
         (listed (componentsOf (now («left_retarded» .entry)) (now («left_advanced» .entry)) (now («left_lesser» .entry)) (now («left_greater» .entry)))
         ++ listed (componentsOf (now («right_retarded» .entry)) (now («right_advanced» .entry)) (now («right_lesser» .entry)) (now («right_greater» .entry)))) slices) ⌝ }

@@ -11,7 +11,7 @@ use Rattle.refusal.specs.Verdict.{_then_}
 use Rattle.two_time.specs.SizeLines.{sizes-asked}
 use Rattle.two_time.specs.Working.{inputs-asked}
 use Rattle.langreth.specs.Calls.{componentsOf, listed}
-use Rattle.langreth.specs.Asking.{long-append, operands-append}
+use Rattle.langreth.specs.Asking.{fits-append, operands-append}
 use Rattle.langreth.proofs.lines.input_lines.Statement.{statement}
 use Rattle.langreth.proofs.lines.input_lines.Tie as tie
 
@@ -33,7 +33,7 @@ returns c slices fits =
     let rights : List (List Float) = listed (componentsOf (now (x .right-retarded)) (now (x .right-advanced)) (now (x .right-lesser)) (now (x .right-greater))) in
     inputs-asked (x .points) (x .orbitals) (now (x .times)) (lefts ++ rights) slices (sizes .sizes .result) (grid .time-lines .result) (both .then .result) _
     (sizes-asked (x .points) (x .orbitals) (lefts ++ rights ++ slices) (eqb (length (now (x .times))) (x .points)) _ _
-    (long-append _ lefts (rights ++ slices) _ _ (left-fit .all-fit .ensures) (long-append _ rights slices _ _ (right-fit .all-fit2 .ensures) fits))
+    (fits-append (x .points) (x .orbitals) lefts (rights ++ slices) _ _ (left-fit .all-fit .ensures) (fits-append (x .points) (x .orbitals) rights slices _ _ (right-fit .all-fit2 .ensures) fits))
     (sizes .sizes .ensures))
     (grid .time-lines .ensures)
     (both .then .ensures ∙ ap₂ _then_ (left .entries .ensures) (right .entries2 .ensures) ∙ operands-append 0 lefts rights)
