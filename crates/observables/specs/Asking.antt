@@ -1,13 +1,13 @@
 -- The lines of a lesser function and of a block beside it as the code asks them, and what it says that they pass. Assumes nothing.
 use mathlib.Core.Path.{_≡_, refl, sym, ap, ap₂, _∙_}
-use mathlib.Core.Bool.{Bool, _&&_}
-use mathlib.Core.List.{List}
-use Prim.Native.Nat.{ℕ, _≤_, min}
-use native.Mathlib.Nat.{min-eq-left, le-of-eq}
+use mathlib.Core.Bool.{Bool, _&&_, and-true}
+use mathlib.Core.List.{List, [], _∷_}
+use Prim.Native.Nat.{ℕ, _≤_}
+use native.Mathlib.Nat.{le-of-eq}
 use lib.Dec.{eqb}
 use lib.ListN.{length}
 use lib.Ieee.{Float}
-use borrow.Author.Tests.{eqb-true}
+use borrow.Author.Tests.{eqb-true, le-leb}
 use Rattle.lists.specs.Agreement.{both}
 use Rattle.refusal.specs.declared.Refusal.{Refusal}
 use Rattle.refusal.specs.declared.Verdict.{Verdict}
@@ -18,13 +18,14 @@ use Rattle.refusal.specs.Lines.{largeEnough, notEmpty, withinLimits, withinBloc
 use Rattle.matrix.specs.declared.DenseMatrix.{DenseMatrix}
 use Rattle.matrix.specs.Block.{countOf}
 use Rattle.two_time.specs.Layout.{lengthOf}
+use Rattle.two_time.specs.Calls.{allLong, allFit}
 use Rattle.two_time.specs.SizeLines.{limited, sizes-one}
 use Rattle.two_time.specs.Working.{operands-last}
 use Rattle.observables.specs.Calls.{lesserLines, lesserBlockLines}
 use Rattle.observables.specs.Lent.{Lent, below}
 
 module _ (points orbitals : ℕ) (lesser : List Float) where
-  pub lesser-asked : {fits : Bool} {sizes entries all : Verdict} → fits ≡ eqb (length lesser) (lengthOf (min points 256) (min orbitals 16))
+  pub lesser-asked : {fits : Bool} {sizes entries all : Verdict} → fits ≡ allFit points orbitals (lesser ∷ [])
       → sizes ≡ (largeEnough points orbitals then withinLimits points orbitals then fitting fits) → entries ≡ finiteEntries 0 lesser (length lesser) → all ≡ (sizes then entries)
       → all ≡ lesserLines points orbitals lesser
   unfolding lesserLines
@@ -38,15 +39,16 @@ module _ (points orbitals : ℕ) (lesser : List Float) where
         then (withinLimits points orbitals then withinBlock (x .rows) (x .columns))
         then fitting (eqb (length lesser) (lengthOf points orbitals) && (eqb (x .rows) orbitals && eqb (x .columns) orbitals))
 
-    -- where line 2 passes N and n are not cut
-    pub block-sizes : {fits : Bool} {v : Verdict} → fits ≡ eqb (length lesser) (lengthOf (min points 256) (min orbitals 16))
+    -- where line 2 passes its limits are kept
+    pub block-sizes : {fits : Bool} {v : Verdict} → fits ≡ allFit points orbitals (lesser ∷ [])
         → v ≡ ((largeEnough points orbitals then notEmpty (x .rows) (x .columns)) then (withinLimits points orbitals then withinBlock (x .rows) (x .columns)) then fitting (fits && (eqb (x .rows) orbitals && eqb (x .columns) orbitals)))
         → v ≡ blockSizes
+    unfolding allFit allLong
     block-sizes f e =
         e
         ∙ then-agree _ _ _ _ refl
         (λ l. then-agree _ _ _ _ refl
-        (λ m. let most = limited points orbitals (then-pass _ _ m .0) in rw (f, min-eq-left (most .0), min-eq-left (most .1))))
+        (λ m. let most = limited points orbitals (then-pass _ _ m .0) in rw (f, le-leb _ _ (most .0), le-leb _ _ (most .1), and-true (eqb (length lesser) (lengthOf points orbitals)))))
 
     sizes-first : (blockSizes then (finiteEntries 0 lesser (length lesser) then finiteEntries 1 (x .values) (countOf x))) ≡ lesserBlockLines points orbitals lesser x
     unfolding lesserBlockLines

@@ -1,5 +1,5 @@
 -- A lesser function that passed its lines, and a time index below N: each entry of its block there is read. Assumes nothing.
-use mathlib.Core.Path.{_≡_, sym, ap, _∙_}
+use mathlib.Core.Path.{_≡_, sym, _∙_}
 use mathlib.Core.List.{List}
 use Prim.Native.Nat.{ℕ, _*_, _≤_, _<_}
 use native.Mathlib.Nat.{le-of-eq, le-trans, zero-mul, zero-add}
@@ -8,18 +8,18 @@ use lib.Dec.{ltb}
 use lib.ListN.{length}
 use lib.Ieee.{Float}
 use borrow.Author.Tests.{ltb-true}
-use Rattle.complex.specs.Arithmetic.{minusI, cmul}
+use Rattle.complex.specs.declared.Complex.{Complex}
 use Rattle.refusal.specs.declared.Verdict.{Verdict}
 use Rattle.refusal.specs.declared.Verdict.the-variants.{Pass}
 use Rattle.refusal.specs.Verdict.{by, _then_}
 use Rattle.refusal.specs.Agreement.{ask-pass, then-pass}
 use Rattle.refusal.specs.Lines.{timeBelow, orbitalBelow}
 use Rattle.matrix.specs.Block.{entriesIn}
-use Rattle.two_time.specs.Layout.{lengthOf, readAs, readWithin}
+use Rattle.two_time.specs.declared.layout.Stored.{Stored}
+use Rattle.two_time.specs.declared.layout.Stored.the-variants.{Entry, Outside}
+use Rattle.two_time.specs.Layout.{lengthOf, readAs}
 use Rattle.two_time.specs.Places.{Placed, product-most}
-use Rattle.two_time.specs.Reaching.{read-placed}
 use Rattle.two_time.specs.SizeLines.{sizes-passed, long-first}
-use Rattle.observables.specs.Density.{density}
 use Rattle.observables.specs.Calls.{lesserLines}
 
 pub record Lent (points orbitals : ℕ) (lesser : List Float) (time : ℕ) : Type 0 where
@@ -34,12 +34,12 @@ unfolding timeBelow
 below time points e = ltb-true time points (ask-pass (ltb time points) (by 11) e)
 
 -- and line 12
-orbital : (a orbitals : ℕ) → orbitalBelow a orbitals ≡ Pass → a < orbitals
+pub orbital : (a orbitals : ℕ) → orbitalBelow a orbitals ≡ Pass → a < orbitals
 unfolding orbitalBelow
 orbital a orbitals e = ltb-true a orbitals (ask-pass (ltb a orbitals) (by 12) e)
 
 -- what it says that all of them pass
-lent : (points orbitals : ℕ) (lesser : List Float) (time : ℕ) → lesserLines points orbitals lesser ≡ Pass → timeBelow time points ≡ Pass → Lent points orbitals lesser time
+pub lent : (points orbitals : ℕ) (lesser : List Float) (time : ℕ) → lesserLines points orbitals lesser ≡ Pass → timeBelow time points ≡ Pass → Lent points orbitals lesser time
 unfolding lesserLines
 lent points orbitals lesser time l t =
     let s = sizes-passed points orbitals _ _ (then-pass _ _ l .0) in
@@ -58,18 +58,23 @@ bond-lent points orbitals lesser time a b w h =
     let bond = then-pass _ _ (last .0) in
     (lent points orbitals lesser time (first .0) (last .1), (orbital b orbitals (bond .1), orbital a orbitals (bond .0)))
 
--- an entry of the density, as it is read
-pub density-read : {points orbitals time : ℕ} {lesser : List Float} (a b : ℕ) → Lent points orbitals lesser time → a < orbitals → b < orbitals
-    → cmul minusI (readWithin points orbitals lesser time time a b) ≡ density (readAs points orbitals lesser) time a b
-unfolding density
-density-read {points} {orbitals} {time} {lesser} a b l ha hb =
-    let p : Placed points orbitals time time a b = record { first = l .time-below; second = l .time-below; row = ha; column = hb; stride-most = l .points-most; orbitals-most = l .orbitals-most } in
-    ap (cmul minusI) (read-placed lesser p (l .room))
+-- where an entry of its block stands
+pub lent-placed : {points orbitals time a b : ℕ} {lesser : List Float} → Lent points orbitals lesser time → a < orbitals → b < orbitals → Placed points orbitals time time a b
+lent-placed l ha hb = record { first = l .time-below; second = l .time-below; row = ha; column = hb; stride-most = l .points-most; orbitals-most = l .orbitals-most }
 
 -- a block is read as a two-time function of one time
-pub block-read : (orbitals : ℕ) (values : List Float) (a b : ℕ) → a < orbitals → b < orbitals → orbitals ≤ 16 → 512 ≤ length values
-    → readWithin 1 orbitals values 0 0 a b ≡ entriesIn orbitals values a b
-block-read orbitals values a b ha hb most room =
-    let p : Placed 1 orbitals 0 0 a b = record { first = omega arith; second = omega arith; row = ha; column = hb; stride-most = omega arith; orbitals-most = most } in
-    let fits : lengthOf 1 orbitals ≤ length values = le-trans (product-most (2 * 1 * 1 * orbitals) orbitals {m = 32} (omega arith) most) room in
-    read-placed values p fits ∙ rw (zero-mul, zero-add)
+pub block-placed : {orbitals a b : ℕ} → a < orbitals → b < orbitals → orbitals ≤ 16 → Placed 1 orbitals 0 0 a b
+block-placed ha hb most = record { first = omega arith; second = omega arith; row = ha; column = hb; stride-most = omega arith; orbitals-most = most }
+
+pub block-room : (orbitals : ℕ) (values : List Float) → orbitals ≤ 16 → 512 ≤ length values → lengthOf 1 orbitals ≤ length values
+block-room orbitals values most room = le-trans (product-most (2 * 1 * 1 * orbitals) orbitals {m = 32} (omega arith) most) room
+
+pub block-read : (orbitals : ℕ) (values : List Float) (a b : ℕ) → readAs 1 orbitals values 0 0 a b ≡ entriesIn orbitals values a b
+block-read orbitals values a b = rw (zero-mul, zero-add)
+
+-- an entry that is there is the one that is found
+pub entry-found : {s : Stored} (z w : Complex) → s ≡ Entry z → s ≡ Entry w → w ≡ z
+entry-found z w e f = cc
+
+pub not-outside : {P : Type 0} {s : Stored} (z : Complex) → s ≡ Entry z → s ≡ Outside → P
+not-outside z e f = absurd (let n : _≡_ {A = ℕ} 0 1 = cc in omega arith)

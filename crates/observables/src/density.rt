@@ -1,18 +1,41 @@
 // The density matrix rho(t) = -i G^<(t,t), entry by entry.
 ghost use mathlib.Core.Path.{_≡_};
-ghost use Prim.Native.Nat.{_*_, _<_};
+ghost use Prim.Native.Nat.{_*_, _<_, _≤_};
 ghost use lib.ListN.{length};
 ghost use Rattle.complex.specs.Filling.{cells};
 ghost use Rattle.matrix.specs.Block.{blockOf};
 ghost use Rattle.matrix.specs.Operations.{trace};
-ghost use Rattle.two_time.specs.Layout.{readAs};
+ghost use Rattle.two_time.specs.Layout.{readAs, lengthOf};
+ghost use Rattle.two_time.specs.Places.{Placed};
 ghost use Rattle.observables.specs.Density.{density};
 ghost use Rattle.observables.specs.Lent.{Lent};
 use complex::Complex;
 use matrix::DenseMatrix;
+use two_time::layout::Stored;
 use two_time::layout::read;
 
-// Entry (a, b).
+// Entry (a, b) of block (t, u), which the slice holds.
+pub(crate) fn stored(
+    xs: &[f64],
+    stride: usize,
+    orbitals: usize,
+    t: usize,
+    u: usize,
+    a: usize,
+    b: usize,
+) -> Complex
+    requires { ⌜ Placed stride orbitals t u a b ⌝ }
+    requires { ⌜ lengthOf stride orbitals ≤ length (now xs) ⌝ }
+    ensures { λ r. ⌜ r ≡ readAs stride orbitals (now (xs .entry)) t u a b ⌝ }
+{
+    // The other case never comes.
+    let Stored::Entry(z) = read(xs, stride, orbitals, t, u, a, b) else {
+        return Complex::ZERO;
+    };
+    z
+}
+
+// Entry (a, b) of the density.
 pub(crate) fn entry(
     lesser: &[f64],
     points: usize,
@@ -25,7 +48,7 @@ pub(crate) fn entry(
     requires { ⌜ (a < orbitals) × (b < orbitals) ⌝ }
     ensures { λ r. ⌜ r ≡ density (readAs points orbitals (now (lesser .entry))) time a b ⌝ }
 {
-    Complex::MINUS_I.times(read(lesser, points, orbitals, time, time, a, b))
+    Complex::MINUS_I.times(stored(lesser, points, orbitals, time, time, a, b))
 }
 
 // The sum of the diagonal.

@@ -1,7 +1,7 @@
 // One-body observables of a lesser function (document 01, observables): the meaning of each call is in specs/.
 mod answer;
 mod density;
-mod lines;
+pub mod lines;
 mod product;
 
 ghost use mathlib.Core.Path.{_≡_};

@@ -15,7 +15,7 @@ use two_time::lines::has_length;
 use two_time::lines::operand;
 use two_time::lines::sizes;
 
-pub(crate) fn lesser_lines(lesser: &[f64], points: usize, orbitals: usize) -> Verdict
+pub fn lesser_lines(lesser: &[f64], points: usize, orbitals: usize) -> Verdict
     ensures { λ r. ⌜ r ≡ lesserLines points orbitals (now (lesser .entry)) ⌝ }
 {
     let fits = has_length(points, orbitals, lesser);

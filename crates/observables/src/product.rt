@@ -11,14 +11,13 @@ ghost use Rattle.observables.specs.Density.{density};
 ghost use Rattle.observables.specs.Lent.{Lent};
 use crate::density;
 use complex::Complex;
-use two_time::layout::read;
 
 // Entry (a, b) of the matrix, whose block is read as a two-time function of one time.
 fn observable_entry(values: &[f64], orbitals: usize, a: usize, b: usize) -> Complex
     requires { ⌜ (a < orbitals) × (b < orbitals) × (orbitals ≤ 16) × (512 ≤ length (now values)) ⌝ }
     ensures { λ r. ⌜ r ≡ entriesIn orbitals (now (values .entry)) a b ⌝ }
 {
-    read(values, 1, orbitals, 0, 0, a, b)
+    density::stored(values, 1, orbitals, 0, 0, a, b)
 }
 
 // Entry (a, b) of the product.
