@@ -1,18 +1,19 @@
 // A view of one two-time function (document 01, "Where the Rust leans on heap and closures"). The borrow checker covers no
 // function over such a struct, so each is thin: it takes the view apart and calls a covered function with plain parameters.
 ghost use mathlib.Core.Path.{_≡_};
-ghost use mathlib.Core.Bool.{true};
-ghost use mathlib.Core.List.{[], _∷_};
-ghost use Rattle.two_time.specs.Layout.{readWithin};
-ghost use Rattle.two_time.specs.Calls.{sizeLines};
-ghost use Rattle.observables.specs.Calls.{particleNumber, oneBodyExpectation, bondFlowInto};
+ghost use Rattle.observables.specs.Calls.{lesserLines, particleNumber, oneBodyExpectation, bondFlowInto};
+ghost use Rattle.view.specs.Calls.{storedEntry};
 use complex::Complex;
 use matrix::DenseMatrix;
+use matrix::Value;
 use observables::Observed;
+use observables::lines::lesser_lines;
+use refusal::Refusal;
 use refusal::Verdict;
+use refusal::lines::orbital_below;
+use refusal::lines::time_below;
+use two_time::layout::Stored;
 use two_time::layout::read;
-use two_time::lines::has_length;
-use two_time::lines::sizes;
 
 // The lent numbers, N and n.
 pub struct View<'a> {
@@ -21,18 +22,11 @@ pub struct View<'a> {
     pub orbitals: usize,
 }
 
-// A view beside the answer to lines 1 to 3 of what it holds: an enum cannot hold a reference. Beside a refusal too the view
+// A view beside the answer to lines 1, 2, 3 and 7 of what it holds: an enum cannot hold a reference. Beside a refusal too the view
 // holds what was lent, and whatever is asked of it is answered as if it were asked of the numbers.
 pub struct Viewed<'a> {
     pub verdict: Verdict,
     pub view: View<'a>,
-}
-
-// 1, 2 and 3 of numbers that a view is to hold.
-pub fn check(numbers: &[f64], points: usize, orbitals: usize) -> Verdict
-    ensures { λ r. ⌜ r ≡ sizeLines points orbitals true (now (numbers .entry) ∷ []) ⌝ }
-{
-    sizes(points, orbitals, has_length(points, orbitals, numbers))
 }
 
 // The view of what is lent, whatever its length.
@@ -46,21 +40,46 @@ pub fn new<'a>(numbers: &'a [f64], points: usize, orbitals: usize) -> View<'a>
     }
 }
 
-// Both.
+// The same, with what lines 1, 2, 3 and 7 say of it.
 pub fn make<'a>(numbers: &'a [f64], points: usize, orbitals: usize) -> Viewed<'a>
-    ensures { λ r. ⌜ r ≡ record { verdict = sizeLines points orbitals true (now (numbers .entry) ∷ []); view = record { numbers = numbers .entry; points = points; orbitals = orbitals } } ⌝ }
+    ensures { λ r. ⌜ r ≡ record { verdict = lesserLines points orbitals (now (numbers .entry)); view = record { numbers = numbers .entry; points = points; orbitals = orbitals } } ⌝ }
 {
     Viewed {
-        verdict: check(numbers, points, orbitals),
+        verdict: lesser_lines(numbers, points, orbitals),
         view: new(numbers, points, orbitals),
     }
 }
 
-// Entry (a, b) of block (t, u), and NaN parts where there is none.
-pub fn entry<'a>(view: View<'a>, t: usize, u: usize, a: usize, b: usize) -> Complex
-    ensures { λ r. ⌜ r ≡ readWithin (view .entry .points) (view .entry .orbitals) (now (view .entry .numbers)) t u a b ⌝ }
+// Entry (a, b) of block (t, u) of a function that is lent as numbers: 1, 2, 3 and 7, then 11 of t and of u, then 12 of a and of b.
+pub fn stored_entry(
+    numbers: &[f64],
+    points: usize,
+    orbitals: usize,
+    t: usize,
+    u: usize,
+    a: usize,
+    b: usize,
+) -> Value
+    ensures { λ r. ⌜ r ≡ storedEntry points orbitals (now (numbers .entry)) t u a b ⌝ }
 {
-    read(view.numbers, view.points, view.orbitals, t, u, a, b)
+    let times = time_below(t, points).then(time_below(u, points));
+    let entry = orbital_below(a, orbitals).then(orbital_below(b, orbitals));
+    let verdict = lesser_lines(numbers, points, orbitals).then(times.then(entry));
+    if let Verdict::Refused(r) = verdict {
+        return Value::Refused(r);
+    }
+    // The other case never comes: the lines passed.
+    let Stored::Entry(z) = read(numbers, points, orbitals, t, u, a, b) else {
+        return Value::Refused(Refusal::by(3));
+    };
+    Value::Of(z)
+}
+
+// Entry (a, b) of block (t, u).
+pub fn entry<'a>(view: View<'a>, t: usize, u: usize, a: usize, b: usize) -> Value
+    ensures { λ r. ⌜ r ≡ storedEntry (view .entry .points) (view .entry .orbitals) (now (view .entry .numbers)) t u a b ⌝ }
+{
+    stored_entry(view.numbers, view.points, view.orbitals, t, u, a, b)
 }
 
 // Tr rho of a lesser function.

@@ -1,4 +1,4 @@
--- `view::entry` meets its contract: it hands a view's parts, two times and two orbitals on to `two_time::layout::read`.
+-- `view::entry` meets its contract: it hands a view's parts, two times and two orbitals on to `stored_entry`.
 -- Assumes nothing.
 use mathlib.Core.Path.{refl}
 use mathlib.Core.List.{List, [], _∷_}
@@ -10,13 +10,13 @@ use prog.Wp.{Heap}
 use ghost.Atoms.{Atoms}
 use contract.Monad.{Fun}
 use contract.Running.{givenOf}
-use denote.Struct.Laws as LL
-use Rattle.complex.proofs.Complex as Z
-use Rattle.complex.proofs.Complex.Laws as Z′
-use Rattle.two_time.proofs.layout.read as callee
-use Rattle.two_time.proofs.layout.read.Symbol as callee-def
-use Rattle.two_time.proofs.layout.read.Symbol.{name as #callee}
-use Rattle.two_time.proofs.layout.read.Met as callee-thm
+use denote.Enum.Laws as EL
+use Rattle.matrix.proofs.Value as Z
+use Rattle.matrix.proofs.Value.Laws as Z′
+use Rattle.view.proofs.stored_entry as callee
+use Rattle.view.proofs.stored_entry.Symbol as callee-def
+use Rattle.view.proofs.stored_entry.Symbol.{name as #callee}
+use Rattle.view.proofs.stored_entry.Met as callee-thm
 use Rattle.view.proofs.Cells.{Datum}
 use Rattle.view.proofs.Data.{whole}
 use Rattle.view.proofs.Thin.{Same, thin-spec}
@@ -36,4 +36,4 @@ pub entry-spec : {M : Type 1} → stated.statement M
 unfolding code.routine
 entry-spec 𝓤 H 𝓜 𝓖 𝓡 =
     thin-spec Z.the-row Ps 𝓤 H 𝓜 𝓖 𝓡 (callee.clauses 𝓤 H (𝓖 .A) (𝓜 .mem) (𝓡 .run)) (own.clauses 𝓤 H (𝓖 .A) (𝓜 .mem) (𝓡 .run)) (same 𝓤 H (𝓖 .A) (𝓜 .mem) (𝓡 .run)) (λ κs a. (tt, id⊢ 𝓤 _))
-    (LL.lawful Z.the-type Z′.the-laws 𝓤 H (𝓖 .A) (givenOf 𝓤 H 𝓜 𝓖)) code.env #own #callee code.function callee-def.routine refl refl (code.unfolded 𝓤 H 𝓜 𝓡) code.calls-two-time·layout·read (callee-thm.met 𝓤 H 𝓜 𝓖 𝓡)
+    (EL.lawful Z.the-type Z′.the-laws 𝓤 H (𝓖 .A) (givenOf 𝓤 H 𝓜 𝓖) tt) code.env #own #callee code.function callee-def.routine refl refl (code.unfolded 𝓤 H 𝓜 𝓡) code.calls-view·stored-entry (callee-thm.met 𝓤 H 𝓜 𝓖 𝓡)
