@@ -1,14 +1,12 @@
 -- Closed cases of reading an entry: what stands there, and each refusal.
 use mathlib.Core.Path.{_≡_, refl}
 use mathlib.Core.List.{List, [], _∷_}
-use Prim.Native.Nat.{ℕ}
 use lib.ListN.{replicate}
 use lib.Ieee as Ieee
 use lib.Ieee.{Float, nan}
 use Rattle.complex.specs.Arithmetic.{plusZero, one, finite}
 use Rattle.refusal.specs.Verdict.{by, ask, _then_, askAll}
 use Rattle.refusal.specs.Lines.{largeEnough, withinLimits, fitting, finiteEntries, timeBelow, orbitalBelow}
-use Rattle.matrix.specs.declared.Value.{Value}
 use Rattle.matrix.specs.declared.Value.the-variants.{Of, Refused}
 use Rattle.matrix.specs.Calls.{valued}
 use Rattle.two_time.specs.Calls.{allLong, sizeLines, operandLines}
