@@ -19,7 +19,6 @@ pub mod Intervals
 pub mod Reaching
 pub mod SizeLines
 pub mod Working
-pub mod FlatPlaces
 pub mod Rows
 pub mod RowSums
 pub mod AskingSupport
