@@ -5,18 +5,18 @@ import functools
 from bits import from_bits, to_bits
 from document01 import (
     ACCEPTED, Block, Refusal, Report, add, adjoint, bond_flow_into, causal_volterra_convolution, consistency_report,
-    density_matrix, entry, from_numbers, full_weights, function_length, identity, interval_weight, is_consistent, is_hermitian,
-    langreth_product, line_8, max_difference, norm, one_body_expectation, particle_number, product, retarded_dyson,
-    retarded_dyson_with_tolerance, retarded_support, scale, subtract, time_convolution, trace, transient_run,
+    density_matrix, entry, from_numbers, from_scalar, full_weights, function_length, grid_call_lines, grid_lines, half_step, identity,
+    interval_weight, is_consistent, is_hermitian, langreth_product, line_8, max_difference, norm, one_body_expectation,
+    particle_number, product, retarded_dyson, retarded_dyson_with_tolerance, retarded_support, scale, step_weight, subtract,
+    time_convolution, trace, transient_run, weights_of, zero,
 )
 from replay_calls.calls import (
-    ADD, ADJOINT, ADJOINT_PLUS, CAUSAL, CONSISTENT, DENSITY, DIFFERENCE, DYSON, DYSON_DEFAULT, EXPECTATION, FLOW, FROM_NUMBERS,
-    FULL, GET, HERMITIAN, IDENTITY, IDENTITY_TIMES, INFINITY, INTERVAL, LANGRETH, MADE, MOST_IN_BLOCK, MOST_STORED, MULTIPLY, NAN,
-    NORM, NUMBER, REPORT, RUN, SCALE, SUBTRACT, SUPPORT, TRACE, WEIGHTS,
+    ADD, ADJOINT, ADJOINT_PLUS, CAUSAL, CHECK_TIMES, CONSISTENT, DENSITY, DIFFERENCE, DYSON, DYSON_DEFAULT, EXPECTATION, FLOW,
+    FROM_NUMBERS, FROM_SCALAR, FULL, FULL_WEIGHT, GET, HALF, HERMITIAN, IDENTITY, IDENTITY_TIMES, INTERVAL, LANGRETH, MADE,
+    MOST_IN_BLOCK, MOST_STORED, MULTIPLY, NAN, NORM, NUMBER, REPORT, RUN, SCALE, SUBTRACT, SUPPORT, TIME_LINES, TRACE, TRAPEZOID,
+    WEIGHTS, ZERO_OF, held, inputs, outputs,
 )
 
-# What the program has in each output of a Langreth product before the call.
-HELD = (7.5, -0.0, NAN, INFINITY)
 # What stands for an answer that is not worked out here.
 LEFT_OUT = "?"
 
@@ -28,7 +28,7 @@ def number(x):
 
 
 def answer(value):
-    if value is ACCEPTED:
+    if value is ACCEPTED or value is None:
         return "accepted"
     if isinstance(value, bool):
         return "yes" if value else "no"
@@ -58,32 +58,34 @@ def with_block(value, block):
 # ---- Calls that leave numbers in lent slices -----------------------------------
 
 
+def lent(call):
+    """What each output holds before the call."""
+    return map(held, outputs(call))
+
+
 def convolved(convolution):
-    return lambda call: convolution(call.points, call.orbitals, *call.slices)
+    return lambda call: convolution(call.points, call.orbitals, *inputs(call), *lent(call))
 
 
 def solved(call):
-    times, free, sigma, *lent = call.slices
-    return retarded_dyson_with_tolerance(call.points, call.orbitals, times, free, sigma, call.tolerance, *lent)
+    return retarded_dyson_with_tolerance(call.points, call.orbitals, *inputs(call), call.tolerance, *lent(call))
 
 
 def solved_by_default(call):
-    return retarded_dyson(call.points, call.orbitals, *call.slices)
+    return retarded_dyson(call.points, call.orbitals, *inputs(call), *lent(call))
 
 
 def ran(call):
-    times, free, sigma, source, *lent = call.slices
-    return transient_run(call.points, call.orbitals, times, free, sigma, source, call.tolerance, *lent)
+    return transient_run(call.points, call.orbitals, *inputs(call), call.tolerance, *lent(call))
 
 
-def multiplied(call, held=HELD):
-    left, times, right = call.slices[:4], call.slices[4], call.slices[5:]
-    lent = [[value] * length for value, length in zip(held, call.last)]
-    return langreth_product(call.points, call.orbitals, times, left, right, *lent)
+def multiplied(call):
+    times, *operands = inputs(call)
+    return langreth_product(call.points, call.orbitals, times, operands[:4], operands[4:], *lent(call))
 
 
 def weighed(call):
-    return full_weights(call.points, *call.slices)
+    return full_weights(call.points, *inputs(call), *lent(call))
 
 
 OUTCOME = {
@@ -176,8 +178,45 @@ def adjoint_plus(call):
     return [answer(is_hermitian(both, call.tolerance))]
 
 
+def one_number(call):
+    return with_block(*from_scalar(tuple(map(from_bits, call.more))))
+
+
+def zeros(call):
+    return with_block(*zero(*call.more))
+
+
+class Padded(list):
+    """Numbers of which one past the end is a NaN."""
+
+    def __getitem__(self, index):
+        return super().__getitem__(index) if index < len(self) else NAN
+
+
 def weighed_within(call):
     return [answer(interval_weight(call.points, *call.slices, *call.more))]
+
+
+def times_checked(call):
+    return [answer(grid_call_lines(call.points, *call.slices))]
+
+
+def times_asked(call):
+    """The times are as many as the points."""
+    return [answer(grid_lines(*call.slices))]
+
+
+def halved(call):
+    times = Padded(*call.slices)
+    return [answer(half_step(*(times[index] for index in call.more)))]
+
+
+def weighed_at(call):
+    return [answer(Padded(weights_of(*call.slices))[call.more[0]])]
+
+
+def weighed_unasked(call):
+    return [answer(step_weight(Padded(*call.slices), *call.more))]
 
 
 ANSWER = {function: (lambda call, outcome=outcome: with_slices(outcome(call))) for function, outcome in OUTCOME.items()} | {
@@ -185,7 +224,8 @@ ANSWER = {function: (lambda call, outcome=outcome: with_slices(outcome(call))) f
     CONSISTENT: decided, NORM: normed, FROM_NUMBERS: built, IDENTITY: one_on_diagonal, ADJOINT: made_block(adjoint),
     SCALE: scaled, MULTIPLY: made_block(product), ADD: made_block(add), SUBTRACT: made_block(subtract), TRACE: measured(trace),
     GET: measured(entry), DIFFERENCE: measured(max_difference), HERMITIAN: hermitian, INTERVAL: weighed_within,
-    IDENTITY_TIMES: identity_times, ADJOINT_PLUS: adjoint_plus,
+    IDENTITY_TIMES: identity_times, ADJOINT_PLUS: adjoint_plus, FROM_SCALAR: one_number, ZERO_OF: zeros, CHECK_TIMES: times_checked,
+    TIME_LINES: times_asked, HALF: halved, FULL_WEIGHT: weighed_at, TRAPEZOID: weighed_unasked,
 }
 
 # ---- Calls whose numbers are made ----------------------------------------------
@@ -225,22 +265,19 @@ def digest(numbers):
     return format(state, "016x")
 
 
-# How many of the slices are two-time operands, and how many are lent to be written.
+# How many two-time operands a function has.
 OPERANDS = {FULL: 2, CAUSAL: 2, SUPPORT: 1, DYSON: 2, DYSON_DEFAULT: 2, RUN: 3, DENSITY: 1, NUMBER: 1, FLOW: 1, REPORT: 4}
-WRITTEN = {FULL: 1, CAUSAL: 1, DYSON: 2, DYSON_DEFAULT: 2, RUN: 4}
 
 
 def with_made(call):
-    """The call of function k whose numbers are made; a Langreth product's outputs are told by their lengths."""
+    """The call of function k whose numbers are made."""
     function = call.function - MADE
     seed, *more = call.more
     times, numbers = made(call.points, call.orbitals, seed)
     if function == LANGRETH:
-        return call._replace(function=function, slices=[*[numbers] * 4, times, *[numbers] * 4], last=(len(numbers),) * 4)
-    slices = [numbers] * OPERANDS[function] + [[7.5] * len(numbers)] * WRITTEN.get(function, 0)
-    if function in WRITTEN:
-        slices = [times, *slices]
-    return call._replace(function=function, slices=slices, more=tuple(more))
+        return call._replace(function=function, slices=[*[numbers] * 4, times, *[numbers] * 4], last=outputs(call))
+    slices = [numbers] * (OPERANDS[function] + len(outputs(call)))
+    return call._replace(function=function, slices=[times, *slices] if function in OUTCOME else slices, more=tuple(more))
 
 
 def of_made(call):
@@ -251,8 +288,7 @@ def of_made(call):
     refused = function in (DYSON, RUN) and line_8(call.tolerance)
     if function_length(call.points, call.orbitals) > MOST_STORED and not refused:
         return [LEFT_OUT]
-    stored = with_made(call)
-    outcome = multiplied(stored, (7.5,) * 4) if function == LANGRETH else OUTCOME[function](stored)
+    outcome = OUTCOME[function](with_made(call))
     return [answer(outcome.answer), *map(digest, outcome.lent.values())]
 
 

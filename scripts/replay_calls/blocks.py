@@ -7,8 +7,8 @@ import random
 from bits import to_bits
 from document01 import LARGEST, SMALLEST_NORMAL, Block
 from replay_calls.calls import (
-    ADD, ADJOINT, DIFFERENCE, FROM_NUMBERS, GET, HALF_STEP, HERMITIAN, HUGE, IDENTITY, INFINITY, KINDS, MOST, MULTIPLY, NAN,
-    NOT_FINITE, SCALE, SMALLEST, SUBTRACT, TRACE, WRONG_TOLERANCES, Call, beside, some,
+    ADD, ADJOINT, DIFFERENCE, FROM_NUMBERS, FROM_SCALAR, GET, HALF_STEP, HERMITIAN, HUGE, IDENTITY, INFINITY, KINDS, MOST, MULTIPLY,
+    NAN, NOT_FINITE, SCALE, SMALLEST, SUBTRACT, TRACE, WRONG_TOLERANCES, ZERO_OF, Call, beside, some,
 )
 
 OF_ONE = (ADJOINT, SCALE, TRACE, GET, HERMITIAN)
@@ -37,6 +37,14 @@ def built(rows, columns, numbers):
 
 def identity(size):
     return Call(IDENTITY, 0, 0, 0.0, more=(size,))
+
+
+def one_number(re, im=0.0):
+    return Call(FROM_SCALAR, 0, 0, 0.0, more=(to_bits(re), to_bits(im)))
+
+
+def zeros(size):
+    return Call(ZERO_OF, 0, 0, 0.0, more=(size,))
 
 
 def of_two(function, left, right):
@@ -115,6 +123,7 @@ def largest_shapes():
     yield hermitian(turned_plus(full), 1e-12)
     for size in (0, 1, 2, 3, 15, 16, 17, HUGE, MOST):
         yield identity(size)
+        yield zeros(size)
     # The first number past the block, and the last one missing.
     for count in (511, 513):
         yield built(16, 16, [1.0] * count)
@@ -366,7 +375,16 @@ def places():
     yield get(Block(3, 2, six.numbers), 1, 2)
 
 
+def scalars():
+    """A block of one number: signs of zero, ends, and line 7 at either part."""
+    for re, im in itertools.product((0.0, -0.0, 1.5, -LARGEST, SMALLEST), repeat=2):
+        yield one_number(re, im)
+    for bad in NOT_FINITE:
+        for re, im in ((bad, 1.0), (-0.0, bad), (bad, bad)):
+            yield one_number(re, im)
+
+
 CASES = [
     shapes, largest_shapes, single, beyond, signs_of_zero, overflows, infinite, hermitian_thresholds, hermitian_or_nearly,
-    sizes, lengths, not_finite, places,
+    sizes, lengths, not_finite, places, scalars,
 ]

@@ -26,13 +26,15 @@ NAMES = [
     "retarded_dyson", "transient_run", "density_matrix", "particle_number", "one_body_expectation", "bond_flow_into",
     "consistency_report", "is_consistent", "langreth_product", "norm", "from_numbers", "identity", "adjoint", "scale",
     "multiply", "add", "subtract", "trace", "get", "max_difference", "is_hermitian", "full_weights", "interval_weight",
-    "identity_times", "adjoint_plus_is_hermitian",
+    "identity_times", "adjoint_plus_is_hermitian", "from_scalar", "zero", "check_times", "time_lines", "half_step", "full_weight",
+    "trapezoid_weight",
 ]
 FULL, CAUSAL, SUPPORT, DYSON, DYSON_DEFAULT, RUN, DENSITY, NUMBER, EXPECTATION, FLOW = range(10)
 REPORT, CONSISTENT, LANGRETH, NORM, FROM_NUMBERS, IDENTITY, ADJOINT, SCALE = range(10, 18)
 MULTIPLY, ADD, SUBTRACT, TRACE, GET, DIFFERENCE, HERMITIAN, WEIGHTS, INTERVAL = range(18, 27)
 # Two compositions: the identity times a block, and whether the sum of a block and its adjoint is Hermitian.
 IDENTITY_TIMES, ADJOINT_PLUS = range(27, 29)
+FROM_SCALAR, ZERO_OF, CHECK_TIMES, TIME_LINES, HALF, FULL_WEIGHT, TRAPEZOID = range(29, 36)
 # The questions of each function by their numbers, in their order; those of a report are followed by that of its decision.
 OF_FUNCTIONS = (1, 2, 3, 4, 5, 6, 7)
 OF_PAIRS = (1, 2, 3, 7)
@@ -44,7 +46,13 @@ QUESTIONS = {
     IDENTITY: (1, 2), ADJOINT: (1, 2, 7), SCALE: (1, 2, 7, 10), MULTIPLY: (*OF_PAIRS, 10), ADD: (*OF_PAIRS, 10),
     SUBTRACT: (*OF_PAIRS, 10), TRACE: (1, 2, 3, 7), GET: (1, 2, 7, 12), DIFFERENCE: OF_PAIRS, HERMITIAN: (1, 2, 7, 8),
     WEIGHTS: (1, 2, 3, 4, 5, 6), INTERVAL: (1, 2, 3, 4, 5, 6, 11), IDENTITY_TIMES: OF_PAIRS, ADJOINT_PLUS: (1, 8),
+    FROM_SCALAR: (7,), ZERO_OF: (1, 2), CHECK_TIMES: (1, 2, 3, 4, 5, 6), TIME_LINES: (4, 5, 6), HALF: (), FULL_WEIGHT: (),
+    TRAPEZOID: (),
 }
+# How many slices a function is lent to be written. The list has their lengths, for functions of times and operands always four.
+OUTPUTS = {FULL: 1, CAUSAL: 1, DYSON: 2, DYSON_DEFAULT: 2, RUN: 4, LANGRETH: 4, WEIGHTS: 1}
+# The functions that have times.
+TIMED = (FULL, CAUSAL, DYSON, DYSON_DEFAULT, RUN, LANGRETH, WEIGHTS, INTERVAL, CHECK_TIMES, TIME_LINES, HALF, FULL_WEIGHT, TRAPEZOID)
 # Function k at a size that is too large to be stored has the number MADE + k: its numbers are made from a seed.
 MADE = 64
 # How many numbers a slice of the list has at most, and a block.
@@ -53,9 +61,10 @@ MOST_IN_BLOCK = 512
 
 
 class Call(NamedTuple):
-    """A call by the function's number; `more` are the words after the tolerance's, `slices` are in the order in which the
-    program reads them (a block among them by its shape and the numbers that are stored), and `last` are the words after
-    them."""
+    """A call by the function's number. `slices` are the times, if the function has them, its operands (a block by its shape and the
+    numbers that are stored) and its outputs, of which only the length counts; `more` and `last` are other words, before and after
+    the shapes of blocks. A Langreth product has the times between left and right, and its outputs' lengths in `last`. The numbers of
+    a made call come from the first word of `more`, its seed."""
 
     function: int
     points: int
@@ -66,17 +75,48 @@ class Call(NamedTuple):
     last: tuple = ()
 
 
+def outputs(call):
+    """The lengths of the outputs."""
+    count = OUTPUTS.get(call.function % MADE, 0)
+    if call.function >= MADE:
+        return (function_length(call.points, call.orbitals),) * count
+    if call.function == LANGRETH:
+        return call.last
+    return tuple(map(len, call.slices[len(call.slices) - count :]))
+
+
+def inputs(call):
+    """The slices as they stand in the list: the times, empty where the function has none, then the operands."""
+    if call.function == LANGRETH:
+        return [call.slices[4], *call.slices[:4], *call.slices[5:]]
+    operands = call.slices[: len(call.slices) - OUTPUTS.get(call.function, 0)]
+    return operands if call.function in TIMED or not operands else [[], *operands]
+
+
+def other_words(call):
+    """The words after the slices."""
+    function = call.function % MADE
+    if function in OUTPUTS:
+        lengths = outputs(call)
+        return lengths if function == WEIGHTS else (*lengths, *[0] * (4 - len(lengths)))
+    if function == CONSISTENT:
+        return tuple(map(to_bits, call.slices[0]))
+    shapes = [side for x in call.slices if isinstance(x, Block) for side in (x.rows, x.columns)]
+    more = call.more if call.function < MADE else call.more[1:]
+    return (*more, *shapes, *call.last)
+
+
 def words(call):
-    """The call as it stands in the list."""
-    rows = [[call.function, call.points, call.orbitals, to_bits(call.tolerance), *call.more]]
-    for numbers in call.slices:
-        shape = []
-        if isinstance(numbers, Block):
-            *shape, numbers = numbers
+    """The call as it stands in the list: its head, how many slices follow or the seed of those that are made, the slices, other words."""
+    lent = [] if call.function == CONSISTENT or call.function >= MADE else inputs(call)
+    begun = call.more[0] if call.function >= MADE else len(lent)
+    rows = [[call.function, call.points, call.orbitals, to_bits(call.tolerance), begun]]
+    for numbers in lent:
+        numbers = numbers.numbers if isinstance(numbers, Block) else numbers
         assert len(numbers) <= MOST_STORED
-        rows.append([*shape, len(numbers), *map(to_bits, numbers)])
-    rows += [call.last] if call.last else []
-    return "".join(" ".join(format(word, "016x") for word in row) + "\n" for row in rows)
+        rows.append([len(numbers), *map(to_bits, numbers)])
+    rows.append(other_words(call))
+    return "".join(" ".join(format(word, "016x") for word in row) + "\n" for row in rows if row)
 
 
 # ---- Numbers, times and functions ----------------------------------------------
@@ -108,7 +148,7 @@ def some(kind, count, rng):
 
 
 def held(count):
-    """What an output slice holds before: nothing of it may stay."""
+    """What an output holds before: nothing of it may stay."""
     return list(itertools.islice(itertools.cycle([7.5, -0.0, NAN, -1.25, INFINITY]), count))
 
 

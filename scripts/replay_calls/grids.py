@@ -1,12 +1,12 @@
-"""Calls of the full weights and of the interval weight."""
+"""Calls of the grid: its questions, the full weights, the weight in an interval, and what they are made of."""
 
 import itertools
 import random
 
 from document01 import LARGEST
 from replay_calls.calls import (
-    GRIDS, HALF_STEP, HUGE, INFINITY, INTERVAL, MOST, NAN, NANS, NOT_FINITE, SMALLEST, WEIGHTS, Call, beside, held,
-    other_length, quarters,
+    CHECK_TIMES, FULL_WEIGHT, GRIDS, HALF, HALF_STEP, HUGE, INFINITY, INTERVAL, MOST, NAN, NANS, NOT_FINITE, SMALLEST, TIME_LINES,
+    TRAPEZOID, WEIGHTS, Call, beside, held, other_length, quarters,
 )
 
 PLAIN = [0.0, 0.5, 2.0, 5.0]
@@ -71,7 +71,7 @@ def sizes():
     """Lines 1, 2 and 3, each before the next and before all others."""
     wrong = [1.0, NAN, 0.0]
     for points in (0, 1, 2, 256, 257, HUGE, MOST):
-        yield weights(wrong, points, [7.5, NAN])
+        yield weights(wrong, points, held(2))
         yield interval(wrong, 1, 0, MOST, points)
     for times in ([], [0.0]):
         yield from both(times)
@@ -95,8 +95,8 @@ def lengths():
         yield call._replace(slices=other_length(call.slices, 0, change))
     for times in ([NAN, 0.0, 0.0], [1.0, 1.0, 1.0], [-LARGEST, LARGEST, 0.0]):
         yield weights(times, 2)
-        yield weights(times, 3, [7.5] * 2)
-        yield weights(times, 3, [7.5] * 4)
+        yield weights(times, 3, held(2))
+        yield weights(times, 3, held(4))
         yield interval(times, 1, 0, 9, 4)
     for points in (1, 3, 5):
         yield weights(PLAIN, points)
@@ -142,4 +142,40 @@ def infinite_weights():
     yield interval([-LARGEST, LARGEST], 0, 1, 1)
 
 
-CASES = [ordinary, every_interval, far_indices, sizes, lengths, not_finite, not_rising, infinite_weights]
+# ---- What no question is asked before ------------------------------------------
+
+
+def asked(function, times, points=None):
+    return Call(function, len(times) if points is None else points, 0, 0.0, [times])
+
+
+def questions():
+    """Lines 1 to 6 alone, and lines 4 to 6 of as many times as points."""
+    count = GRIDS["count"]
+    for times, points in [(count(257), 0), (count(257), 1), (count(257), 257), (count(257), MOST), ([1.0], 1), (PLAIN, 1), (PLAIN, 3)]:
+        yield asked(CHECK_TIMES, times, points)
+    yield asked(CHECK_TIMES, PLAIN, 5)
+    for times in [
+        count(2), count(256), PLAIN, [0.0, NAN, 1.0], [0.0, INFINITY], [-INFINITY, 0.0], [1.0, 0.0, NAN], [0.0, 0.0], [-0.0, 0.0],
+        [0.0, -0.0], [0.0, 1.0, 1.0, 0.5], [-LARGEST, LARGEST], [-LARGEST, LARGEST, 0.0], [-2.0, -0.0, 3.0],
+    ]:
+        yield asked(CHECK_TIMES, times)
+        yield asked(TIME_LINES, times)
+
+
+def unasked():
+    """Weights of times of which no question is asked: one past the end is a NaN."""
+    for later, earlier in [(1, 0), (0, 3), (3, 3), (4, 0), (0, MOST), (3, 0)]:
+        yield asked(HALF, PLAIN)._replace(more=(later, earlier))
+    yield asked(HALF, [-LARGEST, LARGEST])._replace(more=(1, 0))
+    yield asked(HALF, [0.0, SMALLEST])._replace(more=(1, 0))
+    for index in (0, 1, 2, 3, 4, MOST):
+        yield asked(FULL_WEIGHT, PLAIN)._replace(more=(index,))
+    for end, start, point in itertools.product(range(5), repeat=3):
+        yield asked(TRAPEZOID, PLAIN)._replace(more=(point, start, end))
+    for point, start, end in [(1, 0, MOST), (0, 0, MOST), (MOST, 0, MOST), (MOST, MOST, 3), (3, 0, 9), (4, 0, 9), (9, 0, 9)]:
+        yield asked(TRAPEZOID, PLAIN)._replace(more=(point, start, end))
+    yield asked(TRAPEZOID, [0.0, SMALLEST])._replace(more=(0, 0, 1))
+
+
+CASES = [ordinary, every_interval, far_indices, sizes, lengths, not_finite, not_rising, infinite_weights, questions, unasked]

@@ -39,7 +39,7 @@ def between():
 
 
 def refused():
-    """What is lent stays as it was: 7.5 throughout. An imaginary part, a place and a factor are refused at these sizes too."""
+    """What is lent stays as it was. An imaginary part, a place and a factor are refused at these sizes too."""
     yield made(DYSON, 256, 1, tolerance=0.0)
     yield made(RUN, 256, 1, tolerance=NAN)
     yield made(RUN, 16, 16, tolerance=-1.0)

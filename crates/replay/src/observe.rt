@@ -1,90 +1,104 @@
-// Functions 6 to 9: the observables.
-use crate::answers;
+// Functions 2 and 6 to 11: questions to functions, and to a report's residuals.
+use crate::blocks::block;
+use crate::lent::Head;
+use crate::lent::Places;
+use crate::lent::part;
+use crate::show;
+use crate::words;
 use complex::Complex;
-use matrix::DenseMatrix;
 use observables::bond_flow_into;
 use observables::density_matrix;
 use observables::one_body_expectation;
 use observables::particle_number;
-use show::words;
-use show::words::slice;
+use report::ConsistencyReport;
+use report::Reported;
+use report::consistency_report;
+use two_time::check_retarded_support;
 
-// The density matrix: the time's index, the lesser function.
-pub(crate) fn density(points: usize, orbitals: usize) {
-    let time = words::whole();
-    let mut lesser = [0.0; 1024];
-    let l = slice(&mut lesser);
-    answers::block(density_matrix(&lesser[..l], points, orbitals, time));
+fn reported(answer: Reported, tolerance: f64) {
+    match answer {
+        Reported::Of(residuals) => {
+            show::number(residuals.retarded_causality);
+            show::number(residuals.advanced_causality);
+            show::number(residuals.advanced_adjoint);
+            show::number(residuals.lesser_antihermiticity);
+            show::number(residuals.greater_antihermiticity);
+            show::number(residuals.spectral_identity);
+            show::decision(residuals.is_consistent(tolerance));
+        }
+        Reported::Refused(r) => show::refused(r),
+    }
 }
 
-// The particle number: the time's index, the lesser function.
-pub(crate) fn number(points: usize, orbitals: usize, tolerance: f64) {
-    let time = words::whole();
-    let mut lesser = [0.0; 1024];
-    let l = slice(&mut lesser);
-    answers::observed(particle_number(&lesser[..l], points, orbitals, time, tolerance));
+// The report of four components: its residuals, then the decision by the tolerance.
+fn report(head: Head, numbers: &[f64], at: &Places) {
+    let answer = consistency_report(
+        part(numbers, at, 1),
+        part(numbers, at, 2),
+        part(numbers, at, 3),
+        part(numbers, at, 4),
+        head.points,
+        head.orbitals,
+    );
+    reported(answer, head.tolerance);
 }
 
-// A one-body expectation: the time's index, the block's rows and columns, the lesser function, the block's numbers. The block
-// holds NaNs beyond them.
-pub(crate) fn expectation(points: usize, orbitals: usize, tolerance: f64) {
-    let time = words::whole();
-    let rows = words::whole();
-    let columns = words::whole();
-    let mut lesser = [0.0; 1024];
-    let l = slice(&mut lesser);
-    let mut values = [0.0 / 0.0; 512];
-    slice(&mut values);
-    let block = DenseMatrix {
-        rows,
-        columns,
-        values,
+// The decision alone, by six residuals.
+fn consistent(tolerance: f64) {
+    let given = ConsistencyReport {
+        retarded_causality: words::number(),
+        advanced_causality: words::number(),
+        advanced_adjoint: words::number(),
+        lesser_antihermiticity: words::number(),
+        greater_antihermiticity: words::number(),
+        spectral_identity: words::number(),
     };
-    answers::observed(one_body_expectation(&lesser[..l], points, orbitals, time, block, tolerance));
+    show::decision(given.is_consistent(tolerance));
 }
 
-// What a bond flow is asked for.
-pub(crate) struct Bond {
-    time: usize,
-    a: usize,
-    b: usize,
-    hopping: Complex,
-    charge: f64,
-}
-
-// The words of a bond: the time's index, a, b, the hopping's parts, the charge.
-pub(crate) fn read_bond() -> Bond {
+// The time's index, a, b, the hopping's parts, the charge.
+fn flow(head: Head, lesser: &[f64]) {
     let time = words::whole();
     let a = words::whole();
     let b = words::whole();
     let hopping = Complex::new(words::number(), words::number());
     let charge = words::number();
-    Bond {
+    show::observed(bond_flow_into(
+        lesser,
+        head.points,
+        head.orbitals,
         time,
         a,
         b,
         hopping,
         charge,
-    }
-}
-
-pub(crate) fn print_flow(bond: Bond, lesser: &[f64], points: usize, orbitals: usize) {
-    answers::observed(bond_flow_into(
-        lesser,
-        points,
-        orbitals,
-        bond.time,
-        bond.a,
-        bond.b,
-        bond.hopping,
-        bond.charge,
     ));
 }
 
-// A bond flow: the bond's words, the lesser function.
-pub(crate) fn flow(points: usize, orbitals: usize) {
-    let asked = read_bond();
-    let mut lesser = [0.0; 1024];
-    let l = slice(&mut lesser);
-    print_flow(asked, &lesser[..l], points, orbitals);
+// Of one function. The observables have the time's index first; the expectation has its block's shape, and its numbers in a slice.
+fn of_one(head: Head, xs: &[f64], block_numbers: &[f64]) {
+    let function = head.function;
+    let points = head.points;
+    let orbitals = head.orbitals;
+    let tolerance = head.tolerance;
+    match function {
+        2 => show::verdict(check_retarded_support(xs, points, orbitals, tolerance)),
+        6 => show::block(density_matrix(xs, points, orbitals, words::whole())),
+        7 => show::observed(particle_number(xs, points, orbitals, words::whole(), tolerance)),
+        8 => {
+            let time = words::whole();
+            let observable = block(block_numbers);
+            show::observed(one_body_expectation(xs, points, orbitals, time, observable, tolerance));
+        }
+        _ => flow(head, xs),
+    }
+}
+
+pub(crate) fn call(head: Head, numbers: &[f64], at: &Places) {
+    let function = head.function;
+    match function {
+        10 => report(head, numbers, at),
+        11 => consistent(head.tolerance),
+        _ => of_one(head, part(numbers, at, 1), part(numbers, at, 2)),
+    }
 }

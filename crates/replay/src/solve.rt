@@ -1,182 +1,130 @@
-// Functions 3 to 5: the Dyson equation and the transient run.
-use crate::answers;
+// Functions 0, 1, 3 to 5 and 12, which leave functions: the convolutions, the Dyson equation, the transient run and the Langreth
+// product. Times, the operands; then the length of each of four outputs, 0 for those that the function has not.
+use crate::lent::Head;
+use crate::lent::Places;
+use crate::lent::output;
+use crate::lent::part;
+use crate::show;
 use dyson::retarded_dyson;
 use dyson::retarded_dyson_with_tolerance;
+use langreth::langreth_product;
 use refusal::Verdict;
-use show::words::slice;
 use transient_run::Solved;
 use transient_run::transient_run;
+use two_time::causal_volterra_convolution;
+use two_time::time_convolution;
 
-fn solved(
-    given: bool,
-    times: &[f64],
-    free: &[f64],
-    sigma: &[f64],
-    points: usize,
-    orbitals: usize,
-    tolerance: f64,
-    green: &mut [f64],
-    kernel: &mut [f64],
-) -> Verdict {
-    if given {
-        return retarded_dyson_with_tolerance(
-            times,
-            free,
-            sigma,
-            points,
-            orbitals,
-            tolerance,
-            green,
-            kernel,
-        );
+// Of two operands: both convolutions, and Dyson with the default tolerance or the one that is given, which leaves G and K.
+fn of_two(head: Head, numbers: &[f64], at: &Places, a: &mut [f64], b: &mut [f64]) -> Verdict {
+    let times = part(numbers, at, 0);
+    let x = part(numbers, at, 1);
+    let y = part(numbers, at, 2);
+    let function = head.function;
+    let points = head.points;
+    let orbitals = head.orbitals;
+    match function {
+        0 => time_convolution(times, x, y, points, orbitals, a),
+        1 => causal_volterra_convolution(times, x, y, points, orbitals, a),
+        3 => retarded_dyson_with_tolerance(times, x, y, points, orbitals, head.tolerance, a, b),
+        _ => retarded_dyson(times, x, y, points, orbitals, a, b),
     }
-    retarded_dyson(times, free, sigma, points, orbitals, green, kernel)
 }
 
-pub(crate) fn print_dyson(
-    digested: bool,
-    given: bool,
-    times: &[f64],
-    free: &[f64],
-    sigma: &[f64],
-    points: usize,
-    orbitals: usize,
-    tolerance: f64,
-    green: &mut [f64],
-    kernel: &mut [f64],
-) {
-    show::verdict(solved(
-        given,
-        times,
-        free,
-        sigma,
-        points,
-        orbitals,
-        tolerance,
-        green,
-        kernel,
-    ));
-    answers::output(digested, green);
-    answers::output(digested, kernel);
-}
-
-// The Dyson equation, with the tolerance if it is given: times, free, self-energy, then G and K.
-pub(crate) fn dyson(given: bool, points: usize, orbitals: usize, tolerance: f64) {
-    let mut times = [0.0; 1024];
-    let t = slice(&mut times);
-    let mut free = [0.0; 1024];
-    let f = slice(&mut free);
-    let mut sigma = [0.0; 1024];
-    let s = slice(&mut sigma);
-    let mut green = [0.0; 1024];
-    let g = slice(&mut green);
-    let mut kernel = [0.0; 1024];
-    let k = slice(&mut kernel);
-    print_dyson(
-        false,
-        given,
-        &times[..t],
-        &free[..f],
-        &sigma[..s],
-        points,
-        orbitals,
-        tolerance,
-        &mut green[..g],
-        &mut kernel[..k],
-    );
-}
-
-fn print_answer(answer: Solved) {
+fn solved(answer: Solved) -> Verdict {
     match answer {
-        Solved::Accepted => show::text(b" accepted"),
-        Solved::Refused(r) => show::refused(r),
+        Solved::Accepted => Verdict::Pass,
+        Solved::Refused(r) => Verdict::Refused(r),
     }
 }
 
-pub(crate) fn print_transient(
-    digested: bool,
-    times: &[f64],
-    free: &[f64],
-    sigma: &[f64],
-    source: &[f64],
-    points: usize,
-    orbitals: usize,
-    tolerance: f64,
-    green: &mut [f64],
-    lesser: &mut [f64],
-    kernel: &mut [f64],
-    mixed: &mut [f64],
-) {
-    print_answer(transient_run(
-        times,
-        free,
-        sigma,
-        source,
-        points,
-        orbitals,
-        tolerance,
-        green,
-        lesser,
-        kernel,
-        mixed,
-    ));
-    answers::output(digested, green);
-    answers::output(digested, lesser);
-    answers::output(digested, kernel);
-    answers::output(digested, mixed);
+// Free, both self-energies; G^R, G^<, K and X.
+fn transient(
+    head: Head,
+    numbers: &[f64],
+    at: &Places,
+    a: &mut [f64],
+    b: &mut [f64],
+    c: &mut [f64],
+    d: &mut [f64],
+) -> Verdict {
+    solved(transient_run(
+        part(numbers, at, 0),
+        part(numbers, at, 1),
+        part(numbers, at, 2),
+        part(numbers, at, 3),
+        head.points,
+        head.orbitals,
+        head.tolerance,
+        a,
+        b,
+        c,
+        d,
+    ))
 }
 
-// Reads what the run leaves, G^R, G^<, K and X, and runs.
-fn with_inputs(
-    times: &[f64],
-    free: &[f64],
-    sigma: &[f64],
-    source: &[f64],
-    points: usize,
-    orbitals: usize,
-    tolerance: f64,
-) {
-    let mut green = [0.0; 1024];
-    let g = slice(&mut green);
-    let mut lesser = [0.0; 1024];
-    let l = slice(&mut lesser);
-    let mut kernel = [0.0; 1024];
-    let k = slice(&mut kernel);
-    let mut mixed = [0.0; 1024];
-    let x = slice(&mut mixed);
-    print_transient(
-        false,
-        times,
-        free,
-        sigma,
-        source,
-        points,
-        orbitals,
-        tolerance,
-        &mut green[..g],
-        &mut lesser[..l],
-        &mut kernel[..k],
-        &mut mixed[..x],
-    );
+// Retarded, advanced, lesser and greater of the left, of the right, and of the product.
+fn product(
+    head: Head,
+    numbers: &[f64],
+    at: &Places,
+    a: &mut [f64],
+    b: &mut [f64],
+    c: &mut [f64],
+    d: &mut [f64],
+) -> Verdict {
+    langreth_product(
+        part(numbers, at, 0),
+        part(numbers, at, 1),
+        part(numbers, at, 2),
+        part(numbers, at, 3),
+        part(numbers, at, 4),
+        part(numbers, at, 5),
+        part(numbers, at, 6),
+        part(numbers, at, 7),
+        part(numbers, at, 8),
+        head.points,
+        head.orbitals,
+        a,
+        b,
+        c,
+        d,
+    )
 }
 
-// The transient run: times, free, both self-energies, then what it leaves.
-pub(crate) fn transient(points: usize, orbitals: usize, tolerance: f64) {
-    let mut times = [0.0; 1024];
-    let t = slice(&mut times);
-    let mut free = [0.0; 1024];
-    let f = slice(&mut free);
-    let mut sigma = [0.0; 1024];
-    let s = slice(&mut sigma);
-    let mut source = [0.0; 1024];
-    let e = slice(&mut source);
-    with_inputs(
-        &times[..t],
-        &free[..f],
-        &sigma[..s],
-        &source[..e],
-        points,
-        orbitals,
-        tolerance,
-    );
+fn with_outputs(
+    head: Head,
+    numbers: &[f64],
+    at: &Places,
+    a: &mut [f64],
+    b: &mut [f64],
+    c: &mut [f64],
+    d: &mut [f64],
+) -> Verdict {
+    let function = head.function;
+    match function {
+        5 => transient(head, numbers, at, a, b, c, d),
+        12 => product(head, numbers, at, a, b, c, d),
+        _ => of_two(head, numbers, at, a, b),
+    }
+}
+
+fn print_outputs(digested: bool, a: &[f64], b: &[f64], c: &[f64], d: &[f64]) {
+    show::output(digested, a);
+    show::output(digested, b);
+    show::output(digested, c);
+    show::output(digested, d);
+}
+
+// An output has room for a function of the most numbers.
+pub(crate) fn call(head: Head, numbers: &[f64], at: &Places) {
+    let mut first = [0.0; 131072];
+    let mut second = [0.0; 131072];
+    let mut third = [0.0; 131072];
+    let mut fourth = [0.0; 131072];
+    let a = output(&mut first);
+    let b = output(&mut second);
+    let c = output(&mut third);
+    let d = output(&mut fourth);
+    show::verdict(with_outputs(head, numbers, at, a, b, c, d));
+    print_outputs(head.made, a, b, c, d);
 }

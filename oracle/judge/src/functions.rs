@@ -18,6 +18,39 @@ pub fn interval_weight(points: usize, times: &[f64], point: usize, start: usize,
     Ok(kept::interval_weight(&grid, point, start, end))
 }
 
+/// Whether the times are a grid of N points.
+pub fn check_times(points: usize, times: &[f64]) -> Answer<()> {
+    grid(points, times, &[]).map(|_| ())
+}
+
+/// Lines 4 to 6 of two times or more.
+pub fn time_lines(times: &[f64]) -> Answer<()> {
+    RealTimeGrid::try_new(times.to_vec()).map(|_| ()).map_err(refusal)
+}
+
+/// The weight of one of a grid's points, a NaN past them: the port has none.
+pub fn full_weight(times: &[f64], index: usize) -> f64 {
+    let grid = RealTimeGrid::try_new(times.to_vec()).expect("a grid");
+    grid.weights().get(index).copied().unwrap_or(f64::NAN)
+}
+
+/// The weight of a point in an interval that may end past the times. Where a time past the end is asked for it is a NaN: the port would
+/// read past the times.
+pub fn trapezoid_weight(times: &[f64], point: usize, start: usize, end: usize) -> f64 {
+    let grid = RealTimeGrid::try_new(times.to_vec()).expect("a grid");
+    let inside = start < end && (start..=end).contains(&point);
+    if inside && times.len() <= end.min(point.saturating_add(1)) {
+        return f64::NAN;
+    }
+    kept::interval_weight(&grid, point, start, end)
+}
+
+/// Half the time from one point to another, a NaN where one lies past the times. The port has no such function.
+pub fn half_step(times: &[f64], later: usize, earlier: usize) -> f64 {
+    let time = |index| times.get(index).copied().unwrap_or(f64::NAN);
+    0.5 * (time(later) - time(earlier))
+}
+
 /// Times for a call that is lent none: no answer of it depends on them.
 fn any_times(points: usize) -> Vec<f64> {
     (0..points).map(|t| t as f64).collect()

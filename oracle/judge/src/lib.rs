@@ -10,6 +10,7 @@ pub use blocks::{trace, zero, Block};
 pub use functions::{bond_flow_into, density_matrix, one_body_expectation, particle_number};
 pub use functions::{causal_volterra_convolution, consistency_report, full_weights, interval_weight, is_consistent, langreth_product};
 pub use functions::{check_retarded_support, retarded_dyson, retarded_dyson_with_tolerance, time_convolution, transient_run, Filled};
+pub use functions::{check_times, full_weight, half_step, time_lines, trapezoid_weight};
 
 /// A refusal: its number and its places, which are 0 where its line has none.
 #[derive(Debug, Clone, Copy, PartialEq)]

@@ -16,31 +16,30 @@ impl<'a> Words<'a> {
     }
 }
 
-/// The times and the one function of a call whose numbers are made.
-struct Made {
-    times: Vec<f64>,
-    function: Vec<f64>,
-}
-
-/// A call's inputs, each taken in the list's order.
+/// A call's inputs: its slices, and the words after them, each taken in the list's order.
 pub struct Inputs<'a, 'b> {
     words: &'a mut Words<'b>,
     pub points: usize,
     pub orbitals: usize,
     pub tolerance: f64,
-    made: Option<Made>,
+    pub times: Vec<f64>,
+    operands: Vec<Vec<f64>>,
+    /// Whether the slices are made: what the call makes is then told by a digest.
+    pub made: bool,
 }
 
 impl<'a, 'b> Inputs<'a, 'b> {
-    /// Reads a call's beginning after the function's number.
+    /// Reads what follows the function's number, up to the slices.
     pub fn of(words: &'a mut Words<'b>, made: bool) -> Self {
-        let mut inputs = Self { words, points: 0, orbitals: 0, tolerance: 0.0, made: None };
-        (inputs.points, inputs.orbitals, inputs.tolerance) = (inputs.place(), inputs.place(), inputs.number());
+        let mut x = Self { words, points: 0, orbitals: 0, tolerance: 0.0, times: vec![], operands: vec![], made };
+        (x.points, x.orbitals, x.tolerance) = (x.place(), x.place(), x.number());
         if made {
-            let seed = inputs.word();
-            inputs.made = Some(make(inputs.points, inputs.orbitals, seed));
+            (x.times, x.operands) = make(x.points, x.orbitals, x.word());
+        } else {
+            let mut slices = (0..x.place()).map(|_| x.slice()).collect::<Vec<_>>().into_iter();
+            (x.times, x.operands) = (slices.next().unwrap_or_default(), slices.collect());
         }
-        inputs
+        x
     }
 
     fn word(&mut self) -> u64 {
@@ -56,49 +55,35 @@ impl<'a, 'b> Inputs<'a, 'b> {
         f64::from_bits(self.word())
     }
 
-    pub fn slice(&mut self) -> Vec<f64> {
+    pub fn numbers<const COUNT: usize>(&mut self) -> [f64; COUNT] {
+        [(); COUNT].map(|()| self.number())
+    }
+
+    fn slice(&mut self) -> Vec<f64> {
         (0..self.place()).map(|_| self.number()).collect()
     }
 
-    pub fn block(&mut self) -> Block {
-        let (rows, columns, numbers) = (self.place(), self.place(), self.slice());
-        Block::lent(rows, columns, &numbers)
+    pub fn operands<const COUNT: usize>(&self) -> [&[f64]; COUNT] {
+        std::array::from_fn(|operand| &self.operands[operand][..])
     }
 
-    pub fn times(&mut self) -> Vec<f64> {
-        self.made.as_ref().map(|made| made.times.clone()).unwrap_or_else(|| self.slice())
+    /// The block of an operand's numbers, by the next two words.
+    pub fn block(&mut self, operand: usize) -> Block {
+        let (rows, columns) = (self.place(), self.place());
+        Block::lent(rows, columns, &self.operands[operand])
     }
 
-    pub fn function(&mut self) -> Vec<f64> {
-        self.made.as_ref().map(|made| made.function.clone()).unwrap_or_else(|| self.slice())
-    }
-
-    pub fn functions<const COUNT: usize>(&mut self) -> [Vec<f64>; COUNT] {
-        [(); COUNT].map(|()| self.function())
-    }
-
-    /// Slices lent for what the call makes, by what they hold before.
+    /// Slices lent for what the call makes, by what they hold before; the list has their lengths.
     pub fn lent<const COUNT: usize>(&mut self) -> [Vec<f64>; COUNT] {
-        [(); COUNT].map(|()| self.lent_made().unwrap_or_else(|| self.slice()))
-    }
-
-    /// The same where the list holds their lengths alone.
-    pub fn filled_with<const COUNT: usize>(&mut self, values: [f64; COUNT]) -> [Vec<f64>; COUNT] {
-        values.map(|value| self.lent_made().unwrap_or_else(|| vec![value; self.place()]))
-    }
-
-    fn lent_made(&self) -> Option<Vec<f64>> {
-        self.made.as_ref().map(|made| vec![7.5; made.function.len()])
-    }
-
-    /// Whether the call's numbers are made: what it makes is then told by a digest.
-    pub fn is_made(&self) -> bool {
-        self.made.is_some()
+        [(); COUNT].map(|()| HELD.into_iter().cycle().take(self.place()).collect())
     }
 }
 
-/// Rising times, and a function that is +0 above the diagonal.
-fn make(points: usize, orbitals: usize, seed: u64) -> Made {
+/// What an output holds before a call, again and again.
+const HELD: [f64; 5] = [7.5, -0.0, f64::NAN, -1.25, f64::INFINITY];
+
+/// Rising times, and a function that is +0 above the diagonal, for up to eight operands.
+fn make(points: usize, orbitals: usize, seed: u64) -> (Vec<f64>, Vec<Vec<f64>>) {
     let length = [points, points, orbitals, orbitals].iter().try_fold(2, |length: usize, &size| length.checked_mul(size));
     assert!(length.is_some_and(|length| length <= 131_072), "a size that no list has");
     let mut state = Xorshift(seed);
@@ -112,5 +97,5 @@ fn make(points: usize, orbitals: usize, seed: u64) -> Made {
     let block = 2 * orbitals * orbitals;
     let places = (0..points).flat_map(|t| (0..points).map(move |u| t < u));
     let function = places.flat_map(|above| (0..block).map(|_| if above { 0.0 } else { number() }).collect::<Vec<_>>()).collect();
-    Made { times, function }
+    (times, vec![function; 8])
 }

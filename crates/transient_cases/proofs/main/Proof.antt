@@ -1,7 +1,5 @@
 -- `transient_cases::main` ends: each argument is one turn. Assumes nothing.
-use mathlib.Core.Path.{refl}
 use Prim.Native.Nat.{_≤_, _-_}
-use native.Mathlib.Omega.{arith}
 use borrow.Author.Needs.{needs}
 use Rattle.transient_cases.proofs.main.Statement.{statement}
 use Rattle.transient_cases.proofs.main.Tie as tie

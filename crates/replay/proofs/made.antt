@@ -1,2 +1,0 @@
--- What the proofs of the module share.
-pub mod Lent

@@ -1,0 +1,87 @@
+// What a call is lent: slices that stand in the list or are made, and what its outputs hold before.
+use crate::made;
+use crate::words;
+
+// What every call begins with: the function, whether its slices are made, points, orbitals and the tolerance.
+pub(crate) struct Head {
+    pub(crate) function: u64,
+    pub(crate) made: bool,
+    pub(crate) points: usize,
+    pub(crate) orbitals: usize,
+    pub(crate) tolerance: f64,
+}
+
+// Where each slice begins and ends among the numbers: the times, then up to eight operands.
+pub(crate) type Places = [usize; 18];
+
+pub(crate) fn begin(word: u64) -> Head {
+    Head {
+        function: word % 64,
+        made: word >= 64,
+        points: words::whole(),
+        orbitals: words::whole(),
+        tolerance: words::number(),
+    }
+}
+
+// The slices that stand in the list, one after the other.
+fn stored(numbers: &mut [f64]) -> Places {
+    let mut at = [0usize; 18];
+    let mut end = 0;
+    let count = words::whole();
+    if count > 9 {
+        return at;
+    }
+    for i in 0..count {
+        at[2 * i] = end;
+        end = words::slice(numbers, end);
+        at[2 * i + 1] = end;
+    }
+    at
+}
+
+pub(crate) fn lend(head: Head, numbers: &mut [f64]) -> Places {
+    if head.made {
+        return made::lend(head.points, head.orbitals, numbers);
+    }
+    stored(numbers)
+}
+
+// A slice of the call, empty where its places are not among the numbers.
+pub(crate) fn part<'a>(numbers: &'a [f64], at: &Places, slot: usize) -> &'a [f64] {
+    if slot > 8 {
+        return &numbers[..0];
+    }
+    let begin = at[2 * slot];
+    let end = at[2 * slot + 1];
+    if begin > end {
+        return &numbers[..0];
+    }
+    if end > numbers.len() {
+        return &numbers[..0];
+    }
+    &numbers[begin..end]
+}
+
+// What an output holds at a place before the call: numbers of which none may stay.
+fn held(i: usize) -> f64 {
+    match i % 5 {
+        0 => 7.5,
+        1 => -0.0,
+        2 => 0.0 / 0.0,
+        3 => -1.25,
+        _ => 1.0 / 0.0,
+    }
+}
+
+// An output of the next word's length, empty where there is no room for it.
+pub(crate) fn output(numbers: &mut [f64]) -> &mut [f64] {
+    let count = words::whole();
+    if count > numbers.len() {
+        return &mut numbers[..0];
+    }
+    for i in 0..count {
+        numbers[i] = held(i);
+    }
+    &mut numbers[..count]
+}
