@@ -1,11 +1,15 @@
-//! Tells a crate where the port's source is: the folder PORT, from the repository's root, or ../shared/docs/src.
+//! Tells a crate where the port's source is, once `oracle/port` finds its files to be the port's.
 use std::path::Path;
+use std::process::Command;
 
 fn main() {
     println!("cargo:rerun-if-env-changed=PORT");
-    let root = Path::new(env!("CARGO_MANIFEST_DIR")).join("../..");
-    let port = std::env::var("PORT").unwrap_or_else(|_| "../shared/docs/src".into());
-    let port = root.join(port);
-    let port = port.canonicalize().unwrap_or_else(|e| panic!("the port's source, {}: {e}", port.display()));
-    println!("cargo:rustc-env=PORT={}", port.display());
+    let oracle = Path::new(env!("CARGO_MANIFEST_DIR")).join("..");
+    let told = Command::new(oracle.join("port")).output().expect("oracle/port, a program");
+    assert!(told.status.success(), "{}", String::from_utf8_lossy(&told.stderr));
+    let port = String::from_utf8(told.stdout).expect("a folder's name");
+    let port = port.trim_end();
+    println!("cargo:rerun-if-changed={port}");
+    println!("cargo:rerun-if-changed={}", oracle.join("port.sha256").display());
+    println!("cargo:rustc-env=PORT={port}");
 }
