@@ -11,6 +11,7 @@ mod solver;
 mod table;
 
 use measure::{Bench, Times};
+use std::process::ExitCode;
 use table::{Row, Unit};
 
 const SIZES: [(usize, usize); 5] = [(256, 1), (128, 2), (64, 4), (32, 8), (16, 16)];
@@ -50,7 +51,12 @@ const OPERATIONS: [(&str, Operation); 10] = [
 const MILLISECONDS: Unit = ("milliseconds", 1e6);
 const NANOSECONDS: Unit = ("nanoseconds", 1.0);
 
-fn main() {
+fn main() -> ExitCode {
+    let unknown: Vec<String> = std::env::args().skip(1).filter(|name| !known(name)).collect();
+    if !unknown.is_empty() {
+        eprintln!("no function is called {}", unknown.join(", "));
+        return ExitCode::FAILURE;
+    }
     let rounds = std::env::var("ROUNDS").map_or(5, |text| text.parse().expect("ROUNDS, a count"));
     let mut bench = Bench::new(rounds);
     let functions = rows(&FUNCTIONS, |function, (points, orbitals)| function(&mut bench, points, orbitals));
@@ -63,6 +69,12 @@ fn main() {
     table::functions("Functions of two times, by (N, n)", SIZES.map(|size| format!("{size:?}")), MILLISECONDS, &functions);
     table::functions("Operations on n by n blocks", SIZES.map(|(_, orbitals)| format!("n = {orbitals}")), NANOSECONDS, &operations);
     table::norms(&kinds);
+    ExitCode::SUCCESS
+}
+
+/// Whether something of this name can be measured.
+fn known(name: &str) -> bool {
+    name == "norm" || FUNCTIONS.iter().any(|(known, _)| *known == name) || OPERATIONS.iter().any(|(known, _)| *known == name)
 }
 
 /// Whether the arguments name it, or none.
