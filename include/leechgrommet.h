@@ -3,19 +3,30 @@
  * solver_export` export. Each function is proved to do, for all inputs, what is said here; the definitions are in the crates' specs/, and
  * "document 01" is the specification.
  *
- * Memory. A slice crosses as its address and its length in elements. An address is aligned and not null, also where the length is 0. What
- * is written overlaps nothing else that is lent to the same call. Any numbers and lengths may be given: the calls end and refuse.
+ * What is trusted. That the checker is sound; that the back end compiles what was proved; that the machine runs in the mode below; that the
+ * caller keeps to what it owes.
+ *
+ * What a caller owes.
+ *   Mode. A call runs in the caller's floating-point mode, which is to be IEEE 754's: round to nearest, ties to even, subnormal numbers
+ *   neither flushed to zero nor read as zero. A program linked with -ffast-math has another mode from its start: there 2^-1074 + 2^-1074
+ *   is +0, and nothing said here holds.
+ *   Memory. A slice crosses as its address and its length in elements. An address is aligned and not null, also where the length is 0; the
+ *   memory of that length is readable, and of what is not const writable. All LEECHGROMMET_BLOCK_NUMBERS numbers of a block are readable,
+ *   though no answer depends on those past its entries.
+ *   Overlap. What is written (what is not const) lies apart from everything else that is lent to the same call. What is only read may
+ *   overlap, and may be the same memory.
+ * No address is kept after a call. Any numbers and lengths may be given: the calls end and refuse.
  *
  * Functions. A two-time function of N times (points) and n orbitals has 2*N*N*n*n numbers: block (t, t') row by row, in a block entry
  * (a, b) row by row, real part before imaginary. Times are N numbers.
  *
- * Blocks. A block crosses as its rows, its columns and the address of BLOCK_NUMBERS numbers, of which the first 2*rows*columns are its
- * entries, row by row, real part before imaginary; no call reads past them. A block that is made is written as rows and columns to `shape`,
- * a slice of 2, and as BLOCK_NUMBERS numbers to `out`, a slice of that length, +0 past its entries. Beside any refusal it is written too, as
- * 0 by 0 and +0 throughout. Of blocks, questions 1 to 3 are: at least one row and column (1), at most 16 (2), shapes that fit (3); of two
- * blocks each question is asked of both before the next.
+ * Blocks. A block crosses as its rows, its columns and the address of LEECHGROMMET_BLOCK_NUMBERS numbers, of which the first 2*rows*columns
+ * are its entries, row by row, real part before imaginary. A block that is made is the answer's own: it is written as rows and columns to
+ * `shape`, a slice of 2, and as LEECHGROMMET_BLOCK_NUMBERS numbers to `out`, a slice of that length, +0 past its entries; beside any refusal
+ * too, as 0 by 0 and +0 throughout. If `shape` or `out` has another length, that is 3 and neither is written. Of blocks, questions 1 to 3
+ * are: at least one row and column (1), at most 16 (2), shapes that fit (3); of two blocks each question is asked of both before the next.
  *
- * Answers. 0: accepted. Otherwise the number of the first question that was answered no:
+ * Answers. 0: accepted. Otherwise the number of the first question that was answered no, in the order that each call names:
  *     1   N at least 2, n at least 1                       9   each input retarded within tolerance: operand, first, second, part = residual
  *     2   N at most 256, n at most 16                      10  every block made during the work finite
  *     3   each lent slice its exact length                 11  the time index below N
@@ -24,11 +35,13 @@
  *     6   all full weights finite                          14  the imaginary part's size at most the tolerance: part
  *     7   all entries finite: operand, first = position
  *     8   the tolerance finite and above 0
- * Operands count from 0 in the order of the parameters, times not counted. After 10 every output and scratch slice holds +0 throughout;
- * after any other number nothing lent has changed, but for `places`, `part` and a block's `shape` and `out`.
+ * Question 3 is asked, after 1 and 2, by every call that is lent a slice: also of what is lent for a value, residuals, a decision or a block.
+ * Operands count from 0 in the order of the parameters, times not counted. After 10 every output and scratch slice, one for a value or
+ * residuals too, holds +0 throughout; after any other number nothing lent has changed.
  *
- * Places. A refusal writes its operand, first and second to `places`, a slice of 3, and its part to `part`, a slice of 1; a place that
- * it does not have is 0. An accepted call leaves both, and a slice of another length is left as it was.
+ * Places. `places` and `part` are part of the answer and no lent data: a refusal writes its operand, first and second to `places`, a slice
+ * of 3, and its part to `part`, a slice of 1; a place that it does not have is 0. An accepted call leaves both. They are not asked by 3: of
+ * another length (0, if a caller does not want them) they are left as they were.
  */
 #ifndef LEECHGROMMET_H
 #define LEECHGROMMET_H
@@ -37,39 +50,65 @@
 #include <stdint.h>
 
 /* The numbers of a block: 16 by 16 entries of two parts. */
-#define BLOCK_NUMBERS 512
+#define LEECHGROMMET_BLOCK_NUMBERS 512
+
+/* The answers by name. */
+#define LEECHGROMMET_ACCEPTED 0
+#define LEECHGROMMET_TOO_FEW 1
+#define LEECHGROMMET_TOO_MANY 2
+#define LEECHGROMMET_WRONG_LENGTH 3
+#define LEECHGROMMET_TIME_NOT_FINITE 4
+#define LEECHGROMMET_TIME_NOT_RISING 5
+#define LEECHGROMMET_WEIGHT_NOT_FINITE 6
+#define LEECHGROMMET_ENTRY_NOT_FINITE 7
+#define LEECHGROMMET_NO_TOLERANCE 8
+#define LEECHGROMMET_NOT_RETARDED 9
+#define LEECHGROMMET_WORK_NOT_FINITE 10
+#define LEECHGROMMET_NO_SUCH_TIME 11
+#define LEECHGROMMET_NO_SUCH_ORBITAL 12
+#define LEECHGROMMET_FACTOR_NOT_FINITE 13
+#define LEECHGROMMET_NOT_REAL 14
 
 #ifdef __cplusplus
 extern "C" {
 #endif
 
 /* The norm of re + i*im: the nearest binary64, ties to the even significand; +infinity where a part is infinite, else NaN where one is NaN. */
-double norm_of(double re, double im);
-
-/* The first number of a*b*..*b, `turns` products of size by size blocks; +0 of a block that was refused. For measuring. */
-double product_chain(const double *a, size_t a_len, const double *b, size_t b_len, size_t size, size_t turns);
+double leechgrommet_norm(double re, double im);
 
 /* The block of these rows and columns; `numbers` are its 2*rows*columns numbers, of another length 3. Asks 1, 2, 3, 7. */
-uint8_t block_from_numbers(
+uint8_t leechgrommet_block_from_numbers(
     size_t rows, size_t columns,
     const double *numbers, size_t numbers_len,
     size_t *shape, size_t shape_len, double *out, size_t out_len,
     size_t *places, size_t places_len, double *part, size_t part_len);
 
-/* The identity. Asks 1, 2. */
-uint8_t block_identity(
+/* The 1 by 1 block of real + i*imaginary. Asks 3, 7. */
+uint8_t leechgrommet_block_from_scalar(
+    double real, double imaginary,
+    size_t *shape, size_t shape_len, double *out, size_t out_len,
+    size_t *places, size_t places_len, double *part, size_t part_len);
+
+/* The size by size block of +0. Asks 1, 2, 3. */
+uint8_t leechgrommet_block_zero(
     size_t size,
     size_t *shape, size_t shape_len, double *out, size_t out_len,
     size_t *places, size_t places_len, double *part, size_t part_len);
 
-/* The conjugate transpose, columns by rows. Asks 1, 2, 7. */
-uint8_t block_adjoint(
+/* The identity of that size. Asks 1, 2, 3. */
+uint8_t leechgrommet_block_identity(
+    size_t size,
+    size_t *shape, size_t shape_len, double *out, size_t out_len,
+    size_t *places, size_t places_len, double *part, size_t part_len);
+
+/* The conjugate transpose, columns by rows. Asks 1, 2, 3, 7. */
+uint8_t leechgrommet_block_adjoint(
     size_t rows, size_t columns, const double *values,
     size_t *shape, size_t shape_len, double *out, size_t out_len,
     size_t *places, size_t places_len, double *part, size_t part_len);
 
-/* Each entry times real + i*imaginary, which may be any numbers. Asks 1, 2, 7, 10. */
-uint8_t block_scale(
+/* Each entry times real + i*imaginary, which may be any numbers. Asks 1, 2, 3, 7, 10. */
+uint8_t leechgrommet_block_scale(
     size_t rows, size_t columns, const double *values,
     double real, double imaginary,
     size_t *shape, size_t shape_len, double *out, size_t out_len,
@@ -77,57 +116,57 @@ uint8_t block_scale(
 
 /* The matrix product left right, each entry's sum from +0 in index order; 3 unless left has as many columns as right has rows. Asks 1, 2, 3,
  * 7, 10. */
-uint8_t block_multiply(
+uint8_t leechgrommet_block_multiply(
     size_t left_rows, size_t left_columns, const double *left,
     size_t right_rows, size_t right_columns, const double *right,
     size_t *shape, size_t shape_len, double *out, size_t out_len,
     size_t *places, size_t places_len, double *part, size_t part_len);
 
 /* left + right; 3 unless their shapes are the same. Asks 1, 2, 3, 7, 10. */
-uint8_t block_add(
+uint8_t leechgrommet_block_add(
     size_t left_rows, size_t left_columns, const double *left,
     size_t right_rows, size_t right_columns, const double *right,
     size_t *shape, size_t shape_len, double *out, size_t out_len,
     size_t *places, size_t places_len, double *part, size_t part_len);
 
 /* left - right, alike. */
-uint8_t block_subtract(
+uint8_t leechgrommet_block_subtract(
     size_t left_rows, size_t left_columns, const double *left,
     size_t right_rows, size_t right_columns, const double *right,
     size_t *shape, size_t shape_len, double *out, size_t out_len,
     size_t *places, size_t places_len, double *part, size_t part_len);
 
-/* The sum of the diagonal, real and imaginary part to `value`, a slice of 2 (left by a refusal); it may be infinite. 3 unless the block is
+/* The sum of the diagonal, real and imaginary part to `value`, a slice of 2; it may be infinite. 3 unless the block is
  * square. Asks 1, 2, 3, 7. */
-uint8_t block_trace(
+uint8_t leechgrommet_block_trace(
     size_t rows, size_t columns, const double *values,
     double *value, size_t value_len,
     size_t *places, size_t places_len, double *part, size_t part_len);
 
-/* The entry in a row and a column, alike. Asks 1, 2, 7, 12. */
-uint8_t block_get(
+/* The entry in a row and a column, alike. Asks 1, 2, 3, 7, 12. */
+uint8_t leechgrommet_block_get(
     size_t rows, size_t columns, const double *values,
     size_t row, size_t column,
     double *value, size_t value_len,
     size_t *places, size_t places_len, double *part, size_t part_len);
 
-/* The largest norm of an entry of left - right, written to `value`, a slice of 1 (left by a refusal); it may be infinite. 3 unless their shapes
+/* The largest norm of an entry of left - right, written to `value`, a slice of 1; it may be infinite. 3 unless their shapes
  * are the same. Asks 1, 2, 3, 7. */
-uint8_t block_max_difference(
+uint8_t leechgrommet_block_max_difference(
     size_t left_rows, size_t left_columns, const double *left,
     size_t right_rows, size_t right_columns, const double *right,
     double *value, size_t value_len,
     size_t *places, size_t places_len, double *part, size_t part_len);
 
 /* Whether the block is square and no entry on or above the diagonal less the conjugate of its mirror has a part above the tolerance times the
- * block's largest part: 1 or 0 to `decided`, a slice of 1 (left by a refusal). Asks 1, 2, 7, 8. */
-uint8_t block_is_hermitian(
+ * block's largest part: 1 or 0 to `decided`, a slice of 1. Asks 1, 2, 3, 7, 8. */
+uint8_t leechgrommet_block_is_hermitian(
     size_t rows, size_t columns, const double *values, double tolerance,
     uint8_t *decided, size_t decided_len,
     size_t *places, size_t places_len, double *part, size_t part_len);
 
 /* out(t,t') = the sum over all s of left(t,s) right(s,t') by full trapezoid weights. Asks 1 to 7, 10. */
-uint8_t time_convolution(
+uint8_t leechgrommet_time_convolution(
     const double *times, size_t times_len,
     const double *left, size_t left_len,
     const double *right, size_t right_len,
@@ -136,7 +175,7 @@ uint8_t time_convolution(
     size_t *places, size_t places_len, double *part, size_t part_len);
 
 /* The same over s from t' to t by the weights of that interval, +0 where t < t'. Asks 1 to 7, 10. */
-uint8_t causal_volterra_convolution(
+uint8_t leechgrommet_causal_volterra_convolution(
     const double *times, size_t times_len,
     const double *left, size_t left_len,
     const double *right, size_t right_len,
@@ -146,14 +185,14 @@ uint8_t causal_volterra_convolution(
 
 /* Whether xs is retarded within the tolerance: above the diagonal no block's largest norm, divided by the largest of all entries (at least
  * 2^-1022), exceeds it. Asks 1, 2, 3, 7, 8, 9. */
-uint8_t check_retarded_support(
+uint8_t leechgrommet_check_retarded_support(
     const double *xs, size_t xs_len,
     size_t points, size_t orbitals, double tolerance,
     size_t *places, size_t places_len, double *part, size_t part_len);
 
 /* Dyson's equation: green = the retarded function G, kernel = K, the causal convolution of free and sigma. Asks 1 to 10, 9 of free before
  * sigma. */
-uint8_t retarded_dyson_with_tolerance(
+uint8_t leechgrommet_retarded_dyson_with_tolerance(
     const double *times, size_t times_len,
     const double *free_propagator, size_t free_propagator_len,
     const double *sigma, size_t sigma_len,
@@ -164,7 +203,7 @@ uint8_t retarded_dyson_with_tolerance(
 
 /* The transient run of a device that starts empty, of the free propagator, the retarded self-energy sigma and the lesser self-energy source:
  * green = G^R and lesser = G^<; kernel = K and mixed = X are scratch. Asks 1 to 10. */
-uint8_t transient_run(
+uint8_t leechgrommet_transient_run(
     const double *times, size_t times_len,
     const double *free_propagator, size_t free_propagator_len,
     const double *sigma, size_t sigma_len,
@@ -177,14 +216,14 @@ uint8_t transient_run(
     size_t *places, size_t places_len, double *part, size_t part_len);
 
 /* The density -i G^<(t,t) at a time, an n by n block. Asks 1, 2, 3, 7, 11. */
-uint8_t density_matrix(
+uint8_t leechgrommet_density_matrix(
     const double *lesser, size_t lesser_len,
     size_t points, size_t orbitals, size_t time,
     size_t *shape, size_t shape_len, double *out, size_t out_len,
     size_t *places, size_t places_len, double *part, size_t part_len);
 
-/* The trace of the density -i G^<(t,t) at a time, written to `value`, a slice of 1 (left by a refusal). Asks 1, 2, 3, 7, then 11, 8, 14. */
-uint8_t particle_number(
+/* The trace of the density -i G^<(t,t) at a time, written to `value`, a slice of 1. Asks 1, 2, 3, 7, then 11, 8, 14. */
+uint8_t leechgrommet_particle_number(
     const double *lesser, size_t lesser_len,
     size_t points, size_t orbitals, size_t time, double tolerance,
     double *value, size_t value_len,
@@ -192,7 +231,7 @@ uint8_t particle_number(
 
 /* The trace of the product of a one-body matrix, lent as an n by n block (of another shape 3; operand 1), with the density, written to `value`.
  * Asks 1, 2, 3, 7, then 11, 10 (the product), 8, 14. */
-uint8_t one_body_expectation(
+uint8_t leechgrommet_one_body_expectation(
     const double *lesser, size_t lesser_len,
     size_t points, size_t orbitals, size_t time,
     size_t rows, size_t columns, const double *values, double tolerance,
@@ -201,7 +240,7 @@ uint8_t one_body_expectation(
 
 /* (2*charge) * Im(hopping * rho_ba), the flow into orbital a from b, written to `value`; it may be infinite or a NaN. Asks 1, 2, 3, 7, then
  * 13, 12, 11. */
-uint8_t bond_flow_into(
+uint8_t leechgrommet_bond_flow_into(
     const double *lesser, size_t lesser_len,
     size_t points, size_t orbitals, size_t time, size_t a, size_t b,
     double real, double imaginary, double charge,
@@ -209,8 +248,8 @@ uint8_t bond_flow_into(
     size_t *places, size_t places_len, double *part, size_t part_len);
 
 /* The largest norms by which the components violate: retarded support, advanced support, G^A = adjoint of G^R, anti-Hermiticity of G^< and
- * of G^>, G^R - G^A = G^> - G^<; in that order to `residuals`, a slice of 6 (left by a refusal). Asks 1, 2, 3, 7, 10. */
-uint8_t consistency_report(
+ * of G^>, G^R - G^A = G^> - G^<; in that order to `residuals`, a slice of 6. Asks 1, 2, 3, 7, 10. */
+uint8_t leechgrommet_consistency_report(
     const double *retarded, size_t retarded_len,
     const double *advanced, size_t advanced_len,
     const double *lesser, size_t lesser_len,
@@ -219,8 +258,8 @@ uint8_t consistency_report(
     double *residuals, size_t residuals_len,
     size_t *places, size_t places_len, double *part, size_t part_len);
 
-/* Whether all six residuals are at most the tolerance: 1 or 0 to `decided`, a slice of 1 (left by a refusal). A NaN is not. Asks 8. */
-uint8_t is_consistent(
+/* Whether all six residuals are at most the tolerance: 1 or 0 to `decided`, a slice of 1. A NaN is not. Asks 3, 8. */
+uint8_t leechgrommet_is_consistent(
     double retarded_causality, double advanced_causality, double advanced_adjoint,
     double lesser_antihermiticity, double greater_antihermiticity, double spectral_identity, double tolerance,
     uint8_t *decided, size_t decided_len,
@@ -228,7 +267,7 @@ uint8_t is_consistent(
 
 /* The Langreth product: retarded = A^R B^R causal, advanced = A^A B^A from t to t', lesser = A^R B^< + A^< B^A by full weights, greater alike.
  * Operands: the left four, then the right four. Asks 1 to 7, 10. */
-uint8_t langreth_product(
+uint8_t leechgrommet_langreth_product(
     const double *times, size_t times_len,
     const double *left_retarded, size_t left_retarded_len,
     const double *left_advanced, size_t left_advanced_len,

@@ -1,11 +1,10 @@
 // The operations on blocks, for a program in C or Rust to link. A block is lent by its rows, its columns and 512 numbers, of which the
 // first 2·rows·columns are its entries; one that is made is told in `shape` and `out`, also beside a refusal.
 ghost use mathlib.Core.Path.{_≡_};
-ghost use Rattle.refusal.specs.Verdict.{numberOf, measuredNumber, decisionNumber};
-ghost use Rattle.matrix.specs.Calls.{fromNumbers, identityOf, adjointOf, productOf, scaleOf, addOf, subtractOf};
-ghost use Rattle.matrix.specs.Calls.{traceOf, entryOf, maxDifferenceOf, isHermitian, valueNumber};
-ghost use Rattle.telling.specs.Told.{toldPlaces, toldPart, toldMeasured, toldDecision, measuredVerdict, decidedVerdict};
-ghost use Rattle.telling.specs.ToldBlocks.{lentBlock, withShape, withValues, toldComplex, valueVerdict};
+ghost use Rattle.matrix.specs.Calls.{fromNumbers, fromScalar, zeroOf, identityOf, adjointOf, productOf, scaleOf, addOf, subtractOf};
+ghost use Rattle.matrix.specs.Calls.{traceOf, entryOf, maxDifferenceOf, isHermitian};
+ghost use Rattle.telling.specs.Told.{tells, told, toldMeasured, toldDecision};
+ghost use Rattle.telling.specs.ToldBlocks.{lentBlock, toldBlock, toldComplex};
 use complex::Complex;
 use matrix::DenseMatrix;
 use telling::blocks::tell_block;
@@ -15,7 +14,7 @@ use telling::tell_measured;
 
 // The block of rows·columns entries, whose numbers stand by rows.
 #[no_mangle]
-pub extern "C" fn block_from_numbers(
+pub extern "C" fn leechgrommet_block_from_numbers(
     rows: usize,
     columns: usize,
     numbers: &[f64],
@@ -24,32 +23,69 @@ pub extern "C" fn block_from_numbers(
     places: &mut [usize],
     part: &mut [f64],
 ) -> u8
-    ensures { λ r. ⌜ (let made = fromNumbers rows columns (now (numbers .entry)) in
-        (r ≡ numberOf (made .verdict))
-        × (now (shape .exit) ≡ withShape (made .block .rows) (made .block .columns) (now (shape .entry)))
-        × (now (out .exit) ≡ withValues (made .block .values) (now (out .entry)))
-        × (now (places .exit) ≡ toldPlaces (made .verdict) (now (places .entry)))
-        × (now (part .exit) ≡ toldPart (made .verdict) (now (part .entry)))) ⌝ }
+    ensures { λ r. ⌜ (let made = toldBlock (fromNumbers rows columns (now (numbers .entry))) (now (shape .entry)) (now (out .entry)) in
+        (tells r (now (places .exit)) (now (part .exit)) ≡ told (made .answer) (now (places .entry)) (now (part .entry)))
+        × (now (shape .exit) ≡ made .shape)
+        × (now (out .exit) ≡ made .out)) ⌝ }
 {
     let made = DenseMatrix::from_numbers(rows, columns, numbers);
     tell_block(made, shape, out, places, part)
 }
 
-// The identity of that size.
+// The 1 by 1 block of one number, by its two parts.
 #[no_mangle]
-pub extern "C" fn block_identity(
+pub extern "C" fn leechgrommet_block_from_scalar(
+    real: f64,
+    imaginary: f64,
+    shape: &mut [usize],
+    out: &mut [f64],
+    places: &mut [usize],
+    part: &mut [f64],
+) -> u8
+    ensures { λ r. ⌜ (let made = toldBlock (fromScalar (record { re = real; im = imaginary })) (now (shape .entry)) (now (out .entry)) in
+        (tells r (now (places .exit)) (now (part .exit)) ≡ told (made .answer) (now (places .entry)) (now (part .entry)))
+        × (now (shape .exit) ≡ made .shape)
+        × (now (out .exit) ≡ made .out)) ⌝ }
+{
+    let value = Complex {
+        re: real,
+        im: imaginary,
+    };
+    let made = DenseMatrix::from_scalar(value);
+    tell_block(made, shape, out, places, part)
+}
+
+// The zero block of that size.
+#[no_mangle]
+pub extern "C" fn leechgrommet_block_zero(
     size: usize,
     shape: &mut [usize],
     out: &mut [f64],
     places: &mut [usize],
     part: &mut [f64],
 ) -> u8
-    ensures { λ r. ⌜ (let made = identityOf size in
-        (r ≡ numberOf (made .verdict))
-        × (now (shape .exit) ≡ withShape (made .block .rows) (made .block .columns) (now (shape .entry)))
-        × (now (out .exit) ≡ withValues (made .block .values) (now (out .entry)))
-        × (now (places .exit) ≡ toldPlaces (made .verdict) (now (places .entry)))
-        × (now (part .exit) ≡ toldPart (made .verdict) (now (part .entry)))) ⌝ }
+    ensures { λ r. ⌜ (let made = toldBlock (zeroOf size) (now (shape .entry)) (now (out .entry)) in
+        (tells r (now (places .exit)) (now (part .exit)) ≡ told (made .answer) (now (places .entry)) (now (part .entry)))
+        × (now (shape .exit) ≡ made .shape)
+        × (now (out .exit) ≡ made .out)) ⌝ }
+{
+    let made = DenseMatrix::zero(size);
+    tell_block(made, shape, out, places, part)
+}
+
+// The identity of that size.
+#[no_mangle]
+pub extern "C" fn leechgrommet_block_identity(
+    size: usize,
+    shape: &mut [usize],
+    out: &mut [f64],
+    places: &mut [usize],
+    part: &mut [f64],
+) -> u8
+    ensures { λ r. ⌜ (let made = toldBlock (identityOf size) (now (shape .entry)) (now (out .entry)) in
+        (tells r (now (places .exit)) (now (part .exit)) ≡ told (made .answer) (now (places .entry)) (now (part .entry)))
+        × (now (shape .exit) ≡ made .shape)
+        × (now (out .exit) ≡ made .out)) ⌝ }
 {
     let made = DenseMatrix::identity(size);
     tell_block(made, shape, out, places, part)
@@ -57,7 +93,7 @@ pub extern "C" fn block_identity(
 
 // The conjugate transpose.
 #[no_mangle]
-pub extern "C" fn block_adjoint(
+pub extern "C" fn leechgrommet_block_adjoint(
     rows: usize,
     columns: usize,
     values: &[f64; 512],
@@ -66,12 +102,10 @@ pub extern "C" fn block_adjoint(
     places: &mut [usize],
     part: &mut [f64],
 ) -> u8
-    ensures { λ r. ⌜ (let made = adjointOf (lentBlock rows columns (now (values .entry))) in
-        (r ≡ numberOf (made .verdict))
-        × (now (shape .exit) ≡ withShape (made .block .rows) (made .block .columns) (now (shape .entry)))
-        × (now (out .exit) ≡ withValues (made .block .values) (now (out .entry)))
-        × (now (places .exit) ≡ toldPlaces (made .verdict) (now (places .entry)))
-        × (now (part .exit) ≡ toldPart (made .verdict) (now (part .entry)))) ⌝ }
+    ensures { λ r. ⌜ (let made = toldBlock (adjointOf (lentBlock rows columns (now (values .entry)))) (now (shape .entry)) (now (out .entry)) in
+        (tells r (now (places .exit)) (now (part .exit)) ≡ told (made .answer) (now (places .entry)) (now (part .entry)))
+        × (now (shape .exit) ≡ made .shape)
+        × (now (out .exit) ≡ made .out)) ⌝ }
 {
     let block = DenseMatrix {
         rows,
@@ -84,7 +118,7 @@ pub extern "C" fn block_adjoint(
 
 // Each entry times a factor, by its two parts.
 #[no_mangle]
-pub extern "C" fn block_scale(
+pub extern "C" fn leechgrommet_block_scale(
     rows: usize,
     columns: usize,
     values: &[f64; 512],
@@ -95,12 +129,10 @@ pub extern "C" fn block_scale(
     places: &mut [usize],
     part: &mut [f64],
 ) -> u8
-    ensures { λ r. ⌜ (let made = scaleOf (lentBlock rows columns (now (values .entry))) (record { re = real; im = imaginary }) in
-        (r ≡ numberOf (made .verdict))
-        × (now (shape .exit) ≡ withShape (made .block .rows) (made .block .columns) (now (shape .entry)))
-        × (now (out .exit) ≡ withValues (made .block .values) (now (out .entry)))
-        × (now (places .exit) ≡ toldPlaces (made .verdict) (now (places .entry)))
-        × (now (part .exit) ≡ toldPart (made .verdict) (now (part .entry)))) ⌝ }
+    ensures { λ r. ⌜ (let made = toldBlock (scaleOf (lentBlock rows columns (now (values .entry))) (record { re = real; im = imaginary })) (now (shape .entry)) (now (out .entry)) in
+        (tells r (now (places .exit)) (now (part .exit)) ≡ told (made .answer) (now (places .entry)) (now (part .entry)))
+        × (now (shape .exit) ≡ made .shape)
+        × (now (out .exit) ≡ made .out)) ⌝ }
 {
     let block = DenseMatrix {
         rows,
@@ -117,7 +149,7 @@ pub extern "C" fn block_scale(
 
 // The matrix product left·right.
 #[no_mangle]
-pub extern "C" fn block_multiply(
+pub extern "C" fn leechgrommet_block_multiply(
     left_rows: usize,
     left_columns: usize,
     left: &[f64; 512],
@@ -129,12 +161,10 @@ pub extern "C" fn block_multiply(
     places: &mut [usize],
     part: &mut [f64],
 ) -> u8
-    ensures { λ r. ⌜ (let made = productOf (lentBlock «left_rows» «left_columns» (now (left .entry))) (lentBlock «right_rows» «right_columns» (now (right .entry))) in
-        (r ≡ numberOf (made .verdict))
-        × (now (shape .exit) ≡ withShape (made .block .rows) (made .block .columns) (now (shape .entry)))
-        × (now (out .exit) ≡ withValues (made .block .values) (now (out .entry)))
-        × (now (places .exit) ≡ toldPlaces (made .verdict) (now (places .entry)))
-        × (now (part .exit) ≡ toldPart (made .verdict) (now (part .entry)))) ⌝ }
+    ensures { λ r. ⌜ (let made = toldBlock (productOf (lentBlock «left_rows» «left_columns» (now (left .entry))) (lentBlock «right_rows» «right_columns» (now (right .entry)))) (now (shape .entry)) (now (out .entry)) in
+        (tells r (now (places .exit)) (now (part .exit)) ≡ told (made .answer) (now (places .entry)) (now (part .entry)))
+        × (now (shape .exit) ≡ made .shape)
+        × (now (out .exit) ≡ made .out)) ⌝ }
 {
     let a = DenseMatrix {
         rows: left_rows,
@@ -152,7 +182,7 @@ pub extern "C" fn block_multiply(
 
 // The sum.
 #[no_mangle]
-pub extern "C" fn block_add(
+pub extern "C" fn leechgrommet_block_add(
     left_rows: usize,
     left_columns: usize,
     left: &[f64; 512],
@@ -164,12 +194,10 @@ pub extern "C" fn block_add(
     places: &mut [usize],
     part: &mut [f64],
 ) -> u8
-    ensures { λ r. ⌜ (let made = addOf (lentBlock «left_rows» «left_columns» (now (left .entry))) (lentBlock «right_rows» «right_columns» (now (right .entry))) in
-        (r ≡ numberOf (made .verdict))
-        × (now (shape .exit) ≡ withShape (made .block .rows) (made .block .columns) (now (shape .entry)))
-        × (now (out .exit) ≡ withValues (made .block .values) (now (out .entry)))
-        × (now (places .exit) ≡ toldPlaces (made .verdict) (now (places .entry)))
-        × (now (part .exit) ≡ toldPart (made .verdict) (now (part .entry)))) ⌝ }
+    ensures { λ r. ⌜ (let made = toldBlock (addOf (lentBlock «left_rows» «left_columns» (now (left .entry))) (lentBlock «right_rows» «right_columns» (now (right .entry)))) (now (shape .entry)) (now (out .entry)) in
+        (tells r (now (places .exit)) (now (part .exit)) ≡ told (made .answer) (now (places .entry)) (now (part .entry)))
+        × (now (shape .exit) ≡ made .shape)
+        × (now (out .exit) ≡ made .out)) ⌝ }
 {
     let a = DenseMatrix {
         rows: left_rows,
@@ -187,7 +215,7 @@ pub extern "C" fn block_add(
 
 // The difference left − right.
 #[no_mangle]
-pub extern "C" fn block_subtract(
+pub extern "C" fn leechgrommet_block_subtract(
     left_rows: usize,
     left_columns: usize,
     left: &[f64; 512],
@@ -199,12 +227,10 @@ pub extern "C" fn block_subtract(
     places: &mut [usize],
     part: &mut [f64],
 ) -> u8
-    ensures { λ r. ⌜ (let made = subtractOf (lentBlock «left_rows» «left_columns» (now (left .entry))) (lentBlock «right_rows» «right_columns» (now (right .entry))) in
-        (r ≡ numberOf (made .verdict))
-        × (now (shape .exit) ≡ withShape (made .block .rows) (made .block .columns) (now (shape .entry)))
-        × (now (out .exit) ≡ withValues (made .block .values) (now (out .entry)))
-        × (now (places .exit) ≡ toldPlaces (made .verdict) (now (places .entry)))
-        × (now (part .exit) ≡ toldPart (made .verdict) (now (part .entry)))) ⌝ }
+    ensures { λ r. ⌜ (let made = toldBlock (subtractOf (lentBlock «left_rows» «left_columns» (now (left .entry))) (lentBlock «right_rows» «right_columns» (now (right .entry)))) (now (shape .entry)) (now (out .entry)) in
+        (tells r (now (places .exit)) (now (part .exit)) ≡ told (made .answer) (now (places .entry)) (now (part .entry)))
+        × (now (shape .exit) ≡ made .shape)
+        × (now (out .exit) ≡ made .out)) ⌝ }
 {
     let a = DenseMatrix {
         rows: left_rows,
@@ -222,7 +248,7 @@ pub extern "C" fn block_subtract(
 
 // The sum of the diagonal, which may be infinite, by its two parts.
 #[no_mangle]
-pub extern "C" fn block_trace(
+pub extern "C" fn leechgrommet_block_trace(
     rows: usize,
     columns: usize,
     values: &[f64; 512],
@@ -230,11 +256,9 @@ pub extern "C" fn block_trace(
     places: &mut [usize],
     part: &mut [f64],
 ) -> u8
-    ensures { λ r. ⌜ (let answer = traceOf (lentBlock rows columns (now (values .entry))) in
-        (r ≡ valueNumber answer)
-        × (now (value .exit) ≡ toldComplex answer (now (value .entry)))
-        × (now (places .exit) ≡ toldPlaces (valueVerdict answer) (now (places .entry)))
-        × (now (part .exit) ≡ toldPart (valueVerdict answer) (now (part .entry)))) ⌝ }
+    ensures { λ r. ⌜ (let made = toldComplex (traceOf (lentBlock rows columns (now (values .entry)))) (now (value .entry)) in
+        (tells r (now (places .exit)) (now (part .exit)) ≡ told (made .answer) (now (places .entry)) (now (part .entry)))
+        × (now (value .exit) ≡ made .out)) ⌝ }
 {
     let block = DenseMatrix {
         rows,
@@ -247,7 +271,7 @@ pub extern "C" fn block_trace(
 
 // The entry in a row and a column, by its two parts.
 #[no_mangle]
-pub extern "C" fn block_get(
+pub extern "C" fn leechgrommet_block_get(
     rows: usize,
     columns: usize,
     values: &[f64; 512],
@@ -257,11 +281,9 @@ pub extern "C" fn block_get(
     places: &mut [usize],
     part: &mut [f64],
 ) -> u8
-    ensures { λ r. ⌜ (let answer = entryOf (lentBlock rows columns (now (values .entry))) row column in
-        (r ≡ valueNumber answer)
-        × (now (value .exit) ≡ toldComplex answer (now (value .entry)))
-        × (now (places .exit) ≡ toldPlaces (valueVerdict answer) (now (places .entry)))
-        × (now (part .exit) ≡ toldPart (valueVerdict answer) (now (part .entry)))) ⌝ }
+    ensures { λ r. ⌜ (let made = toldComplex (entryOf (lentBlock rows columns (now (values .entry))) row column) (now (value .entry)) in
+        (tells r (now (places .exit)) (now (part .exit)) ≡ told (made .answer) (now (places .entry)) (now (part .entry)))
+        × (now (value .exit) ≡ made .out)) ⌝ }
 {
     let block = DenseMatrix {
         rows,
@@ -274,7 +296,7 @@ pub extern "C" fn block_get(
 
 // The largest norm of an entry of left less that of right, which may be infinite.
 #[no_mangle]
-pub extern "C" fn block_max_difference(
+pub extern "C" fn leechgrommet_block_max_difference(
     left_rows: usize,
     left_columns: usize,
     left: &[f64; 512],
@@ -285,11 +307,9 @@ pub extern "C" fn block_max_difference(
     places: &mut [usize],
     part: &mut [f64],
 ) -> u8
-    ensures { λ r. ⌜ (let answer = maxDifferenceOf (lentBlock «left_rows» «left_columns» (now (left .entry))) (lentBlock «right_rows» «right_columns» (now (right .entry))) in
-        (r ≡ measuredNumber answer)
-        × (now (value .exit) ≡ toldMeasured answer (now (value .entry)))
-        × (now (places .exit) ≡ toldPlaces (measuredVerdict answer) (now (places .entry)))
-        × (now (part .exit) ≡ toldPart (measuredVerdict answer) (now (part .entry)))) ⌝ }
+    ensures { λ r. ⌜ (let made = toldMeasured (maxDifferenceOf (lentBlock «left_rows» «left_columns» (now (left .entry))) (lentBlock «right_rows» «right_columns» (now (right .entry)))) (now (value .entry)) in
+        (tells r (now (places .exit)) (now (part .exit)) ≡ told (made .answer) (now (places .entry)) (now (part .entry)))
+        × (now (value .exit) ≡ made .out)) ⌝ }
 {
     let a = DenseMatrix {
         rows: left_rows,
@@ -307,7 +327,7 @@ pub extern "C" fn block_max_difference(
 
 // Whether the block is Hermitian within the tolerance times its largest part.
 #[no_mangle]
-pub extern "C" fn block_is_hermitian(
+pub extern "C" fn leechgrommet_block_is_hermitian(
     rows: usize,
     columns: usize,
     values: &[f64; 512],
@@ -316,11 +336,9 @@ pub extern "C" fn block_is_hermitian(
     places: &mut [usize],
     part: &mut [f64],
 ) -> u8
-    ensures { λ r. ⌜ (let answer = isHermitian (lentBlock rows columns (now (values .entry))) tolerance in
-        (r ≡ decisionNumber answer)
-        × (now (decided .exit) ≡ toldDecision answer (now (decided .entry)))
-        × (now (places .exit) ≡ toldPlaces (decidedVerdict answer) (now (places .entry)))
-        × (now (part .exit) ≡ toldPart (decidedVerdict answer) (now (part .entry)))) ⌝ }
+    ensures { λ r. ⌜ (let made = toldDecision (isHermitian (lentBlock rows columns (now (values .entry))) tolerance) (now (decided .entry)) in
+        (tells r (now (places .exit)) (now (part .exit)) ≡ told (made .answer) (now (places .entry)) (now (part .entry)))
+        × (now (decided .exit) ≡ made .out)) ⌝ }
 {
     let block = DenseMatrix {
         rows,

@@ -7,7 +7,7 @@ use matrix::DenseMatrix;
 
 // The first number of a·b·..·b, `turns` products of size by size blocks; of a block that was refused it is +0.
 #[no_mangle]
-pub extern "C" fn product_chain(a: &[f64], b: &[f64], size: usize, turns: usize) -> f64
+pub extern "C" fn leechgrommet_product_chain(a: &[f64], b: &[f64], size: usize, turns: usize) -> f64
     ensures { λ r. ⌜ r ≡ chained (now (a .entry)) (now (b .entry)) size turns ⌝ }
 {
     let left = DenseMatrix::from_numbers(size, size, a);

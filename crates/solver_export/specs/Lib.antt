@@ -1,5 +1,3 @@
 -- How an answer crosses to another language.
 pub mod Told
 pub mod Telling
-pub mod ToldKeldysh
-pub mod TellingKeldysh

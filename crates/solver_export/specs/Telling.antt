@@ -1,20 +1,21 @@
--- The steps of telling a run's answer and an observable's, known by its case. Assumes nothing.
+-- The answers of a run, an observable and a report, known by their cases. Assumes nothing.
 use mathlib.Core.Path.{_≡_, refl}
-use mathlib.Core.List.{List}
+use mathlib.Core.List.{List, [], _∷_}
+use lib.ListN.{replicate}
 use lib.Ieee.{Float}
+use Rattle.complex.specs.Arithmetic.{plusZero}
 use Rattle.refusal.specs.declared.Refusal.{Refusal}
 use Rattle.refusal.specs.declared.Verdict.the-variants.{Pass, Refused}
-use Rattle.refusal.specs.Verdict.{numberOf}
 use Rattle.transient_run.specs.declared.Solved.{Solved}
 use Rattle.transient_run.specs.declared.Solved.the-variants.{Accepted, Refused as NotSolved}
-use Rattle.transient_run.specs.Calls.{solvedNumber}
 use Rattle.observables.specs.declared.Observed.{Observed}
 use Rattle.observables.specs.declared.Observed.the-variants.{Number, NotReal, Refused as NotObserved}
-use Rattle.observables.specs.Calls.{observedNumber}
-use Rattle.telling.specs.Told.{withNumber}
-use Rattle.solver_export.specs.Told.{toldValue, solvedVerdict, observedVerdict}
+use Rattle.report.specs.declared.ConsistencyReport.{ConsistencyReport}
+use Rattle.report.specs.declared.Reported.{Reported}
+use Rattle.report.specs.declared.Reported.the-variants.{Of, Refused as NotReported}
+use Rattle.telling.specs.Told.{toldNumbers}
+use Rattle.solver_export.specs.Told.{solvedVerdict, toldObserved, toldReport}
 
--- a run's answer by its case, and its number
 module _ (s : Solved) where
   pub solved-accepted : s ≡ Accepted → Pass ≡ solvedVerdict s
   unfolding solvedVerdict
@@ -24,39 +25,28 @@ module _ (s : Solved) where
   unfolding solvedVerdict
   solved-refused r h = rw h refl
 
-pub solved-number : (s : Solved) → numberOf (solvedVerdict s) ≡ solvedNumber s
-unfolding solvedVerdict solvedNumber numberOf
-solved-number Accepted = refl
-solved-number (NotSolved r) = refl
-
--- an observable's answer by its case, its number, and what it leaves in the slice lent for its value
-module _ (o : Observed) where
-  pub observed-number : (x : Float) → o ≡ Number x → Pass ≡ observedVerdict o
-  unfolding observedVerdict
+module _ (o : Observed) (before : List Float) where
+  pub observed-number : (x : Float) → o ≡ Number x → toldNumbers Pass (x ∷ []) before ≡ toldObserved o before
+  unfolding toldObserved
   observed-number x h = rw h refl
 
-  pub observed-not-real : (p : Float) → o ≡ NotReal p → Refused (record { number = 14; operand = 0; first = 0; second = 0; part = p }) ≡ observedVerdict o
-  unfolding observedVerdict
+  pub observed-not-real : (p : Float) → o ≡ NotReal p
+      → toldNumbers (Refused (record { number = 14; operand = 0; first = 0; second = 0; part = p })) (plusZero ∷ []) before ≡ toldObserved o before
+  unfolding toldObserved
   observed-not-real p h = rw h refl
 
-  pub observed-refused : (r : Refusal) → o ≡ NotObserved r → Refused r ≡ observedVerdict o
-  unfolding observedVerdict
+  pub observed-refused : (r : Refusal) → o ≡ NotObserved r → toldNumbers (Refused r) (plusZero ∷ []) before ≡ toldObserved o before
+  unfolding toldObserved
   observed-refused r h = rw h refl
 
-  pub value-told : (xs : List Float) (x : Float) → o ≡ Number x → withNumber x xs ≡ toldValue o xs
-  unfolding toldValue
-  value-told xs x h = rw h refl
+module _ (o : Reported) (before : List Float) where
+  pub report-of : (x : ConsistencyReport) → o ≡ Of x
+      → toldNumbers Pass
+      (x .«retarded_causality» ∷ x .«advanced_causality» ∷ x .«advanced_adjoint» ∷ x .«lesser_antihermiticity» ∷ x .«greater_antihermiticity» ∷ x .«spectral_identity» ∷ []) before
+      ≡ toldReport o before
+  unfolding toldReport
+  report-of x h = rw h refl
 
-  pub value-kept : (xs : List Float) (p : Float) → o ≡ NotReal p → xs ≡ toldValue o xs
-  unfolding toldValue
-  value-kept xs p h = rw h refl
-
-  pub value-left : (xs : List Float) (r : Refusal) → o ≡ NotObserved r → xs ≡ toldValue o xs
-  unfolding toldValue
-  value-left xs r h = rw h refl
-
-pub number-observed : (o : Observed) → numberOf (observedVerdict o) ≡ observedNumber o
-unfolding observedVerdict observedNumber numberOf
-number-observed (Number x) = refl
-number-observed (NotReal p) = refl
-number-observed (NotObserved r) = refl
+  pub report-refused : (r : Refusal) → o ≡ NotReported r → toldNumbers (Refused r) (replicate 6 plusZero) before ≡ toldReport o before
+  unfolding toldReport
+  report-refused r h = rw h refl

@@ -1,53 +1,49 @@
-// The calls on all four components. A report's six residuals go to a lent slice of six, which a refusal leaves.
+// The calls on all four components. A report's six residuals go to a lent slice of six.
 ghost use mathlib.Core.Path.{_≡_};
-ghost use Rattle.refusal.specs.Verdict.{numberOf, decisionNumber};
-ghost use Rattle.report.specs.Calls.{consistencyReport, isConsistent, reportedNumber};
+ghost use Rattle.report.specs.Calls.{consistencyReport, isConsistent};
 ghost use Rattle.langreth.specs.Calls.{componentsOf, langrethProduct};
-ghost use Rattle.telling.specs.Told.{toldPlaces, toldPart, toldDecision, decidedVerdict};
-ghost use Rattle.solver_export.specs.ToldKeldysh.{withResiduals, toldResiduals, reportedVerdict};
+ghost use Rattle.telling.specs.Told.{tells, told, toldDecision};
+ghost use Rattle.solver_export.specs.Told.{toldReport};
 use refusal::Verdict;
 use report::ConsistencyReport;
 use report::Reported;
 use telling::tell;
 use telling::tell_decision;
+use telling::tell_numbers;
 
-// Writes the residuals, if six numbers are lent.
-fn tell_residuals(x: ConsistencyReport, lent: &mut [f64])
-    ensures { λ _. ⌜ now (lent .exit) ≡ withResiduals x (now (lent .entry)) ⌝ }
-{
-    if lent.len() == 6 {
-        lent[0] = x.retarded_causality;
-        lent[1] = x.advanced_causality;
-        lent[2] = x.advanced_adjoint;
-        lent[3] = x.lesser_antihermiticity;
-        lent[4] = x.greater_antihermiticity;
-        lent[5] = x.spectral_identity;
-    }
-}
-
-// Writes a report's residuals, if there is one.
-fn tell_report(reported: Reported, residuals: &mut [f64])
-    ensures { λ _. ⌜ now (residuals .exit) ≡ toldResiduals reported (now (residuals .entry)) ⌝ }
+// The refusal's number, with a report's residuals in `residuals`.
+fn tell_report(
+    reported: Reported,
+    residuals: &mut [f64],
+    places: &mut [usize],
+    part: &mut [f64],
+) -> u8
+    ensures { λ r. ⌜ (let made = toldReport reported (now (residuals .entry)) in
+        (tells r (now (places .exit)) (now (part .exit)) ≡ told (made .answer) (now (places .entry)) (now (part .entry)))
+        × (now (residuals .exit) ≡ made .out)) ⌝ }
 {
     match reported {
-        Reported::Of(x) => tell_residuals(x, residuals),
-        Reported::Refused(_) => {}
-    }
-}
-
-// A report's answer as that of another call.
-fn reported_verdict(reported: Reported) -> Verdict
-    ensures { λ r. ⌜ r ≡ reportedVerdict reported ⌝ }
-{
-    match reported {
-        Reported::Of(_) => Verdict::Pass,
-        Reported::Refused(r) => Verdict::Refused(r),
+        Reported::Of(x) => {
+            let numbers = [
+                x.retarded_causality,
+                x.advanced_causality,
+                x.advanced_adjoint,
+                x.lesser_antihermiticity,
+                x.greater_antihermiticity,
+                x.spectral_identity,
+            ];
+            tell_numbers(Verdict::Pass, &numbers, residuals, places, part)
+        }
+        Reported::Refused(r) => {
+            let numbers = [0.0; 6];
+            tell_numbers(Verdict::Refused(r), &numbers, residuals, places, part)
+        }
     }
 }
 
 // The six residuals.
 #[no_mangle]
-pub extern "C" fn consistency_report(
+pub extern "C" fn leechgrommet_consistency_report(
     retarded: &[f64],
     advanced: &[f64],
     lesser: &[f64],
@@ -58,11 +54,9 @@ pub extern "C" fn consistency_report(
     places: &mut [usize],
     part: &mut [f64],
 ) -> u8
-    ensures { λ r. ⌜ (let answer = consistencyReport points orbitals (now (retarded .entry)) (now (advanced .entry)) (now (lesser .entry)) (now (greater .entry)) in
-        (r ≡ reportedNumber answer)
-        × (now (residuals .exit) ≡ toldResiduals answer (now (residuals .entry)))
-        × (now (places .exit) ≡ toldPlaces (reportedVerdict answer) (now (places .entry)))
-        × (now (part .exit) ≡ toldPart (reportedVerdict answer) (now (part .entry)))) ⌝ }
+    ensures { λ r. ⌜ (let made = toldReport (consistencyReport points orbitals (now (retarded .entry)) (now (advanced .entry)) (now (lesser .entry)) (now (greater .entry))) (now (residuals .entry)) in
+        (tells r (now (places .exit)) (now (part .exit)) ≡ told (made .answer) (now (places .entry)) (now (part .entry)))
+        × (now (residuals .exit) ≡ made .out)) ⌝ }
 {
     let reported = report::consistency_report(
         retarded,
@@ -72,13 +66,12 @@ pub extern "C" fn consistency_report(
         points,
         orbitals,
     );
-    tell_report(reported, residuals);
-    tell(reported_verdict(reported), places, part)
+    tell_report(reported, residuals, places, part)
 }
 
 // Whether the six residuals are at most the tolerance.
 #[no_mangle]
-pub extern "C" fn is_consistent(
+pub extern "C" fn leechgrommet_is_consistent(
     retarded_causality: f64,
     advanced_causality: f64,
     advanced_adjoint: f64,
@@ -90,18 +83,16 @@ pub extern "C" fn is_consistent(
     places: &mut [usize],
     part: &mut [f64],
 ) -> u8
-    ensures { λ r. ⌜ (let answer = isConsistent (record {
+    ensures { λ r. ⌜ (let made = toldDecision (isConsistent (record {
       «retarded_causality» = «retarded_causality»;
       «advanced_causality» = «advanced_causality»;
       «advanced_adjoint» = «advanced_adjoint»;
       «lesser_antihermiticity» = «lesser_antihermiticity»;
       «greater_antihermiticity» = «greater_antihermiticity»;
       «spectral_identity» = «spectral_identity»;
-    }) tolerance in
-        (r ≡ decisionNumber answer)
-        × (now (decided .exit) ≡ toldDecision answer (now (decided .entry)))
-        × (now (places .exit) ≡ toldPlaces (decidedVerdict answer) (now (places .entry)))
-        × (now (part .exit) ≡ toldPart (decidedVerdict answer) (now (part .entry)))) ⌝ }
+    }) tolerance) (now (decided .entry)) in
+        (tells r (now (places .exit)) (now (part .exit)) ≡ told (made .answer) (now (places .entry)) (now (part .entry)))
+        × (now (decided .exit) ≡ made .out)) ⌝ }
 {
     let report = ConsistencyReport {
         retarded_causality,
@@ -117,7 +108,7 @@ pub extern "C" fn is_consistent(
 
 // The four components of a product, into the four outputs.
 #[no_mangle]
-pub extern "C" fn langreth_product(
+pub extern "C" fn leechgrommet_langreth_product(
     times: &[f64],
     left_retarded: &[f64],
     left_advanced: &[f64],
@@ -140,13 +131,11 @@ pub extern "C" fn langreth_product(
         (componentsOf (now («left_retarded» .entry)) (now («left_advanced» .entry)) (now («left_lesser» .entry)) (now («left_greater» .entry)))
         (componentsOf (now («right_retarded» .entry)) (now («right_advanced» .entry)) (now («right_lesser» .entry)) (now («right_greater» .entry)))
         (componentsOf (now (retarded .entry)) (now (advanced .entry)) (now (lesser .entry)) (now (greater .entry))) in
-        (r ≡ numberOf (product .answer))
+        (tells r (now (places .exit)) (now (part .exit)) ≡ told (product .answer) (now (places .entry)) (now (part .entry)))
         × (now (retarded .exit) ≡ product .out .retarded)
         × (now (advanced .exit) ≡ product .out .advanced)
         × (now (lesser .exit) ≡ product .out .lesser)
-        × (now (greater .exit) ≡ product .out .greater)
-        × (now (places .exit) ≡ toldPlaces (product .answer) (now (places .entry)))
-        × (now (part .exit) ≡ toldPart (product .answer) (now (part .entry)))) ⌝ }
+        × (now (greater .exit) ≡ product .out .greater)) ⌝ }
 {
     let verdict = langreth::langreth_product(
         times,

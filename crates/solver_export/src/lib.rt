@@ -1,14 +1,13 @@
-// The solver's calls for a program in Rust to link: `rt staticlib solver_export`. How an answer crosses is in `telling`.
+// The solver's calls for a program in C or Rust to link: `rt staticlib solver_export`. How an answer crosses is in `telling`.
 pub mod keldysh;
 pub mod observed;
 
 ghost use mathlib.Core.Path.{_≡_};
-ghost use Rattle.refusal.specs.Verdict.{numberOf};
 ghost use Rattle.two_time.specs.Calls.{timeConvolution, causalConvolution, checkSupport};
 ghost use Rattle.dyson.specs.Calls.{dysonWithTolerance};
-ghost use Rattle.transient_run.specs.Calls.{transientRun, solvedNumber};
+ghost use Rattle.transient_run.specs.Calls.{transientRun};
 ghost use Rattle.transient_run.specs.Asking.{runOf};
-ghost use Rattle.telling.specs.Told.{toldPlaces, toldPart};
+ghost use Rattle.telling.specs.Told.{tells, told};
 ghost use Rattle.solver_export.specs.Told.{solvedVerdict};
 use refusal::Verdict;
 use telling::tell;
@@ -16,7 +15,7 @@ use transient_run::Solved;
 
 // The convolution over all times.
 #[no_mangle]
-pub extern "C" fn time_convolution(
+pub extern "C" fn leechgrommet_time_convolution(
     times: &[f64],
     left: &[f64],
     right: &[f64],
@@ -27,10 +26,8 @@ pub extern "C" fn time_convolution(
     part: &mut [f64],
 ) -> u8
     ensures { λ r. ⌜ (let made = timeConvolution points orbitals (now (times .entry)) (now (left .entry)) (now (right .entry)) (now (out .entry)) in
-        (r ≡ numberOf (made .answer))
-        × (now (out .exit) ≡ made .out)
-        × (now (places .exit) ≡ toldPlaces (made .answer) (now (places .entry)))
-        × (now (part .exit) ≡ toldPart (made .answer) (now (part .entry)))) ⌝ }
+        (tells r (now (places .exit)) (now (part .exit)) ≡ told (made .answer) (now (places .entry)) (now (part .entry)))
+        × (now (out .exit) ≡ made .out)) ⌝ }
 {
     let verdict = two_time::time_convolution(times, left, right, points, orbitals, out);
     tell(verdict, places, part)
@@ -38,7 +35,7 @@ pub extern "C" fn time_convolution(
 
 // The causal convolution.
 #[no_mangle]
-pub extern "C" fn causal_volterra_convolution(
+pub extern "C" fn leechgrommet_causal_volterra_convolution(
     times: &[f64],
     left: &[f64],
     right: &[f64],
@@ -49,10 +46,8 @@ pub extern "C" fn causal_volterra_convolution(
     part: &mut [f64],
 ) -> u8
     ensures { λ r. ⌜ (let made = causalConvolution points orbitals (now (times .entry)) (now (left .entry)) (now (right .entry)) (now (out .entry)) in
-        (r ≡ numberOf (made .answer))
-        × (now (out .exit) ≡ made .out)
-        × (now (places .exit) ≡ toldPlaces (made .answer) (now (places .entry)))
-        × (now (part .exit) ≡ toldPart (made .answer) (now (part .entry)))) ⌝ }
+        (tells r (now (places .exit)) (now (part .exit)) ≡ told (made .answer) (now (places .entry)) (now (part .entry)))
+        × (now (out .exit) ≡ made .out)) ⌝ }
 {
     let verdict = two_time::causal_volterra_convolution(times, left, right, points, orbitals, out);
     tell(verdict, places, part)
@@ -60,7 +55,7 @@ pub extern "C" fn causal_volterra_convolution(
 
 // Whether a function is retarded within the tolerance.
 #[no_mangle]
-pub extern "C" fn check_retarded_support(
+pub extern "C" fn leechgrommet_check_retarded_support(
     xs: &[f64],
     points: usize,
     orbitals: usize,
@@ -69,9 +64,7 @@ pub extern "C" fn check_retarded_support(
     part: &mut [f64],
 ) -> u8
     ensures { λ r. ⌜ (let answer = checkSupport points orbitals (now (xs .entry)) tolerance in
-        (r ≡ numberOf answer)
-        × (now (places .exit) ≡ toldPlaces answer (now (places .entry)))
-        × (now (part .exit) ≡ toldPart answer (now (part .entry)))) ⌝ }
+        (tells r (now (places .exit)) (now (part .exit)) ≡ told (answer) (now (places .entry)) (now (part .entry)))) ⌝ }
 {
     let verdict = two_time::check_retarded_support(xs, points, orbitals, tolerance);
     tell(verdict, places, part)
@@ -79,7 +72,7 @@ pub extern "C" fn check_retarded_support(
 
 // The retarded function G, with the kernel K in the scratch.
 #[no_mangle]
-pub extern "C" fn retarded_dyson_with_tolerance(
+pub extern "C" fn leechgrommet_retarded_dyson_with_tolerance(
     times: &[f64],
     free: &[f64],
     sigma: &[f64],
@@ -92,11 +85,9 @@ pub extern "C" fn retarded_dyson_with_tolerance(
     part: &mut [f64],
 ) -> u8
     ensures { λ r. ⌜ (let made = dysonWithTolerance points orbitals tolerance (now (times .entry)) (now (free .entry)) (now (sigma .entry)) (now (green .entry)) (now (kernel .entry)) in
-        (r ≡ numberOf (made .answer))
+        (tells r (now (places .exit)) (now (part .exit)) ≡ told (made .answer) (now (places .entry)) (now (part .entry)))
         × (now (green .exit) ≡ made .retarded)
-        × (now (kernel .exit) ≡ made .kernel)
-        × (now (places .exit) ≡ toldPlaces (made .answer) (now (places .entry)))
-        × (now (part .exit) ≡ toldPart (made .answer) (now (part .entry)))) ⌝ }
+        × (now (kernel .exit) ≡ made .kernel)) ⌝ }
 {
     let verdict = dyson::retarded_dyson_with_tolerance(
         times,
@@ -123,7 +114,7 @@ fn solved_verdict(solved: Solved) -> Verdict
 
 // The transient run: G^R and G^< in the outputs, K and X in the scratch.
 #[no_mangle]
-pub extern "C" fn transient_run(
+pub extern "C" fn leechgrommet_transient_run(
     times: &[f64],
     free: &[f64],
     sigma: &[f64],
@@ -139,13 +130,11 @@ pub extern "C" fn transient_run(
     part: &mut [f64],
 ) -> u8
     ensures { λ r. ⌜ (let made = transientRun (runOf points orbitals tolerance (now (times .entry)) (now (free .entry)) (now (sigma .entry)) (now (source .entry)) (now (green .entry)) (now (lesser .entry)) (now (kernel .entry)) (now (mixed .entry))) in
-        (r ≡ solvedNumber (made .answer))
+        (tells r (now (places .exit)) (now (part .exit)) ≡ told (solvedVerdict (made .answer)) (now (places .entry)) (now (part .entry)))
         × (now (green .exit) ≡ made .retarded)
         × (now (lesser .exit) ≡ made .lesser)
         × (now (kernel .exit) ≡ made .kernel)
-        × (now (mixed .exit) ≡ made .mixed)
-        × (now (places .exit) ≡ toldPlaces (solvedVerdict (made .answer)) (now (places .entry)))
-        × (now (part .exit) ≡ toldPart (solvedVerdict (made .answer)) (now (part .entry)))) ⌝ }
+        × (now (mixed .exit) ≡ made .mixed)) ⌝ }
 {
     let solved = transient_run::transient_run(
         times,

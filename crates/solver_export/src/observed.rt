@@ -1,18 +1,16 @@
-// The observables. A number goes to a lent slice of one, which a refusal leaves; the density matrix is told as a block.
+// The observables. A number goes to a lent slice of one; the density matrix is told as a block.
 ghost use mathlib.Core.Path.{_≡_};
-ghost use Rattle.refusal.specs.Verdict.{numberOf};
-ghost use Rattle.observables.specs.Calls.{densityMatrix, particleNumber, oneBodyExpectation, bondFlowInto, observedNumber};
-ghost use Rattle.telling.specs.Told.{toldPlaces, toldPart};
-ghost use Rattle.telling.specs.ToldBlocks.{lentBlock, withShape, withValues};
-ghost use Rattle.solver_export.specs.Told.{toldValue, observedVerdict};
+ghost use Rattle.observables.specs.Calls.{densityMatrix, particleNumber, oneBodyExpectation, bondFlowInto};
+ghost use Rattle.telling.specs.Told.{tells, told};
+ghost use Rattle.telling.specs.ToldBlocks.{lentBlock, toldBlock};
+ghost use Rattle.solver_export.specs.Told.{toldObserved};
 use complex::Complex;
 use matrix::DenseMatrix;
 use observables::Observed;
 use refusal::Refusal;
 use refusal::Verdict;
 use telling::blocks::tell_block;
-use telling::tell;
-use telling::tell_number;
+use telling::tell_numbers;
 
 // The refusal's number, with an observable's number in `value`; 14 carries the imaginary part.
 fn tell_observed(
@@ -21,16 +19,12 @@ fn tell_observed(
     places: &mut [usize],
     part: &mut [f64],
 ) -> u8
-    ensures { λ r. ⌜ (r ≡ observedNumber observed)
-        × (now (value .exit) ≡ toldValue observed (now (value .entry)))
-        × (now (places .exit) ≡ toldPlaces (observedVerdict observed) (now (places .entry)))
-        × (now (part .exit) ≡ toldPart (observedVerdict observed) (now (part .entry))) ⌝ }
+    ensures { λ r. ⌜ (let made = toldObserved observed (now (value .entry)) in
+        (tells r (now (places .exit)) (now (part .exit)) ≡ told (made .answer) (now (places .entry)) (now (part .entry)))
+        × (now (value .exit) ≡ made .out)) ⌝ }
 {
     match observed {
-        Observed::Number(x) => {
-            tell_number(x, value);
-            0
-        }
+        Observed::Number(x) => tell_numbers(Verdict::Pass, &[x], value, places, part),
         Observed::NotReal(imaginary) => {
             let refusal = Refusal {
                 number: 14,
@@ -39,15 +33,15 @@ fn tell_observed(
                 second: 0,
                 part: imaginary,
             };
-            tell(Verdict::Refused(refusal), places, part)
+            tell_numbers(Verdict::Refused(refusal), &[0.0], value, places, part)
         }
-        Observed::Refused(r) => tell(Verdict::Refused(r), places, part),
+        Observed::Refused(r) => tell_numbers(Verdict::Refused(r), &[0.0], value, places, part),
     }
 }
 
 // The density matrix at a time.
 #[no_mangle]
-pub extern "C" fn density_matrix(
+pub extern "C" fn leechgrommet_density_matrix(
     lesser: &[f64],
     points: usize,
     orbitals: usize,
@@ -57,12 +51,10 @@ pub extern "C" fn density_matrix(
     places: &mut [usize],
     part: &mut [f64],
 ) -> u8
-    ensures { λ r. ⌜ (let made = densityMatrix points orbitals (now (lesser .entry)) time in
-        (r ≡ numberOf (made .verdict))
-        × (now (shape .exit) ≡ withShape (made .block .rows) (made .block .columns) (now (shape .entry)))
-        × (now (out .exit) ≡ withValues (made .block .values) (now (out .entry)))
-        × (now (places .exit) ≡ toldPlaces (made .verdict) (now (places .entry)))
-        × (now (part .exit) ≡ toldPart (made .verdict) (now (part .entry)))) ⌝ }
+    ensures { λ r. ⌜ (let made = toldBlock (densityMatrix points orbitals (now (lesser .entry)) time) (now (shape .entry)) (now (out .entry)) in
+        (tells r (now (places .exit)) (now (part .exit)) ≡ told (made .answer) (now (places .entry)) (now (part .entry)))
+        × (now (shape .exit) ≡ made .shape)
+        × (now (out .exit) ≡ made .out)) ⌝ }
 {
     let made = observables::density_matrix(lesser, points, orbitals, time);
     tell_block(made, shape, out, places, part)
@@ -70,7 +62,7 @@ pub extern "C" fn density_matrix(
 
 // The particle number at a time.
 #[no_mangle]
-pub extern "C" fn particle_number(
+pub extern "C" fn leechgrommet_particle_number(
     lesser: &[f64],
     points: usize,
     orbitals: usize,
@@ -80,11 +72,9 @@ pub extern "C" fn particle_number(
     places: &mut [usize],
     part: &mut [f64],
 ) -> u8
-    ensures { λ r. ⌜ (let answer = particleNumber points orbitals (now (lesser .entry)) time tolerance in
-        (r ≡ observedNumber answer)
-        × (now (value .exit) ≡ toldValue answer (now (value .entry)))
-        × (now (places .exit) ≡ toldPlaces (observedVerdict answer) (now (places .entry)))
-        × (now (part .exit) ≡ toldPart (observedVerdict answer) (now (part .entry)))) ⌝ }
+    ensures { λ r. ⌜ (let made = toldObserved (particleNumber points orbitals (now (lesser .entry)) time tolerance) (now (value .entry)) in
+        (tells r (now (places .exit)) (now (part .exit)) ≡ told (made .answer) (now (places .entry)) (now (part .entry)))
+        × (now (value .exit) ≡ made .out)) ⌝ }
 {
     let observed = observables::particle_number(lesser, points, orbitals, time, tolerance);
     tell_observed(observed, value, places, part)
@@ -92,7 +82,7 @@ pub extern "C" fn particle_number(
 
 // The expectation of a one-body matrix, lent as a block.
 #[no_mangle]
-pub extern "C" fn one_body_expectation(
+pub extern "C" fn leechgrommet_one_body_expectation(
     lesser: &[f64],
     points: usize,
     orbitals: usize,
@@ -105,11 +95,9 @@ pub extern "C" fn one_body_expectation(
     places: &mut [usize],
     part: &mut [f64],
 ) -> u8
-    ensures { λ r. ⌜ (let answer = oneBodyExpectation points orbitals (now (lesser .entry)) time (lentBlock rows columns (now (values .entry))) tolerance in
-        (r ≡ observedNumber answer)
-        × (now (value .exit) ≡ toldValue answer (now (value .entry)))
-        × (now (places .exit) ≡ toldPlaces (observedVerdict answer) (now (places .entry)))
-        × (now (part .exit) ≡ toldPart (observedVerdict answer) (now (part .entry)))) ⌝ }
+    ensures { λ r. ⌜ (let made = toldObserved (oneBodyExpectation points orbitals (now (lesser .entry)) time (lentBlock rows columns (now (values .entry))) tolerance) (now (value .entry)) in
+        (tells r (now (places .exit)) (now (part .exit)) ≡ told (made .answer) (now (places .entry)) (now (part .entry)))
+        × (now (value .exit) ≡ made .out)) ⌝ }
 {
     let observable = DenseMatrix {
         rows,
@@ -129,7 +117,7 @@ pub extern "C" fn one_body_expectation(
 
 // The flow into orbital a from b, of a hopping by its two parts.
 #[no_mangle]
-pub extern "C" fn bond_flow_into(
+pub extern "C" fn leechgrommet_bond_flow_into(
     lesser: &[f64],
     points: usize,
     orbitals: usize,
@@ -143,11 +131,9 @@ pub extern "C" fn bond_flow_into(
     places: &mut [usize],
     part: &mut [f64],
 ) -> u8
-    ensures { λ r. ⌜ (let answer = bondFlowInto points orbitals (now (lesser .entry)) time a b (record { re = real; im = imaginary }) charge in
-        (r ≡ observedNumber answer)
-        × (now (value .exit) ≡ toldValue answer (now (value .entry)))
-        × (now (places .exit) ≡ toldPlaces (observedVerdict answer) (now (places .entry)))
-        × (now (part .exit) ≡ toldPart (observedVerdict answer) (now (part .entry)))) ⌝ }
+    ensures { λ r. ⌜ (let made = toldObserved (bondFlowInto points orbitals (now (lesser .entry)) time a b (record { re = real; im = imaginary }) charge) (now (value .entry)) in
+        (tells r (now (places .exit)) (now (part .exit)) ≡ told (made .answer) (now (places .entry)) (now (part .entry)))
+        × (now (value .exit) ≡ made .out)) ⌝ }
 {
     let hopping = Complex {
         re: real,

@@ -1,5 +1,5 @@
 -- How an answer crosses to another language.
 pub mod Told
-pub mod Telling
 pub mod ToldBlocks
+pub mod Telling
 pub mod TellingBlocks

@@ -1,23 +1,23 @@
 -- The steps of telling a block and a complex number. Assumes nothing.
-use mathlib.Core.Path.{_≡_, refl}
+use mathlib.Core.Path.{_≡_, refl, sym, _∙_, ap}
 use Prim.Native.Nat.{ℕ}
-use mathlib.Core.Bool.{cond}
+use mathlib.Core.Bool.{Bool, true, false, cond, _&&_, true≢false}
 use mathlib.Core.List.{List, [], _∷_}
 use native.Mathlib.Omega.{arith}
 use lib.Dec.{eqb}
 use lib.ListN.{length, set}
 use lib.Ieee.{Float}
 use borrow.Author.Tests.{eq-eqb, ne-eqb}
+use Rattle.complex.specs.Arithmetic.{plusZero}
 use Rattle.complex.specs.declared.Complex.{Complex}
 use Rattle.refusal.specs.declared.Refusal.{Refusal}
 use Rattle.refusal.specs.declared.Verdict.the-variants.{Pass, Refused}
-use Rattle.refusal.specs.Verdict.{numberOf}
 use Rattle.matrix.specs.declared.Value.{Value}
 use Rattle.matrix.specs.declared.Value.the-variants.{Of, Refused as NoValue}
-use Rattle.matrix.specs.Calls.{valueNumber}
-use Rattle.telling.specs.ToldBlocks.{withShape, withValues, withParts, toldComplex, valueVerdict}
+use Rattle.telling.specs.Told.{fitted, toldNumbers}
+use Rattle.telling.specs.ToldBlocks.{roomForBlock, withShape, toldComplex}
 
-two : {A : Type 0} (xs : List A) (a b : A) → length xs ≡ 2 → set (set xs 0 a) 1 b ≡ a ∷ b ∷ []
+two : (xs : List ℕ) (a b : ℕ) → length xs ≡ 2 → set (set xs 0 a) 1 b ≡ a ∷ b ∷ []
 two [] a b h = absurd (omega arith)
 two (x ∷ []) a b h = absurd (omega arith)
 two (x ∷ y ∷ []) a b h = refl
@@ -32,43 +32,35 @@ module _ (rows columns : ℕ) (xs : List ℕ) where
   unfolding withShape
   shape-left h = rw (ne-eqb (length xs) 2 h)
 
-module _ (values xs : List Float) where
-  pub values-written : length xs ≡ 512 → values ≡ withValues values xs
-  unfolding withValues
-  values-written h = rw (eq-eqb (length xs) 512 h)
+-- where both slices have room both are written, and otherwise neither
+first-of : {A : Type 0} (a b : Bool) (x y : A) → (a && b) ≡ true → cond a x y ≡ cond (a && b) x y
+first-of true true x y h = refl
+first-of true false x y h = absurd (true≢false (sym h))
+first-of false b x y h = refl
 
-  pub values-left : (length xs ≡ 512 → ⊥) → xs ≡ withValues values xs
-  unfolding withValues
-  values-left h = rw (ne-eqb (length xs) 512 h)
+second-of : {A : Type 0} (a b : Bool) (x y : A) → (a && b) ≡ true → cond b x y ≡ cond (a && b) x y
+second-of true b x y h = refl
+second-of false b x y h = absurd (true≢false (sym h))
 
-module _ (z : Complex) (xs : List Float) where
-  pub parts-written : length xs ≡ 2 → set (set xs 0 (z .re)) 1 (z .im) ≡ withParts z xs
-  unfolding withParts
-  parts-written h = rw (eq-eqb (length xs) 2 h) (two xs _ _ h)
+pub left-alone : {A : Type 0} (b : Bool) (x y : A) → b ≡ false → y ≡ cond b x y
+left-alone b x y h = rw h refl
 
-  pub parts-left : (length xs ≡ 2 → ⊥) → xs ≡ withParts z xs
-  unfolding withParts
-  parts-left h = rw (ne-eqb (length xs) 2 h)
+pub shape-told : (rows columns : ℕ) (shape : List ℕ) (out : List Float) → roomForBlock shape out ≡ true
+    → withShape rows columns shape ≡ cond (roomForBlock shape out) (rows ∷ columns ∷ []) shape
+unfolding withShape
+shape-told rows columns shape out h = first-of (eqb (length shape) 2) (eqb (length out) 512) _ _ h
 
--- a complex answer by its case, and its number
-module _ (v : Value) where
-  pub value-of : (z : Complex) → v ≡ Of z → Pass ≡ valueVerdict v
-  unfolding valueVerdict
+pub values-told : (values : List Float) (shape : List ℕ) (out : List Float) → length values ≡ 512 → roomForBlock shape out ≡ true
+    → fitted values out ≡ cond (roomForBlock shape out) values out
+unfolding fitted
+values-told values shape out full h = ap (λ (k : ℕ). cond (eqb (length out) k) values out) full ∙ second-of (eqb (length shape) 2) (eqb (length out) 512) _ _ h
+
+-- a complex answer by its case
+module _ (v : Value) (before : List Float) where
+  pub value-of : (z : Complex) → v ≡ Of z → toldNumbers Pass (z .re ∷ z .im ∷ []) before ≡ toldComplex v before
+  unfolding toldComplex
   value-of z h = rw h refl
 
-  pub value-refused : (r : Refusal) → v ≡ NoValue r → Refused r ≡ valueVerdict v
-  unfolding valueVerdict
+  pub value-refused : (r : Refusal) → v ≡ NoValue r → toldNumbers (Refused r) (plusZero ∷ plusZero ∷ []) before ≡ toldComplex v before
+  unfolding toldComplex
   value-refused r h = rw h refl
-
-  pub value-told : (xs : List Float) (z : Complex) → v ≡ Of z → withParts z xs ≡ toldComplex v xs
-  unfolding toldComplex
-  value-told xs z h = rw h refl
-
-  pub value-left : (xs : List Float) (r : Refusal) → v ≡ NoValue r → xs ≡ toldComplex v xs
-  unfolding toldComplex
-  value-left xs r h = rw h refl
-
-pub number-valued : (v : Value) → numberOf (valueVerdict v) ≡ valueNumber v
-unfolding valueVerdict valueNumber numberOf
-number-valued (Of z) = refl
-number-valued (NoValue r) = refl

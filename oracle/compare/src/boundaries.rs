@@ -2,7 +2,7 @@
 use crate::blocks::{Operation, With, OPERATIONS};
 use crate::calls::{Function, FUNCTIONS};
 use crate::inputs::{wrapped, Call};
-use crate::others::{identity, product_chain};
+use crate::others::{identity, product_chain, zero};
 use crate::sides::Outcome;
 use crate::source::{Palette, Source};
 use crate::Job;
@@ -95,7 +95,9 @@ pub fn jobs(seed: u64) -> Vec<Job> {
         let count = if f.with == With::Length { shapes * (1 + CHANGES.len()) } else { shapes };
         jobs.push(Job::of(PART, f.name, count as u64, move |index| operation(seed, f, index)));
     }
-    jobs.push(Job::of(PART, "block_identity", SIDES.len() as u64, |index| identity(SIDES[index as usize]).under(EXACT.0)));
+    for (name, call) in [("block_zero", zero as fn(usize) -> Outcome), ("block_identity", identity)] {
+        jobs.push(Job::of(PART, name, SIDES.len() as u64, move |index| call(SIDES[index as usize]).under(EXACT.0)));
+    }
     jobs.push(Job::of(PART, "product_chain", (SIDES.len() * (1 + CHANGES.len()).pow(2)) as u64, move |index| chain(seed, index)));
     jobs
 }

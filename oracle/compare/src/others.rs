@@ -1,10 +1,18 @@
-//! Calls on a few numbers: the norm, the identity, six residuals, a chain of products.
+//! Calls on a few numbers: the norm, blocks of one number and of a size, six residuals, a chain of products.
 use crate::inputs::{faults, NO_TOLERANCE};
 use crate::sides::{block_outcome, decided, outcome, Outcome};
 use crate::source::{Source, NOT_FINITE};
 
 pub fn norm(re: f64, im: f64) -> Outcome {
     outcome(Ok(here::norm(re, im)), Ok(judge::norm(re, im)), |x| vec![x])
+}
+
+pub fn from_scalar(value: [f64; 2]) -> Outcome {
+    block_outcome(|out| here::block_from_scalar(value, out), judge::from_scalar(value))
+}
+
+pub fn zero(size: usize) -> Outcome {
+    block_outcome(|out| here::block_zero(size, out), judge::zero(size))
 }
 
 pub fn identity(size: usize) -> Outcome {
@@ -30,10 +38,24 @@ pub fn any_norm(source: &mut Source) -> Outcome {
     norm(re, im).under(faults(0))
 }
 
-pub fn any_identity(source: &mut Source) -> Outcome {
+pub fn any_scalar(source: &mut Source) -> Outcome {
+    let value = [(); 2].map(|()| if source.one_in(8) { source.pick(&NOT_FINITE) } else { source.any() });
+    from_scalar(value).under(faults(value.iter().filter(|x| !x.is_finite()).count()))
+}
+
+/// A call on a size.
+fn any_size(source: &mut Source, call: fn(usize) -> Outcome) -> Outcome {
     let size = source.below(32);
     let refused = size == 0 || size > 16;
-    identity(if size == 31 { usize::MAX } else { size }).under(faults(usize::from(refused)))
+    call(if size == 31 { usize::MAX } else { size }).under(faults(usize::from(refused)))
+}
+
+pub fn any_zero(source: &mut Source) -> Outcome {
+    any_size(source, zero)
+}
+
+pub fn any_identity(source: &mut Source) -> Outcome {
+    any_size(source, identity)
 }
 
 pub fn any_residuals(source: &mut Source) -> Outcome {

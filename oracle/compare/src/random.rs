@@ -2,7 +2,7 @@
 use crate::blocks::OPERATIONS;
 use crate::calls::FUNCTIONS;
 use crate::inputs::faults;
-use crate::others::{any_chain, any_identity, any_norm, any_residuals};
+use crate::others::{any_chain, any_identity, any_norm, any_residuals, any_scalar, any_zero};
 use crate::sides::Outcome;
 use crate::source::Source;
 use crate::Job;
@@ -12,8 +12,14 @@ const PART: &str = "random";
 /// Draws a call's inputs and calls both sides.
 type Drawn = fn(&mut Source) -> Outcome;
 
-const OTHERS: [(&str, Drawn); 4] =
-    [("norm", any_norm), ("block_identity", any_identity), ("is_consistent", any_residuals), ("product_chain", any_chain)];
+const OTHERS: [(&str, Drawn); 6] = [
+    ("norm", any_norm),
+    ("block_from_scalar", any_scalar),
+    ("block_zero", any_zero),
+    ("block_identity", any_identity),
+    ("is_consistent", any_residuals),
+    ("product_chain", any_chain),
+];
 
 pub fn jobs(calls: u64, seed: u64) -> Vec<Job> {
     let mut jobs = Vec::new();

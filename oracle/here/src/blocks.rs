@@ -1,5 +1,5 @@
 //! The operations on blocks, and a chain of products, which `crates/matrix_export` exports.
-use crate::{answer, decided, measured, Answer, NUMBER};
+use crate::{answer, decided, measured, Answer};
 
 /// 16 by 16 entries of two parts.
 const NUMBERS: usize = 512;
@@ -29,9 +29,9 @@ impl Block {
 mod exported {
     #[link(name = "matrix_export", kind = "static")]
     extern "C" {
-        pub fn product_chain(a: *const f64, a_len: usize, b: *const f64, b_len: usize, size: usize, turns: usize) -> f64;
+        pub fn leechgrommet_product_chain(a: *const f64, a_len: usize, b: *const f64, b_len: usize, size: usize, turns: usize) -> f64;
 
-        pub fn block_from_numbers(
+        pub fn leechgrommet_block_from_numbers(
             rows: usize,
             columns: usize,
             numbers: *const f64,
@@ -46,7 +46,20 @@ mod exported {
             part_len: usize,
         ) -> u8;
 
-        pub fn block_identity(
+        pub fn leechgrommet_block_from_scalar(
+            real: f64,
+            imaginary: f64,
+            shape: *mut usize,
+            shape_len: usize,
+            out: *mut f64,
+            out_len: usize,
+            places: *mut usize,
+            places_len: usize,
+            part: *mut f64,
+            part_len: usize,
+        ) -> u8;
+
+        pub fn leechgrommet_block_zero(
             size: usize,
             shape: *mut usize,
             shape_len: usize,
@@ -58,7 +71,19 @@ mod exported {
             part_len: usize,
         ) -> u8;
 
-        pub fn block_adjoint(
+        pub fn leechgrommet_block_identity(
+            size: usize,
+            shape: *mut usize,
+            shape_len: usize,
+            out: *mut f64,
+            out_len: usize,
+            places: *mut usize,
+            places_len: usize,
+            part: *mut f64,
+            part_len: usize,
+        ) -> u8;
+
+        pub fn leechgrommet_block_adjoint(
             rows: usize,
             columns: usize,
             values: *const f64,
@@ -72,7 +97,7 @@ mod exported {
             part_len: usize,
         ) -> u8;
 
-        pub fn block_scale(
+        pub fn leechgrommet_block_scale(
             rows: usize,
             columns: usize,
             values: *const f64,
@@ -88,7 +113,7 @@ mod exported {
             part_len: usize,
         ) -> u8;
 
-        pub fn block_multiply(
+        pub fn leechgrommet_block_multiply(
             left_rows: usize,
             left_columns: usize,
             left: *const f64,
@@ -105,7 +130,7 @@ mod exported {
             part_len: usize,
         ) -> u8;
 
-        pub fn block_add(
+        pub fn leechgrommet_block_add(
             left_rows: usize,
             left_columns: usize,
             left: *const f64,
@@ -122,7 +147,7 @@ mod exported {
             part_len: usize,
         ) -> u8;
 
-        pub fn block_subtract(
+        pub fn leechgrommet_block_subtract(
             left_rows: usize,
             left_columns: usize,
             left: *const f64,
@@ -139,7 +164,7 @@ mod exported {
             part_len: usize,
         ) -> u8;
 
-        pub fn block_trace(
+        pub fn leechgrommet_block_trace(
             rows: usize,
             columns: usize,
             values: *const f64,
@@ -151,7 +176,7 @@ mod exported {
             part_len: usize,
         ) -> u8;
 
-        pub fn block_get(
+        pub fn leechgrommet_block_get(
             rows: usize,
             columns: usize,
             values: *const f64,
@@ -165,7 +190,7 @@ mod exported {
             part_len: usize,
         ) -> u8;
 
-        pub fn block_max_difference(
+        pub fn leechgrommet_block_max_difference(
             left_rows: usize,
             left_columns: usize,
             left: *const f64,
@@ -180,7 +205,7 @@ mod exported {
             part_len: usize,
         ) -> u8;
 
-        pub fn block_is_hermitian(
+        pub fn leechgrommet_block_is_hermitian(
             rows: usize,
             columns: usize,
             values: *const f64,
@@ -208,12 +233,12 @@ pub(crate) fn filled(
 
 /// The first number of a·b·..·b, `turns` products of size by size blocks; of a block that was refused it is +0.
 pub fn product_chain(a: &[f64], b: &[f64], size: usize, turns: usize) -> f64 {
-    unsafe { exported::product_chain(a.as_ptr(), a.len(), b.as_ptr(), b.len(), size, turns) }
+    unsafe { exported::leechgrommet_product_chain(a.as_ptr(), a.len(), b.as_ptr(), b.len(), size, turns) }
 }
 
 pub fn block_from_numbers(rows: usize, columns: usize, numbers: &[f64], out: &mut Block) -> Answer {
     filled(out, |shape, out, places, part| unsafe {
-        exported::block_from_numbers(
+        exported::leechgrommet_block_from_numbers(
             rows,
             columns,
             numbers.as_ptr(),
@@ -230,9 +255,40 @@ pub fn block_from_numbers(rows: usize, columns: usize, numbers: &[f64], out: &mu
     })
 }
 
-pub fn block_identity(size: usize, out: &mut Block) -> Answer {
+/// The 1 by 1 block of one number, by its real and its imaginary part.
+pub fn block_from_scalar(value: [f64; 2], out: &mut Block) -> Answer {
     filled(out, |shape, out, places, part| unsafe {
-        exported::block_identity(
+        exported::leechgrommet_block_from_scalar(
+            value[0],
+            value[1],
+            shape.as_mut_ptr(),
+            shape.len(),
+            out.as_mut_ptr(),
+            out.len(),
+            places.as_mut_ptr(),
+            places.len(),
+            part.as_mut_ptr(),
+            part.len(),
+        )
+    })
+}
+
+/// A call on a size that makes a block.
+type Sized = unsafe extern "C" fn(
+    size: usize,
+    shape: *mut usize,
+    shape_len: usize,
+    out: *mut f64,
+    out_len: usize,
+    places: *mut usize,
+    places_len: usize,
+    part: *mut f64,
+    part_len: usize,
+) -> u8;
+
+fn sized(call: Sized, size: usize, out: &mut Block) -> Answer {
+    filled(out, |shape, out, places, part| unsafe {
+        call(
             size,
             shape.as_mut_ptr(),
             shape.len(),
@@ -246,9 +302,17 @@ pub fn block_identity(size: usize, out: &mut Block) -> Answer {
     })
 }
 
+pub fn block_zero(size: usize, out: &mut Block) -> Answer {
+    sized(exported::leechgrommet_block_zero, size, out)
+}
+
+pub fn block_identity(size: usize, out: &mut Block) -> Answer {
+    sized(exported::leechgrommet_block_identity, size, out)
+}
+
 pub fn block_adjoint(x: &Block, out: &mut Block) -> Answer {
     filled(out, |shape, out, places, part| unsafe {
-        exported::block_adjoint(
+        exported::leechgrommet_block_adjoint(
             x.rows,
             x.columns,
             x.values.as_ptr(),
@@ -267,7 +331,7 @@ pub fn block_adjoint(x: &Block, out: &mut Block) -> Answer {
 /// Each entry times a factor, by its real and its imaginary part.
 pub fn block_scale(x: &Block, factor: [f64; 2], out: &mut Block) -> Answer {
     filled(out, |shape, out, places, part| unsafe {
-        exported::block_scale(
+        exported::leechgrommet_block_scale(
             x.rows,
             x.columns,
             x.values.as_ptr(),
@@ -325,21 +389,26 @@ fn pair(call: Pair, left: &Block, right: &Block, out: &mut Block) -> Answer {
 }
 
 pub fn block_multiply(left: &Block, right: &Block, out: &mut Block) -> Answer {
-    pair(exported::block_multiply, left, right, out)
+    pair(exported::leechgrommet_block_multiply, left, right, out)
 }
 
 pub fn block_add(left: &Block, right: &Block, out: &mut Block) -> Answer {
-    pair(exported::block_add, left, right, out)
+    pair(exported::leechgrommet_block_add, left, right, out)
 }
 
 pub fn block_subtract(left: &Block, right: &Block, out: &mut Block) -> Answer {
-    pair(exported::block_subtract, left, right, out)
+    pair(exported::leechgrommet_block_subtract, left, right, out)
 }
 
 /// The sum of the diagonal, by its real and its imaginary part.
 pub fn block_trace(x: &Block) -> Result<[f64; 2], Answer> {
-    measured([NUMBER; 2], |value, places, part| unsafe {
-        exported::block_trace(
+    measured(|value, places, part| block_trace_told(x, value, places, part))
+}
+
+/// The same with slices of any lengths for what is told.
+pub fn block_trace_told(x: &Block, value: &mut [f64], places: &mut [usize], part: &mut [f64]) -> u8 {
+    unsafe {
+        exported::leechgrommet_block_trace(
             x.rows,
             x.columns,
             x.values.as_ptr(),
@@ -350,13 +419,13 @@ pub fn block_trace(x: &Block) -> Result<[f64; 2], Answer> {
             part.as_mut_ptr(),
             part.len(),
         )
-    })
+    }
 }
 
 /// An entry alike.
 pub fn block_get(x: &Block, row: usize, column: usize) -> Result<[f64; 2], Answer> {
-    measured([NUMBER; 2], |value, places, part| unsafe {
-        exported::block_get(
+    measured(|value, places, part| unsafe {
+        exported::leechgrommet_block_get(
             x.rows,
             x.columns,
             x.values.as_ptr(),
@@ -373,8 +442,8 @@ pub fn block_get(x: &Block, row: usize, column: usize) -> Result<[f64; 2], Answe
 }
 
 pub fn block_max_difference(left: &Block, right: &Block) -> Result<f64, Answer> {
-    let largest = measured([NUMBER; 1], |value, places, part| unsafe {
-        exported::block_max_difference(
+    let largest = measured(|value, places, part| unsafe {
+        exported::leechgrommet_block_max_difference(
             left.rows,
             left.columns,
             left.values.as_ptr(),
@@ -394,7 +463,7 @@ pub fn block_max_difference(left: &Block, right: &Block) -> Result<f64, Answer> 
 
 pub fn block_is_hermitian(x: &Block, tolerance: f64) -> Result<bool, Answer> {
     decided(|decided, places, part| unsafe {
-        exported::block_is_hermitian(
+        exported::leechgrommet_block_is_hermitian(
             x.rows,
             x.columns,
             x.values.as_ptr(),
@@ -438,6 +507,10 @@ mod tests {
         assert_eq!(told(|out| block_from_numbers(1, 2, &[1.0, 2.0], out)), refused(Answer { number: 3, ..ACCEPTED }));
         assert_eq!(told(|out| block_from_numbers(1, 1, &[1.0, f64::NAN], out)), refused(Answer { number: 7, first: 1, ..ACCEPTED }));
         assert_eq!(told(|out| block_identity(2, out)), (ACCEPTED, Block::of(2, 2, &[1.0, 0.0, 0.0, 0.0, 0.0, 0.0, 1.0])));
+        assert_eq!(told(|out| block_zero(2, out)), (ACCEPTED, Block::of(2, 2, &[])));
+        assert_eq!(told(|out| block_zero(17, out)), refused(Answer { number: 2, ..ACCEPTED }));
+        assert_eq!(told(|out| block_from_scalar([1.0, 2.0], out)), (ACCEPTED, Block::of(1, 1, &[1.0, 2.0])));
+        assert_eq!(told(|out| block_from_scalar([1.0, f64::NAN], out)), refused(Answer { number: 7, first: 1, ..ACCEPTED }));
         assert_eq!(told(|out| block_identity(0, out)), refused(Answer { number: 1, ..ACCEPTED }));
         assert_eq!(told(|out| block_identity(17, out)), refused(Answer { number: 2, ..ACCEPTED }));
         let column = Block::of(2, 1, &[1.0, -2.0, 3.0, -4.0]);

@@ -1,10 +1,10 @@
 //! The calls on all four components: retarded, advanced, lesser, greater, in this order.
-use crate::{answer, decided, measured, Answer, NUMBER};
+use crate::{answer, decided, measured, Answer};
 
 mod exported {
     #[link(name = "solver_export", kind = "static")]
     extern "C" {
-        pub fn consistency_report(
+        pub fn leechgrommet_consistency_report(
             retarded: *const f64,
             retarded_len: usize,
             advanced: *const f64,
@@ -23,7 +23,7 @@ mod exported {
             part_len: usize,
         ) -> u8;
 
-        pub fn is_consistent(
+        pub fn leechgrommet_is_consistent(
             retarded_causality: f64,
             advanced_causality: f64,
             advanced_adjoint: f64,
@@ -39,7 +39,7 @@ mod exported {
             part_len: usize,
         ) -> u8;
 
-        pub fn langreth_product(
+        pub fn leechgrommet_langreth_product(
             times: *const f64,
             times_len: usize,
             left_retarded: *const f64,
@@ -78,7 +78,7 @@ mod exported {
 
 /// The six residuals: retarded and advanced causality, advanced adjoint, lesser and greater anti-Hermiticity, spectral identity.
 pub fn consistency_report(components: [&[f64]; 4], points: usize, orbitals: usize) -> Result<[f64; 6], Answer> {
-    measured([NUMBER; 6], |residuals, places, part| consistency_report_told(components, points, orbitals, residuals, places, part))
+    measured(|residuals, places, part| consistency_report_told(components, points, orbitals, residuals, places, part))
 }
 
 /// The same with slices of any lengths for what is told.
@@ -92,7 +92,7 @@ pub fn consistency_report_told(
 ) -> u8 {
     let [retarded, advanced, lesser, greater] = components;
     unsafe {
-        exported::consistency_report(
+        exported::leechgrommet_consistency_report(
             retarded.as_ptr(),
             retarded.len(),
             advanced.as_ptr(),
@@ -121,7 +121,7 @@ pub fn is_consistent(residuals: [f64; 6], tolerance: f64) -> Result<bool, Answer
 /// The same with slices of any lengths for what is told.
 pub fn is_consistent_told(residuals: [f64; 6], tolerance: f64, decided: &mut [u8], places: &mut [usize], part: &mut [f64]) -> u8 {
     unsafe {
-        exported::is_consistent(
+        exported::leechgrommet_is_consistent(
             residuals[0],
             residuals[1],
             residuals[2],
@@ -149,7 +149,7 @@ pub fn langreth_product(
 ) -> Answer {
     let [retarded, advanced, lesser, greater] = out;
     answer(|places, part| unsafe {
-        exported::langreth_product(
+        exported::leechgrommet_langreth_product(
             times.as_ptr(),
             times.len(),
             left[0].as_ptr(),

@@ -4,8 +4,10 @@ mod keldysh;
 mod norm;
 mod observed;
 
-pub use blocks::{block_add, block_adjoint, block_from_numbers, block_get, block_identity, block_is_hermitian, block_max_difference};
-pub use blocks::{block_multiply, block_scale, block_subtract, block_trace, product_chain, Block};
+pub use blocks::{block_add, block_adjoint, block_from_numbers, block_from_scalar, block_get, block_identity, block_is_hermitian};
+pub use blocks::{
+    block_max_difference, block_multiply, block_scale, block_subtract, block_trace, block_trace_told, block_zero, product_chain, Block,
+};
 pub use keldysh::{consistency_report, consistency_report_told, is_consistent, is_consistent_told, langreth_product};
 pub use norm::norm;
 pub use observed::{bond_flow_into, density_matrix, density_matrix_told, one_body_expectation, particle_number, particle_number_told};
@@ -62,7 +64,7 @@ type Convolution = unsafe extern "C" fn(
 mod exported {
     #[link(name = "solver_export", kind = "static")]
     extern "C" {
-        pub fn time_convolution(
+        pub fn leechgrommet_time_convolution(
             times: *const f64,
             times_len: usize,
             left: *const f64,
@@ -79,7 +81,7 @@ mod exported {
             part_len: usize,
         ) -> u8;
 
-        pub fn causal_volterra_convolution(
+        pub fn leechgrommet_causal_volterra_convolution(
             times: *const f64,
             times_len: usize,
             left: *const f64,
@@ -96,7 +98,7 @@ mod exported {
             part_len: usize,
         ) -> u8;
 
-        pub fn check_retarded_support(
+        pub fn leechgrommet_check_retarded_support(
             xs: *const f64,
             xs_len: usize,
             points: usize,
@@ -108,7 +110,7 @@ mod exported {
             part_len: usize,
         ) -> u8;
 
-        pub fn retarded_dyson_with_tolerance(
+        pub fn leechgrommet_retarded_dyson_with_tolerance(
             times: *const f64,
             times_len: usize,
             free: *const f64,
@@ -128,7 +130,7 @@ mod exported {
             part_len: usize,
         ) -> u8;
 
-        pub fn transient_run(
+        pub fn leechgrommet_transient_run(
             times: *const f64,
             times_len: usize,
             free: *const f64,
@@ -178,16 +180,16 @@ fn convolve(call: Convolution, times: &[f64], left: &[f64], right: &[f64], point
 }
 
 pub fn time_convolution(times: &[f64], left: &[f64], right: &[f64], points: usize, orbitals: usize, out: &mut [f64]) -> Answer {
-    convolve(exported::time_convolution, times, left, right, points, orbitals, out)
+    convolve(exported::leechgrommet_time_convolution, times, left, right, points, orbitals, out)
 }
 
 pub fn causal_volterra_convolution(times: &[f64], left: &[f64], right: &[f64], points: usize, orbitals: usize, out: &mut [f64]) -> Answer {
-    convolve(exported::causal_volterra_convolution, times, left, right, points, orbitals, out)
+    convolve(exported::leechgrommet_causal_volterra_convolution, times, left, right, points, orbitals, out)
 }
 
 pub fn check_retarded_support(xs: &[f64], points: usize, orbitals: usize, tolerance: f64) -> Answer {
     answer(|places, part| unsafe {
-        exported::check_retarded_support(
+        exported::leechgrommet_check_retarded_support(
             xs.as_ptr(),
             xs.len(),
             points,
@@ -214,7 +216,7 @@ pub fn retarded_dyson_with_tolerance(
     kernel: &mut [f64],
 ) -> Answer {
     answer(|places, part| unsafe {
-        exported::retarded_dyson_with_tolerance(
+        exported::leechgrommet_retarded_dyson_with_tolerance(
             times.as_ptr(),
             times.len(),
             free.as_ptr(),
@@ -252,7 +254,7 @@ pub fn transient_run(
     mixed: &mut [f64],
 ) -> Answer {
     answer(|places, part| unsafe {
-        exported::transient_run(
+        exported::leechgrommet_transient_run(
             times.as_ptr(),
             times.len(),
             free.as_ptr(),
@@ -280,20 +282,26 @@ pub fn transient_run(
     })
 }
 
-/// What the call writes, or the refusal, which leaves what was lent for it.
-fn measured<T: Copy + PartialEq>(held: T, call: impl FnOnce(&mut T, &mut [usize; 3], &mut [f64; 1]) -> u8) -> Result<T, Answer> {
-    let mut value = held;
-    match answer(|places, part| call(&mut value, places, part)) {
+/// The numbers that the call writes, or the refusal: after 10 they are +0, after another number as they were.
+fn measured<const COUNT: usize>(
+    call: impl FnOnce(&mut [f64; COUNT], &mut [usize; 3], &mut [f64; 1]) -> u8,
+) -> Result<[f64; COUNT], Answer> {
+    let mut value = [NUMBER; COUNT];
+    let answer = answer(|places, part| call(&mut value, places, part));
+    let left: f64 = if answer.number == 10 { 0.0 } else { NUMBER };
+    match answer {
         Answer::ACCEPTED => Ok(value),
-        refused if value == held => Err(refused),
+        refused if value.iter().all(|x| x.to_bits() == left.to_bits()) => Err(refused),
         _ => Err(Answer::WRITTEN),
     }
 }
 
-/// The same of a decision, 1 or 0.
+/// A decision, 1 or 0, or the refusal, which leaves the byte.
 fn decided(call: impl FnOnce(&mut [u8; 1], &mut [usize; 3], &mut [f64; 1]) -> u8) -> Result<bool, Answer> {
-    match measured([u8::MAX], call)? {
-        [yes @ 0..=1] => Ok(yes == 1),
+    let mut value = [u8::MAX];
+    match (answer(|places, part| call(&mut value, places, part)), value) {
+        (Answer::ACCEPTED, [yes @ 0..=1]) => Ok(yes == 1),
+        (refused, [u8::MAX]) if refused != Answer::ACCEPTED => Err(refused),
         _ => Err(Answer::WRITTEN),
     }
 }

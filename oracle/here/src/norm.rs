@@ -3,13 +3,13 @@
 mod exported {
     #[link(name = "norm_export", kind = "static")]
     extern "C" {
-        pub fn norm_of(re: f64, im: f64) -> f64;
+        pub fn leechgrommet_norm(re: f64, im: f64) -> f64;
     }
 }
 
 #[inline]
 pub fn norm(re: f64, im: f64) -> f64 {
-    unsafe { exported::norm_of(re, im) }
+    unsafe { exported::leechgrommet_norm(re, im) }
 }
 
 #[cfg(test)]

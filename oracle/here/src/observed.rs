@@ -1,11 +1,11 @@
 //! The observables.
 use crate::blocks::{filled, Block};
-use crate::{measured, Answer, NUMBER};
+use crate::{measured, Answer};
 
 mod exported {
     #[link(name = "solver_export", kind = "static")]
     extern "C" {
-        pub fn particle_number(
+        pub fn leechgrommet_particle_number(
             lesser: *const f64,
             lesser_len: usize,
             points: usize,
@@ -20,7 +20,7 @@ mod exported {
             part_len: usize,
         ) -> u8;
 
-        pub fn bond_flow_into(
+        pub fn leechgrommet_bond_flow_into(
             lesser: *const f64,
             lesser_len: usize,
             points: usize,
@@ -39,7 +39,7 @@ mod exported {
             part_len: usize,
         ) -> u8;
 
-        pub fn density_matrix(
+        pub fn leechgrommet_density_matrix(
             lesser: *const f64,
             lesser_len: usize,
             points: usize,
@@ -55,7 +55,7 @@ mod exported {
             part_len: usize,
         ) -> u8;
 
-        pub fn one_body_expectation(
+        pub fn leechgrommet_one_body_expectation(
             lesser: *const f64,
             lesser_len: usize,
             points: usize,
@@ -77,7 +77,7 @@ mod exported {
 
 /// A number, or the refusal.
 fn observe(call: impl FnOnce(&mut [f64; 1], &mut [usize; 3], &mut [f64; 1]) -> u8) -> Result<f64, Answer> {
-    measured([NUMBER; 1], call).map(|[value]| value)
+    measured(call).map(|[value]| value)
 }
 
 /// The density matrix at a time.
@@ -98,7 +98,7 @@ pub fn density_matrix_told(
     part: &mut [f64],
 ) -> u8 {
     unsafe {
-        exported::density_matrix(
+        exported::leechgrommet_density_matrix(
             lesser.as_ptr(),
             lesser.len(),
             points,
@@ -133,7 +133,7 @@ pub fn particle_number_told(
     part: &mut [f64],
 ) -> u8 {
     unsafe {
-        exported::particle_number(
+        exported::leechgrommet_particle_number(
             lesser.as_ptr(),
             lesser.len(),
             points,
@@ -160,7 +160,7 @@ pub fn one_body_expectation(
     tolerance: f64,
 ) -> Result<f64, Answer> {
     observe(|value, places, part| unsafe {
-        exported::one_body_expectation(
+        exported::leechgrommet_one_body_expectation(
             lesser.as_ptr(),
             lesser.len(),
             points,
@@ -193,7 +193,7 @@ pub fn bond_flow_into(
     charge: f64,
 ) -> Result<f64, Answer> {
     observe(|value, places, part| unsafe {
-        exported::bond_flow_into(
+        exported::leechgrommet_bond_flow_into(
             lesser.as_ptr(),
             lesser.len(),
             points,

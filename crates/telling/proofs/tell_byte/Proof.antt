@@ -11,4 +11,4 @@ tell-byte-spec =
     (λ c. search needs)  -- slice-write-lent
     (λ c. search needs)  -- same-length
     (λ c. byte-written _ _ (c .if1 .taken))  -- returns
-    (λ c. byte-left _ _ (c .if1 .left)))  -- returns-2
+    (λ c. byte-left _ _ (c .if1 .left)))

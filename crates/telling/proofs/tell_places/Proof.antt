@@ -13,4 +13,4 @@ tell-places-spec =
     (λ c. search needs)  -- slice-write-places-3
     (λ c. search needs)  -- same-length
     (λ c. places-written _ _ (c .if1 .taken))  -- returns
-    (λ c. places-left _ _ (c .if1 .left)))  -- returns-2
+    (λ c. places-left _ _ (c .if1 .left)))

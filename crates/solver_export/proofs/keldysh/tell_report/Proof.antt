@@ -1,22 +1,36 @@
 -- `solver_export::keldysh::tell_report` meets its contract: by the case of the answer. Assumes nothing.
-use mathlib.Core.Path.{_∙_}
+use mathlib.Core.Path.{_≡_}
 use borrow.Author.Needs.{needs}
-use Rattle.solver_export.specs.TellingKeldysh.{report-told, report-left}
+use Rattle.telling.specs.Telling.{told-as}
+use Rattle.solver_export.specs.Telling.{report-of, report-refused}
 use Rattle.solver_export.proofs.keldysh.tell_report.Statement.{statement}
 use Rattle.solver_export.proofs.keldysh.tell_report.Tie as tie
 
 returns : tie.Need-returns
 returns c =
-    let t = c .before .before in
-    t .tell-residuals .ensures ∙ report-told _ _ _ (t .before .before .before .reported .given .1)
+    let t = c .before .before .before .before .before .before in
+    told-as _ _ (report-of _ _ _ (t .before .before .before .before .before .before .reported .given .1)) (t .tell-numbers .ensures)
+
+returns-2 : tie.Need-returns-2
+returns-2 c =
+    let t = c .before .before .before .before .before .before in
+    told-as _ _ (report-refused _ _ _ (t .before .before .before .before .before .before .reported2 .given .1)) (t .tell-numbers2 .ensures)
 
 pub tell-report-spec : {M : Type 1} → statement M
 tell-report-spec =
     tie.close
     (tie.spec
-    (λ c. search needs)  -- enum-known-reported
-    (λ c κs. search needs)  -- tell-residuals-requires
-    (λ c. search needs)  -- enum-told
+    (λ c. search needs)  -- enum-known
+    (λ c. search needs)  -- slice-aggregate-tell-numbers
+    (λ c κs. search needs)  -- tell-numbers-requires
+    (λ c. search needs)  -- enum-known-2
+    (λ c. search needs)  -- slice-aggregate-tell-numbers-2
+    (λ c κs. search needs)  -- tell-numbers-requires-2
     (λ c. search needs)  -- same-length
+    (λ c. search needs)  -- same-length-2
+    (λ c. search needs)  -- same-length-3
     returns
-    (λ c. report-left _ _ _ (c .enum-told .given .1)))  -- returns-2
+    (λ c. search needs)  -- same-length-4
+    (λ c. search needs)  -- same-length-5
+    (λ c. search needs)  -- same-length-6
+    returns-2)
