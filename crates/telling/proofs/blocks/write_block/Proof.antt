@@ -15,7 +15,7 @@ returns c =
     let s = t .before .before .before .before .before in
     let a = s .before .before .before .before .before .before .args in
     let room = s .before .before .if1 .taken in
-    (s .tell-shape .ensures ∙ shape-told _ _ (now (a .shape)) (now (a .out)) room, t .copy .ensures ∙ values-told (a .block .values) (now (a .shape)) (now (a .out)) (sym (full (t .before .before))) room)
+    (s .tell-shape .ensures ∙ shape-told (a .block .rows) (a .block .columns) (now (a .shape)) (now (a .out)) room, t .copy .ensures ∙ values-told (a .block .values) (now (a .shape)) (now (a .out)) (sym (full (t .before .before))) room)
 
 pub write-block-spec : {M : Type 1} → statement M
 write-block-spec =
