@@ -1,18 +1,16 @@
 -- Closed cases of the Dyson call: P11 of document 01, a run with two orbitals (reference/expected.py, case c), and each refusal of its own.
 use mathlib.Core.Path.{_≡_, refl}
-use mathlib.Core.Bool.{Bool, true, false}
-use mathlib.Core.List.{List, [], _∷_, _++_, map}
+use mathlib.Core.List.{List, [], _∷_, _++_}
 use Prim.Native.Nat.{ℕ}
 use lib.ListN.{replicate, take}
 use lib.Ieee as Ieee
-use lib.Ieee.{Float, nan, inf, binary64, toBits}
+use lib.Ieee.{Float, binary64, toBits}
 use Rattle.lists.specs.Indexed.{fold, join, allBelow}
 use Rattle.complex.specs.Arithmetic.{plusZero, one, finite, larger, cadd, cmul, cfinite}
 use Rattle.complex.specs.Sum.{sumFrom, largestFrom, largestIn}
 use Rattle.norm.specs.Norm.{norm}
-use Rattle.refusal.specs.declared.Verdict.{Verdict}
 use Rattle.refusal.specs.declared.Verdict.the-variants.{Pass, Refused}
-use Rattle.refusal.specs.Verdict.{by, ask, _then_, askAll, numberOf, afterwards}
+use Rattle.refusal.specs.Verdict.{ask, _then_, askAll, numberOf, afterwards}
 use Rattle.refusal.specs.Lines.{largeEnough, withinLimits, fitting, finiteTimes, risingTimes, finiteWeights, finiteEntries, validTolerance, retardedAt, finiteWork}
 use Rattle.matrix.specs.Block.{layOut}
 use Rattle.matrix.specs.Operations.{product, scaled, largestNorm}
@@ -24,7 +22,7 @@ use Rattle.two_time.specs.Convolutions.{causal, causalFinite, causalNumbers, ca
 use Rattle.two_time.specs.Support.{scaleOf, residual, retarded}
 use Rattle.two_time.specs.Calls.{allLong, sizeLines, operandLines, inputLines}
 use Rattle.dyson.specs.Retarded.{solve, retardedGreen, retardedFinite, retardedNumbers, retardedFine}
-use Rattle.dyson.specs.Calls.{Solved, kernelOf, greenOf, supportLines, greenFine, dysonVerdict, dysonWithTolerance, dyson}
+use Rattle.dyson.specs.Calls.{Solved, kernelOf, greenOf, supportLines, greenFine, dysonVerdict, dysonWithTolerance}
 use Rattle.two_time.specs.Example as Example
 use Rattle.two_time.specs.Example.{floats, bits}
 

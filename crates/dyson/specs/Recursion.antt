@@ -1,17 +1,15 @@
 -- The recursion as the document writes it: on and below the diagonal G(i,j) is the sum over G's own earlier rows. Assumes nothing.
 use mathlib.Core.Path.{_≡_, refl, sym, _∙_}
-use mathlib.Core.Bool.{cond, true, false}
 use mathlib.Core.List.{List}
-use Prim.Native.Nat.{ℕ, zero, suc, _+_, _-_, _≤_, _<_}
+use Prim.Native.Nat.{ℕ, zero, suc, _-_, _≤_, _<_}
 use native.Mathlib.Omega.{arith}
-use lib.Dec.{ltb}
 use lib.Ieee.{Float}
 use borrow.Author.Tests.{le-ltb, lt-ltb}
 use Rattle.complex.specs.Arithmetic.{czero}
 use Rattle.matrix.specs.Agreement.{Agree}
 use Rattle.two_time.specs.Layout.{TwoTime}
 use Rattle.two_time.specs.WeightedSum.{weightedSum}
-use Rattle.two_time.specs.Agreement.{AgreeTerms, weighted-agree}
+use Rattle.two_time.specs.Agreement.{weighted-agree}
 use Rattle.dyson.specs.Retarded.{dysonTerms, solve, retardedGreen}
 
 module _ (n : ℕ) (times : List Float) (free k : TwoTime) where

@@ -3,13 +3,12 @@
 use mathlib.Core.Path.{_≡_, refl, sym, ap, _∙_, subst}
 use mathlib.Core.Logic.{⊎-elim}
 use mathlib.Core.Bool.{Bool, true, false, cond, _||_}
-use Prim.Native.Nat.{ℕ, zero, suc, _*_, _/_, _%_}
+use Prim.Native.Nat.{ℕ, zero, suc}
 use lib.Dec.{T}
 use lib.Ieee.{Float, nan, lt, ne, ofBits}
 use lib.Ieee.Compare.{differs-from-itself}
 use Rattle.lists.specs.Agreement.{never}
 use Rattle.lists.specs.Indexed.{fold}
-use Rattle.lists.specs.Turns.{fold-flat}
 use Rattle.complex.specs.Arithmetic.{larger, plusZero}
 use Rattle.complex.specs.Sum.{largestFrom, largestIn}
 use Rattle.largest.specs.Order.{never-both-below, between, below-nan}
@@ -128,15 +127,11 @@ module _ (m : Float) where
   rows-from-larger s (suc rows) columns f =
       ap (λ (x : Float). largestFrom x columns (f rows)) (rows-from-larger s rows columns f) ∙ from-larger (rowsFrom s rows columns f) columns (f rows)
 
--- by rows, and by one loop over all places
+-- by rows
 module _ (m : Float) (h : FromZero m) (rows columns : ℕ) (f : ℕ → ℕ → Float) where
   pub rows-onward : fold rows (λ a l. largestFrom l columns (f a)) m ≡ larger m (largestIn rows columns f)
   unfolding largestIn
   rows-onward = ap (λ (x : Float). fold rows (λ a l. largestFrom l columns (f a)) x) (sym h) ∙ rows-from-larger m plusZero rows columns f
-
-  pub places-onward : fold (rows * columns) (λ p l. larger l (f (p / columns) (p % columns))) m ≡ larger m (largestIn rows columns f)
-  unfolding largestFrom
-  places-onward = fold-flat rows columns (λ a b l. larger l (f a b)) m ∙ rows-onward
 
 -- the largest of all from +0 itself
 pub from-zero : (rows columns : ℕ) (f : ℕ → ℕ → Float) → larger plusZero (largestIn rows columns f) ≡ largestIn rows columns f

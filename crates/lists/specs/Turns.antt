@@ -7,7 +7,7 @@ use native.Mathlib.Numerals.{add-one}
 use native.Mathlib.Nat.{add-zero, add-suc, zero-mul, suc-mul}
 use lib.Arith.{digits-div, digits-mod}
 use Rattle.lists.specs.Indexed.{fold, join, allBelow}
-use Rattle.lists.specs.Agreement.{fold-agree, join-agree, all-agree}
+use Rattle.lists.specs.Agreement.{join-agree, all-agree}
 
 module _ {A : Type 0} (k : ℕ) where
   pub join-more : (f : ℕ → List A) → join (k + 1) f ≡ join k f ++ f k
@@ -75,17 +75,3 @@ all-flat (suc n) m g =
       all-flat n m g,
       all-agree m (λ k. g ((n * m + k) / m) ((n * m + k) % m)) (g n) (λ k l. rw (digits-div n l, digits-mod n l)),
     )
-
--- a value that n rows of m steps make
-module _ {A : Type 0} where
-  fold-add : (n m : ℕ) (f : ℕ → A → A) (x : A) → fold (n + m) f x ≡ fold m (λ k. f (n + k)) (fold n f x)
-  unfolding fold
-  fold-add n zero f x = rw add-zero
-  fold-add n (suc m) f x = rw (add-suc, fold-add n m f x)
-
-  pub fold-flat : (n m : ℕ) (g : ℕ → ℕ → A → A) (x : A) → fold (n * m) (λ p. g (p / m) (p % m)) x ≡ fold n (λ i y. fold m (g i) y) x
-  unfolding fold
-  fold-flat zero m g x = rw zero-mul
-  fold-flat (suc n) m g x =
-      rw (suc-mul, fold-add (n * m) m (λ p. g (p / m) (p % m)) x, fold-flat n m g x)
-      (fold-agree m (λ k. g ((n * m + k) / m) ((n * m + k) % m)) (g n) (fold n (λ i y. fold m (g i) y) x) (fold n (λ i y. fold m (g i) y) x) refl (λ k l z. rw (digits-div n l, digits-mod n l)))

@@ -1,24 +1,21 @@
 -- Closed cases of the transient run: two orbitals (reference/expected.py, case d), the order of its questions, and 10 by X and by G^<.
-use mathlib.Core.Path.{_≡_, refl, _∙_}
-use mathlib.Core.Bool.{Bool, true, false, _&&_}
+use mathlib.Core.Path.{_≡_, refl}
 use mathlib.Core.List.{List, [], _∷_, _++_, map}
-use Prim.Native.Nat.{ℕ, _*_}
+use Prim.Native.Nat.{ℕ}
 use lib.ListN.{replicate, take}
 use lib.Ieee as Ieee
-use lib.Ieee.{Float, nan, inf, binary64, toBits}
+use lib.Ieee.{Float, nan, binary64, toBits}
 use Rattle.lists.specs.Indexed.{fold, join, allBelow}
 use Rattle.complex.specs.Arithmetic.{plusZero, one, finite, larger, cadd, cmul, conj, cfinite}
 use Rattle.complex.specs.Sum.{sumFrom, largestFrom, largestIn}
 use Rattle.norm.specs.Norm.{norm}
-use Rattle.refusal.specs.declared.Verdict.{Verdict}
-use Rattle.refusal.specs.declared.Verdict.the-variants.{Pass, Refused}
 use Rattle.refusal.specs.Verdict.{by, ask, _then_, askAll, afterwards}
 use Rattle.refusal.specs.Lines.{largeEnough, withinLimits, fitting, finiteTimes, risingTimes, finiteWeights, finiteEntries, validTolerance, retardedAt, finiteWork}
 use Rattle.matrix.specs.Block.{layOut}
 use Rattle.matrix.specs.Operations.{product, scaled, adjoint, largestNorm}
 use Rattle.grid.specs.Weights.{halfStep, fullWeight, intervalWeight}
 use Rattle.grid.specs.Calls.{timeLines}
-use Rattle.two_time.specs.Layout.{readAs, layOutAll, everywhere}
+use Rattle.two_time.specs.Layout.{layOutAll, everywhere}
 use Rattle.two_time.specs.WeightedSum.{productAt, termAt, partialSum, weightedSum, finiteSum}
 use Rattle.two_time.specs.Convolutions.{causal, causalFinite, causalNumbers, causalFine}
 use Rattle.two_time.specs.Support.{scaleOf, residual, retarded}
@@ -29,7 +26,7 @@ use Rattle.two_time.specs.Example as Example
 use Rattle.two_time.specs.Example.{floats, bits}
 use Rattle.transient_run.specs.declared.Solved.the-variants.{Accepted, Refused as NotSolved}
 use Rattle.transient_run.specs.Lesser.{mixed, mixedFinite, lesserGreen, lesserFinite, mixedNumbers, mixedFine, lesserNumbers, lesserFine}
-use Rattle.transient_run.specs.Calls.{Run, Outcome, solved, solvedNumber, runFine, runVerdict, transientRun}
+use Rattle.transient_run.specs.Calls.{Run, solved, solvedNumber, runFine, runVerdict, transientRun}
 
 -- ---- two orbitals, from the retarded function that the Dyson case gives
 

@@ -1,35 +1,32 @@
 -- P12 of document 01, made stage by stage: each stage is computed from what the stage before it left. Assumes nothing.
-use mathlib.Core.Path.{_≡_, refl, _∙_}
-use mathlib.Core.Bool.{Bool, true, false, _&&_}
-use mathlib.Core.List.{List, [], _∷_, _++_, map}
-use Prim.Native.Nat.{ℕ, _*_}
+use mathlib.Core.Path.{_≡_, refl}
+use mathlib.Core.Bool.{true}
+use mathlib.Core.List.{List, [], _∷_}
+use Prim.Native.Nat.{ℕ}
 use lib.ListN.{length}
 use lib.Ieee as Ieee
-use lib.Ieee.{Float, nan, inf, binary64, toBits}
+use lib.Ieee.{Float, binary64, toBits}
 use Rattle.lists.specs.Indexed.{fold, join, allBelow}
-use Rattle.complex.specs.Arithmetic.{plusZero, one, finite, larger, cadd, cmul, conj, cfinite}
-use Rattle.complex.specs.Sum.{sumFrom, largestFrom, largestIn}
-use Rattle.norm.specs.Norm.{norm}
-use Rattle.refusal.specs.declared.Verdict.{Verdict}
-use Rattle.refusal.specs.declared.Verdict.the-variants.{Pass, Refused}
-use Rattle.refusal.specs.Verdict.{by, ask, _then_, askAll, afterwards}
-use Rattle.refusal.specs.Lines.{largeEnough, withinLimits, fitting, finiteTimes, risingTimes, finiteWeights, finiteEntries, validTolerance, retardedAt, finiteWork}
+use Rattle.complex.specs.Arithmetic.{finite, cadd, cmul, conj, cfinite}
+use Rattle.complex.specs.Sum.{sumFrom}
+use Rattle.refusal.specs.declared.Verdict.the-variants.{Pass}
+use Rattle.refusal.specs.Verdict.{ask, _then_, askAll, afterwards}
+use Rattle.refusal.specs.Lines.{largeEnough, withinLimits, fitting, finiteTimes, risingTimes, finiteWeights, finiteEntries, finiteWork}
 use Rattle.matrix.specs.Block.{layOut}
-use Rattle.matrix.specs.Operations.{product, scaled, adjoint, largestNorm}
+use Rattle.matrix.specs.Operations.{product, scaled, adjoint}
 use Rattle.grid.specs.Weights.{halfStep, fullWeight, intervalWeight}
 use Rattle.grid.specs.Calls.{timeLines}
 use Rattle.two_time.specs.Layout.{readAs, layOutAll, everywhere}
 use Rattle.two_time.specs.WeightedSum.{productAt, termAt, partialSum, weightedSum, finiteSum}
 use Rattle.two_time.specs.Convolutions.{causal, causalFinite, causalNumbers, causalFine}
-use Rattle.two_time.specs.Support.{scaleOf, residual, retarded}
+use Rattle.two_time.specs.Support.{retarded}
 use Rattle.two_time.specs.Calls.{allLong, sizeLines, operandLines, inputLines}
 use Rattle.dyson.specs.Retarded.{solve, retardedGreen, retardedFinite, retardedNumbers, retardedFine}
 use Rattle.dyson.specs.Calls.{supportLines, greenFine}
-use Rattle.two_time.specs.Example as Example
-use Rattle.two_time.specs.Example.{floats, bits}
-use Rattle.transient_run.specs.declared.Solved.the-variants.{Accepted, Refused as NotSolved}
+use Rattle.two_time.specs.Example.{floats}
+use Rattle.transient_run.specs.declared.Solved.the-variants.{Accepted}
 use Rattle.transient_run.specs.Lesser.{mixed, mixedFinite, lesserGreen, lesserFinite, mixedNumbers, mixedFine, lesserNumbers, lesserFine}
-use Rattle.transient_run.specs.Calls.{Run, Outcome, solved, solvedNumber, runFine, runVerdict, transientRun}
+use Rattle.transient_run.specs.Calls.{Run, solved, runFine, runVerdict, transientRun}
 
 abbrev half : Float
 half = Ieee.ofBits binary64 0x3fe0000000000000

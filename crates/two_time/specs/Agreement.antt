@@ -1,14 +1,10 @@
 -- One lemma over n, the points and the interval, which serves every sum over times: two weighted sums whose terms agree in the interval agree.
 -- Assumes nothing.
-use mathlib.Core.Path.{_≡_, refl, ap₂, _∙_}
+use mathlib.Core.Path.{_≡_, ap₂, _∙_}
 use Prim.Native.Nat.{ℕ, _+_, _≤_, _<_}
 use native.Mathlib.Omega.{arith}
-use lib.Ieee.{Float}
-use Rattle.complex.specs.declared.Complex.{Complex}
-use Rattle.complex.specs.Arithmetic.{real, cmul}
 use Rattle.complex.specs.Sum.{sumFrom}
 use Rattle.complex.specs.Agreement.{sum-agree}
-use Rattle.matrix.specs.Block.{Entries}
 use Rattle.matrix.specs.Operations.{product, scaled}
 use Rattle.matrix.specs.Agreement.{Agree, product-agree}
 use Rattle.two_time.specs.WeightedSum.{Terms, productAt, termAt, partialSum, weightedSum}

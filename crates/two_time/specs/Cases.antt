@@ -1,16 +1,14 @@
 -- Closed cases of the convolutions and the support test, P8 and P9 of document 01 among them. Expected bits by reference/expected.py.
 use mathlib.Core.Path.{_≡_, refl}
-use mathlib.Core.Bool.{Bool, true, false}
-use mathlib.Core.List.{List, [], _∷_, _++_, map}
+use mathlib.Core.List.{List, [], _∷_, map}
 use Prim.Native.Nat.{ℕ}
-use lib.ListN.{length, replicate}
+use lib.ListN.{replicate}
 use lib.Ieee as Ieee
-use lib.Ieee.{Float, nan, inf, binary64, toBits}
+use lib.Ieee.{Float, nan, binary64, toBits}
 use Rattle.lists.specs.Indexed.{fold, join, allBelow}
 use Rattle.complex.specs.Arithmetic.{plusZero, one, finite, larger, cadd, cmul, cfinite}
 use Rattle.complex.specs.Sum.{sumFrom, largestFrom, largestIn}
 use Rattle.norm.specs.Norm.{norm}
-use Rattle.refusal.specs.declared.Verdict.{Verdict}
 use Rattle.refusal.specs.declared.Verdict.the-variants.{Pass, Refused}
 use Rattle.refusal.specs.Verdict.{by, ask, _then_, askAll, afterwards}
 use Rattle.refusal.specs.Lines.{largeEnough, withinLimits, fitting, finiteTimes, risingTimes, finiteWeights, finiteEntries, validTolerance, retardedAt, finiteWork}
@@ -22,7 +20,7 @@ use Rattle.two_time.specs.Layout.{layOutAll, everywhere}
 use Rattle.two_time.specs.WeightedSum.{productAt, termAt, partialSum, weightedSum, finiteSum}
 use Rattle.two_time.specs.Convolutions.{convolution, convolutionFinite, causal, causalFinite, convolutionNumbers, convolutionFine, causalNumbers, causalFine}
 use Rattle.two_time.specs.Support.{scaleOf, residual, retarded}
-use Rattle.two_time.specs.Calls.{allLong, sizeLines, operandLines, inputLines, Convolved, convolved, timeConvolution, causalConvolution, checkSupport}
+use Rattle.two_time.specs.Calls.{allLong, sizeLines, operandLines, inputLines, convolved, timeConvolution, causalConvolution, checkSupport}
 
 -- the numbers of these bit patterns, and back
 abbrev floats : List ℕ → List Float

@@ -5,7 +5,6 @@ use mathlib.Core.List.{List}
 use lib.Dec.{ltb}
 use lib.Ieee.{Float}
 use Rattle.complex.specs.Arithmetic.{czero}
-use Rattle.matrix.specs.Block.{Entries}
 use Rattle.matrix.specs.Operations.{zeros}
 use Rattle.grid.specs.Weights.{fullWeight, intervalWeight}
 use Rattle.two_time.specs.Layout.{TwoTime, readAs, layOutAll, everywhere}

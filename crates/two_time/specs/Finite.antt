@@ -1,9 +1,7 @@
 -- What line 10 passing says of a function that is laid out: each sum is finite, and so is every number of its list. Assumes nothing.
-use mathlib.Core.Path.{_≡_, refl, sym, subst}
-use mathlib.Core.Bool.{Bool, true, false, _&&_}
-use mathlib.Core.List.{List}
-use Prim.Native.Nat.{ℕ, zero, suc, _+_, _≤_, _<_}
-use native.Mathlib.Nat.{le-refl}
+use mathlib.Core.Path.{_≡_, sym, subst}
+use mathlib.Core.Bool.{Bool, true, _&&_}
+use Prim.Native.Nat.{ℕ, zero, suc, _+_, _<_}
 use native.Mathlib.Omega.{arith}
 use lib.ListN.{length, getD}
 use lib.Ieee.{Float, nan}
@@ -13,7 +11,7 @@ use Rattle.lists.specs.Reading.{each-in-join}
 use Rattle.complex.specs.declared.Complex.{Complex}
 use Rattle.complex.specs.Arithmetic.{finite, cfinite}
 use Rattle.complex.specs.Numbers.{pair}
-use Rattle.matrix.specs.Block.{Entries, layOut}
+use Rattle.matrix.specs.Block.{layOut}
 use Rattle.two_time.specs.Layout.{TwoTime, layOutAll, everywhere}
 use Rattle.two_time.specs.WeightedSum.{Terms, productAt, termAt, partialSum, weightedSum, finiteSum}
 

@@ -1,16 +1,15 @@
 -- What is summed at a place lies within the times, and the sums at all places are the document's convolutions. Assumes nothing.
-use mathlib.Core.Path.{_≡_, refl, sym, ap, ap₂, _∙_}
+use mathlib.Core.Path.{_≡_, refl, ap}
 use mathlib.Core.Bool.{Bool, true, false, cond, _||_}
 use mathlib.Core.List.{List}
-use Prim.Native.Nat.{ℕ, zero, suc, _+_, _-_, _≤_, _<_}
+use Prim.Native.Nat.{ℕ, suc, _+_, _-_, _≤_, _<_}
 use native.Mathlib.Numerals.{add-one}
 use native.Mathlib.Omega.{arith}
 use lib.Dec.{ltb}
 use lib.Ieee.{Float}
-use borrow.Author.Tests.{ltb-true, ltb-false}
-use Rattle.lists.specs.Indexed.{fold, allBelow, join}
+use borrow.Author.Tests.{ltb-false}
+use Rattle.lists.specs.Indexed.{fold, allBelow}
 use Rattle.lists.specs.Agreement.{join-agree, all-agree}
-use Rattle.complex.specs.declared.Complex.{Complex}
 use Rattle.complex.specs.Arithmetic.{czero}
 use Rattle.complex.specs.Numbers.{pair}
 use Rattle.complex.specs.Sum.{sumFrom}

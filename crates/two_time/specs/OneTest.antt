@@ -1,7 +1,7 @@
 -- A sum over times by its running sums: one more term, and that one test at its end tests every block made for it. Assumes nothing.
 use mathlib.Core.Path.{_≡_, refl, sym, _∙_}
 use mathlib.Core.Bool.{Bool, true, false, cond, _&&_, _||_}
-use Prim.Native.Nat.{ℕ, zero, suc, _+_, _≤_, _<_}
+use Prim.Native.Nat.{ℕ, zero, suc, _+_, _<_}
 use native.Mathlib.Nat.{le-refl}
 use native.Mathlib.Numerals.{add-one}
 use native.Mathlib.Omega.{arith}
@@ -15,7 +15,6 @@ use Rattle.complex.specs.Sum.{sumFrom}
 use Rattle.complex.specs.Finite.{cadd-finite, cmul-finite}
 use Rattle.matrix.specs.Operations.{product, scaled}
 use Rattle.refusal.specs.Search.{all-no}
-use Rattle.two_time.specs.declared.sums.CheckedEntry.{CheckedEntry}
 use Rattle.two_time.specs.declared.sums.CheckedEntry.the-variants.{Finite, Overflow}
 use Rattle.two_time.specs.WeightedSum.{Terms, productAt, termAt, partialSum, weightedSum, finiteSum}
 use Rattle.two_time.specs.Agreement.{AgreeTerms, weighted-agree}

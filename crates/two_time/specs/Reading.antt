@@ -1,7 +1,7 @@
 -- A two-time function that is laid out is read back entry by entry, and has the document's length. Assumes nothing.
 use mathlib.Core.Path.{_≡_, refl, sym, ap, _∙_}
 use mathlib.Core.List.{List}
-use Prim.Native.Nat.{ℕ, zero, suc, _+_, _*_, _≤_, _<_}
+use Prim.Native.Nat.{ℕ, _+_, _*_, _<_}
 use native.Mathlib.Nat.{add-mul, mul-assoc, mul-comm, mul-left-comm, add-zero}
 use native.Mathlib.Omega.{arith}
 use lib.Dec.{lit<}
@@ -10,8 +10,7 @@ use lib.ListN.{length, getD}
 use lib.Ieee.{Float, nan}
 use Rattle.lists.specs.Indexed.{join}
 use Rattle.lists.specs.Reading.{length-join, getD-join}
-use Rattle.complex.specs.declared.Complex.{Complex}
-use Rattle.complex.specs.Numbers.{entryAt, pair}
+use Rattle.complex.specs.Numbers.{pair}
 use Rattle.matrix.specs.Block.{Entries, layOut}
 use Rattle.two_time.specs.Layout.{TwoTime, place, readAs, lengthOf, layOutAll}
 

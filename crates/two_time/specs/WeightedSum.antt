@@ -4,7 +4,6 @@ use Prim.Native.Nat.{ℕ, suc, _+_}
 use mathlib.Core.Bool.{Bool, _&&_}
 use lib.Ieee.{Float}
 use Rattle.lists.specs.Indexed.{allBelow}
-use Rattle.complex.specs.declared.Complex.{Complex}
 use Rattle.complex.specs.Arithmetic.{real, cfinite}
 use Rattle.complex.specs.Sum.{sumFrom}
 use Rattle.matrix.specs.Block.{Entries}

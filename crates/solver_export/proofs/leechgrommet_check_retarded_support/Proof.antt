@@ -1,5 +1,4 @@
 -- `solver_export::leechgrommet_check_retarded_support` meets its contract: the answer of `two_time`'s call is told. Assumes nothing.
-use mathlib.Core.Path.{_≡_}
 use borrow.Author.Needs.{needs}
 use Rattle.solver_export.proofs.leechgrommet_check_retarded_support.Statement.{statement}
 use Rattle.solver_export.proofs.leechgrommet_check_retarded_support.Tie as tie

@@ -1,5 +1,4 @@
 -- `solver_export::leechgrommet_retarded_dyson_with_tolerance` meets its contract: the answer of `dyson`'s call is told. Assumes nothing.
-use mathlib.Core.Path.{_≡_}
 use borrow.Author.Needs.{needs}
 use Rattle.solver_export.proofs.leechgrommet_retarded_dyson_with_tolerance.Statement.{statement}
 use Rattle.solver_export.proofs.leechgrommet_retarded_dyson_with_tolerance.Tie as tie

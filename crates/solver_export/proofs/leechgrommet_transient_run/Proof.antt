@@ -1,5 +1,5 @@
 -- `solver_export::leechgrommet_transient_run` meets its contract: the answer of `transient_run`'s call is told. Assumes nothing.
-use mathlib.Core.Path.{_≡_, ap, _∙_}
+use mathlib.Core.Path.{ap, _∙_}
 use borrow.Author.Needs.{needs}
 use Rattle.solver_export.specs.Told.{solvedVerdict}
 use Rattle.solver_export.proofs.leechgrommet_transient_run.Statement.{statement}

@@ -1,5 +1,4 @@
 -- `telling::tell_decision` meets its contract: the byte is asked, written by the decision, and the answer is told. Assumes nothing.
-use mathlib.Core.Path.{_≡_}
 use borrow.Author.Needs.{needs}
 use Rattle.telling.specs.Told.{toldDecision}
 use Rattle.telling.proofs.tell_decision.Statement.{statement}

@@ -1,5 +1,4 @@
 -- `telling::tell_measured` meets its contract: by the case of the answer. Assumes nothing.
-use mathlib.Core.Path.{_≡_}
 use borrow.Author.Needs.{needs}
 use Rattle.telling.specs.Telling.{told-as, measured-of, measured-refused}
 use Rattle.telling.proofs.tell_measured.Statement.{statement}

@@ -1,5 +1,5 @@
 -- `telling::tell_numbers` meets its contract: the slice is asked, written by the answer, and the answer is told. Assumes nothing.
-use mathlib.Core.Path.{_≡_, _∙_}
+use mathlib.Core.Path.{_∙_}
 use denote.Ref.{now}
 use borrow.Author.Needs.{needs}
 use Rattle.telling.specs.Told.{toldNumbers}

@@ -1,5 +1,5 @@
 -- `telling::with_output` meets its contract: an answer by 1 or 2 stands, and 3 is asked before any other. Assumes nothing.
-use mathlib.Core.Path.{_≡_, _∙_, ap}
+use mathlib.Core.Path.{_∙_, ap}
 use borrow.Author.Needs.{needs}
 use Rattle.refusal.specs.Verdict.{_then_}
 use Rattle.telling.specs.Telling.{answer-stands, answer-later}

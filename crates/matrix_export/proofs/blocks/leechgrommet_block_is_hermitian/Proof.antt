@@ -1,5 +1,4 @@
 -- `matrix_export::blocks::leechgrommet_block_is_hermitian` meets its contract: the answer of `matrix`'s call is told. Assumes nothing.
-use mathlib.Core.Path.{_≡_}
 use borrow.Author.Needs.{needs}
 use Rattle.matrix_export.proofs.blocks.leechgrommet_block_is_hermitian.Statement.{statement}
 use Rattle.matrix_export.proofs.blocks.leechgrommet_block_is_hermitian.Tie as tie

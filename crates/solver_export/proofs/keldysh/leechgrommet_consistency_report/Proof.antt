@@ -1,5 +1,4 @@
 -- `solver_export::keldysh::leechgrommet_consistency_report` meets its contract: the answer of `report`'s call is told. Assumes nothing.
-use mathlib.Core.Path.{_≡_}
 use borrow.Author.Needs.{needs}
 use Rattle.solver_export.proofs.keldysh.leechgrommet_consistency_report.Statement.{statement}
 use Rattle.solver_export.proofs.keldysh.leechgrommet_consistency_report.Tie as tie

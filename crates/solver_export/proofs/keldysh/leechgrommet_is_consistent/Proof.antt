@@ -1,5 +1,4 @@
 -- `solver_export::keldysh::leechgrommet_is_consistent` meets its contract: the answer of `report`'s question is told. Assumes nothing.
-use mathlib.Core.Path.{_≡_}
 use borrow.Author.Needs.{needs}
 use Rattle.solver_export.proofs.keldysh.leechgrommet_is_consistent.Statement.{statement}
 use Rattle.solver_export.proofs.keldysh.leechgrommet_is_consistent.Tie as tie

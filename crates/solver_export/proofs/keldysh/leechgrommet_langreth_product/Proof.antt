@@ -1,5 +1,4 @@
 -- `solver_export::keldysh::leechgrommet_langreth_product` meets its contract: the answer of `langreth`'s call is told. Assumes nothing.
-use mathlib.Core.Path.{_≡_}
 use borrow.Author.Needs.{needs}
 use Rattle.solver_export.proofs.keldysh.leechgrommet_langreth_product.Statement.{statement}
 use Rattle.solver_export.proofs.keldysh.leechgrommet_langreth_product.Tie as tie

@@ -1,5 +1,4 @@
 -- `solver_export::observed::leechgrommet_density_matrix` meets its contract: the answer of `observables`'s call is told. Assumes nothing.
-use mathlib.Core.Path.{_≡_}
 use borrow.Author.Needs.{needs}
 use Rattle.solver_export.proofs.observed.leechgrommet_density_matrix.Statement.{statement}
 use Rattle.solver_export.proofs.observed.leechgrommet_density_matrix.Tie as tie

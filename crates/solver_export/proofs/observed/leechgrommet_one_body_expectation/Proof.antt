@@ -1,5 +1,4 @@
 -- `solver_export::observed::leechgrommet_one_body_expectation` meets its contract: the answer of `observables`'s call is told. Assumes nothing.
-use mathlib.Core.Path.{_≡_}
 use borrow.Author.Needs.{needs}
 use Rattle.solver_export.proofs.observed.leechgrommet_one_body_expectation.Statement.{statement}
 use Rattle.solver_export.proofs.observed.leechgrommet_one_body_expectation.Tie as tie

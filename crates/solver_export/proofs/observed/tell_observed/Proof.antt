@@ -1,5 +1,4 @@
 -- `solver_export::observed::tell_observed` meets its contract: by the case of the answer. Assumes nothing.
-use mathlib.Core.Path.{_≡_}
 use borrow.Author.Needs.{needs}
 use Rattle.telling.specs.Telling.{told-as}
 use Rattle.solver_export.specs.Telling.{observed-number, observed-not-real, observed-refused}

@@ -1,5 +1,4 @@
 -- `telling::blocks::tell_block` meets its contract: both slices are asked and written, and the answer is told. Assumes nothing.
-use mathlib.Core.Path.{_≡_}
 use borrow.Author.Needs.{needs}
 use Rattle.telling.specs.ToldBlocks.{toldBlock}
 use Rattle.telling.proofs.blocks.tell_block.Statement.{statement}

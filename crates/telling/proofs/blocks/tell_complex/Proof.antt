@@ -1,5 +1,4 @@
 -- `telling::blocks::tell_complex` meets its contract: by the case of the answer. Assumes nothing.
-use mathlib.Core.Path.{_≡_}
 use borrow.Author.Needs.{needs}
 use Rattle.telling.specs.Telling.{told-as}
 use Rattle.telling.specs.TellingBlocks.{value-of, value-refused}

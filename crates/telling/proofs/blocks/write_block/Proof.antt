@@ -1,5 +1,5 @@
 -- `telling::blocks::write_block` meets its contract: both slices are written where both have room. Assumes nothing.
-use mathlib.Core.Path.{_≡_, sym, _∙_}
+use mathlib.Core.Path.{sym, _∙_}
 use denote.Ref.{now}
 use borrow.Author.Needs.{needs}
 use Rattle.telling.specs.TellingBlocks.{shape-told, values-told, left-alone}
