@@ -47,11 +47,7 @@ pub extern "C" fn leechgrommet_block_from_scalar(
         × (now (shape .exit) ≡ made .shape)
         × (now (out .exit) ≡ made .out)) ⌝ }
 {
-    let value = Complex {
-        re: real,
-        im: imaginary,
-    };
-    let made = DenseMatrix::from_scalar(value);
+    let made = DenseMatrix::from_scalar(Complex::new(real, imaginary));
     tell_block(made, shape, out, places, part)
 }
 
@@ -139,11 +135,7 @@ pub extern "C" fn leechgrommet_block_scale(
         columns,
         values: *values,
     };
-    let factor = Complex {
-        re: real,
-        im: imaginary,
-    };
-    let made = block.scale(factor);
+    let made = block.scale(Complex::new(real, imaginary));
     tell_block(made, shape, out, places, part)
 }
 

@@ -135,10 +135,7 @@ pub extern "C" fn leechgrommet_bond_flow_into(
         (tells r (now (places .exit)) (now (part .exit)) ≡ told (made .answer) (now (places .entry)) (now (part .entry)))
         × (now (value .exit) ≡ made .out)) ⌝ }
 {
-    let hopping = Complex {
-        re: real,
-        im: imaginary,
-    };
+    let hopping = Complex::new(real, imaginary);
     let observed = observables::bond_flow_into(
         lesser,
         points,

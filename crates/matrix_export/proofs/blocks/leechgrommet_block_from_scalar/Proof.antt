@@ -6,12 +6,14 @@ use Rattle.matrix_export.proofs.blocks.leechgrommet_block_from_scalar.T
 returns : tie.Need-returns
 returns c =
     let t = c .before .before .before .before .before .before .before .before in
-    rw (t .before .before .before .before .before .from-scalar .ensures) at (t .tell-block .ensures)
+    let made = t .before .before .before .before .before in
+    rw (made .from-scalar .ensures, made .before .new .ensures) at (t .tell-block .ensures)
 
 pub leechgrommet-block-from-scalar-spec : {M : Type 1} → statement M
 leechgrommet-block-from-scalar-spec =
     tie.close
     (tie.spec
+    (λ c κs. search needs)  -- new-requires
     (λ c κs. search needs)  -- from-scalar-requires
     (λ c κs. search needs)  -- tell-block-requires
     (λ c. search needs)  -- same-length

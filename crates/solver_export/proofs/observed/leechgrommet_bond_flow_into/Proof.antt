@@ -6,12 +6,14 @@ use Rattle.solver_export.proofs.observed.leechgrommet_bond_flow_into.Ti
 returns : tie.Need-returns
 returns c =
     let t = c .before .before .before .before .before .before in
-    rw (t .before .before .before .before .bond-flow-into .ensures) at (t .tell-observed .ensures)
+    let made = t .before .before .before .before in
+    rw (made .bond-flow-into .ensures, made .before .new .ensures) at (t .tell-observed .ensures)
 
 pub leechgrommet-bond-flow-into-spec : {M : Type 1} → statement M
 leechgrommet-bond-flow-into-spec =
     tie.close
     (tie.spec
+    (λ c κs. search needs)  -- new-requires
     (λ c κs. search needs)  -- bond-flow-into-requires
     (λ c κs. search needs)  -- tell-observed-requires
     (λ c. search needs)  -- same-length
