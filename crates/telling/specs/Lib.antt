@@ -3,3 +3,4 @@ pub mod Told
 pub mod ToldBlocks
 pub mod Telling
 pub mod TellingBlocks
+pub mod Answers
