@@ -43,6 +43,21 @@ impl<const K: usize> Inputs<K> {
     }
 }
 
+impl Inputs<1> {
+    /// −i·e^{−iε(t−u)} on and below the diagonal, with an energy ε for each place of a block.
+    pub fn phases(points: usize, orbitals: usize) -> Self {
+        let times = times(&mut source(), points);
+        let energy = |place: usize| 1.0 + 0.37 * place as f64;
+        let mut xs = Vec::new();
+        for (t, u) in (0..points * points).map(|place| (place / points, place % points)) {
+            let angle = |place| energy(place) * (times[t] - times[u]);
+            let entry = |place| if t < u { [0.0; 2] } else { [-f64::sin(angle(place)), -f64::cos(angle(place))] };
+            xs.extend((0..orbitals * orbitals).flat_map(entry));
+        }
+        Self { points, orbitals, times, functions: [xs] }
+    }
+}
+
 /// Rising times with unequal steps.
 fn times(source: &mut Xorshift, points: usize) -> Vec<f64> {
     let mut time = 0.0;

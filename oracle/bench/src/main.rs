@@ -21,10 +21,11 @@ type Function = fn(&mut Bench, usize, usize) -> Times;
 /// The same of a block's size.
 type Operation = fn(&mut Bench, usize) -> Times;
 
-const FUNCTIONS: [(&str, Function); 11] = [
+const FUNCTIONS: [(&str, Function); 12] = [
     ("time_convolution", solver::time_convolution),
     ("causal_volterra_convolution", solver::causal_volterra_convolution),
     ("check_retarded_support", solver::check_retarded_support),
+    ("check_retarded_support, like moduli", solver::support_of_phases),
     ("retarded_dyson_with_tolerance", solver::retarded_dyson_with_tolerance),
     ("transient_run", solver::transient_run),
     ("density_matrix", observables::density_matrix),

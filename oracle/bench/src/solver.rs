@@ -32,11 +32,19 @@ fn convolution(bench: &mut Bench, inputs: Inputs<2>, ours: Ours, theirs: Theirs)
     bench.measure(|| here(&mut out), port, || (inputs.grid(), inputs.built()))
 }
 
-/// No number is made.
 pub fn check_retarded_support(bench: &mut Bench, points: usize, orbitals: usize) -> Times {
-    let inputs = Inputs::new(points, orbitals, [true]);
+    support(bench, Inputs::new(points, orbitals, [true]))
+}
+
+/// The free function of dots without damping, whose entries differ in phase alone: no entry is much smaller than the largest.
+pub fn support_of_phases(bench: &mut Bench, points: usize, orbitals: usize) -> Times {
+    support(bench, Inputs::phases(points, orbitals))
+}
+
+/// No number is made.
+fn support(bench: &mut Bench, inputs: Inputs<1>) -> Times {
     let [function] = inputs.built();
-    let here = || here::check_retarded_support(black_box(&inputs.functions[0]), points, orbitals, TOLERANCE);
+    let here = || here::check_retarded_support(black_box(&inputs.functions[0]), inputs.points, inputs.orbitals, TOLERANCE);
     let port = || keldysh_green::kept::check_retarded_support(black_box(&function), TOLERANCE);
     assert_eq!(here().number, 0);
     port().unwrap();
