@@ -31,6 +31,11 @@ pub both : (x y : Bool) → x && y ≡ true → (x ≡ true) × (y ≡ true)
 both true y h = (refl, h)
 both false y h = never h
 
+-- two flags of which neither is
+pub neither : (x y : Bool) → x || y ≡ false → (x ≡ false) × (y ≡ false)
+neither true y h = never (sym h)
+neither false y h = (refl, h)
+
 -- of two flags of which one is set, the second where the first is not
 pub other : (x y : Bool) → x || y ≡ true → x ≡ false → y ≡ true
 other true y h e = never (sym e)

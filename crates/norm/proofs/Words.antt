@@ -2,11 +2,12 @@
 use mathlib.Core.Path.{_≡_, refl, sym, ap, ap₂, _∙_, subst}
 use mathlib.Core.Bool.{Bool, true, false}
 use Prim.Native.Nat.{ℕ, suc, _+_, _-_, _*_, _/_, _%_, _^_, _≤_, _<_}
-use native.Mathlib.Nat.{le-of-eq, le-of-lt, lt-of-lt-of-le, lt-of-le-of-lt, lt-of-mul-lt-mul-right, le-add-right, add-comm, add-assoc, mod-lt, mul-comm, mul-assoc, mul-right-comm, add-mul, mul-add, mul-mul-mul-comm, mul-le-mul-left, mul-mod-left, add-zero, div-add-mod'}
+use native.Mathlib.Nat.{le-of-eq, lt-of-lt-of-le, lt-of-le-of-lt, lt-of-mul-lt-mul-right, le-add-right, add-comm, add-assoc, mod-lt, mul-assoc, mul-right-comm, add-mul, mul-mod-left, add-zero, div-add-mod'}
 use native.Mathlib.Omega.{arith}
 use lib.Dec.{T, leb, ltb, leb→le, le→leb}
 use lib.Arith.{lt-of-le-ne, digits-lt, mod-mul}
-use lib.Pow.{pow-add, pow-pos, shl-lt, shl-shr, shr-lt}
+use lib.Pow.{pow-add, pow-pos, shl-shr, shr-lt}
+use Rattle.norm.specs.Squares.{mul-lt-pow}
 
 -- two tests that pass together are one
 pub same-order : (a b c d : ℕ) → (a ≤ b → c ≤ d) → (c ≤ d → a ≤ b) → leb a b ≡ leb c d
@@ -45,27 +46,12 @@ by-high ha la hb lb l n =
     other : ha * 2 ^ 64 + la ≤ hb * 2 ^ 64 + lb → ha ≤ hb → ha < hb
     other h k = lt-of-le-ne k n
 
--- ---- a square by columns of 32 digits, P = 2^32: its columns, and that each fits
-
-pub columns : (s1 s0 P : ℕ) → (s1 * P + s0) * (s1 * P + s0) ≡ s1 * s1 * (P * P) + s1 * s0 * 2 * P + s0 * s0
-columns s1 s0 P =
-    add-mul (s1 * P) s0 (s1 * P + s0)
-    ∙ ap₂ (λ (x y : ℕ). x + y)
-    (mul-add (s1 * P) (s1 * P) s0 ∙ ap₂ (λ (x y : ℕ). x + y) (mul-mul-mul-comm s1 P s1 P) (mul-right-comm s1 P s0))
-    (mul-add s0 (s1 * P) s0 ∙ ap (λ (x : ℕ). x + s0 * s0) (sym (mul-assoc s0 s1 P) ∙ ap (λ (x : ℕ). x * P) (mul-comm s0 s1)))
-    ∙ regroup (s1 * s1 * (P * P)) (s1 * s0 * P) (s1 * s0 * 2 * P) (s0 * s0) (mul-right-comm (s1 * s0) 2 P)
-  where
-    regroup : (a b c d : ℕ) → c ≡ b * 2 → a + b + (b + d) ≡ a + c + d
-    regroup a b c d e = omega arith
+-- ---- a square by columns of 32 digits: that each fits
 
 pub record Columns (s1 s0 : ℕ) : Type 0 where
   pub high : s1 * s1 < 2 ^ 48
   pub cross : s1 * s0 < 2 ^ 56
   pub base : s0 * s0 < 2 ^ 64
-
--- a product has the digits of both factors
-pub mul-lt-pow : {a b : ℕ} (j k : ℕ) → a < 2 ^ j → b < 2 ^ k → a * b < 2 ^ (j + k)
-mul-lt-pow {a} {b} j k h l = lt-of-le-of-lt (mul-le-mul-left a (le-of-lt l)) (shl-lt j k h)
 
 pub columns-fit : (s1 s0 : ℕ) → s1 < 2 ^ 24 → s0 < 2 ^ 32 → Columns s1 s0
 columns-fit s1 s0 h l = record { high = mul-lt-pow 24 24 h h; cross = mul-lt-pow 24 32 h l; base = mul-lt-pow 32 32 l l }

@@ -1,7 +1,7 @@
 -- Squares and what `compare` says, as the laws of the root and of its rounding need them. Assumes nothing.
-use mathlib.Core.Path.{_≡_, refl, sym, ap, _∙_, subst}
+use mathlib.Core.Path.{_≡_, refl, sym, ap, ap₂, _∙_, subst}
 use Prim.Native.Nat.{ℕ, zero, suc, _+_, _*_, _^_, _≤_, _<_, compare, Ordering, Ordering·lt, Ordering·eq, Ordering·gt}
-use native.Mathlib.Nat.{le-trans, le-of-suc-le-suc, lt-of-not-le, not-le-of-lt, le-of-lt, lt-of-le-of-lt, mul-le-mul-left, one-mul, suc-mul, mul-suc, mul-le-mul, mul-mul-mul-comm, pow-suc, pow-zero, mul-comm, mul-pos}
+use native.Mathlib.Nat.{le-trans, le-of-suc-le-suc, lt-of-not-le, not-le-of-lt, le-of-lt, lt-of-le-of-lt, add-mul, mul-add, mul-assoc, mul-right-comm, mul-le-mul-left, one-mul, suc-mul, mul-suc, mul-le-mul, mul-mul-mul-comm, pow-suc, pow-zero, mul-comm, mul-pos}
 use native.Mathlib.Omega.{arith}
 use mathlib.Core.Bool.{not}
 use lib.Arith.{lt-of-le-ne}
@@ -42,6 +42,22 @@ square-le h = mul-le-mul h h
 -- a number of k digits has a square of 2·k
 pub square-small : (x k : ℕ) → x < 2 ^ k → x * x < 2 ^ (k + k)
 square-small x k h = lt-of-le-of-lt (mul-le-mul-left x (le-of-lt h)) (shl-lt k k h)
+
+-- a product has the digits of both factors
+pub mul-lt-pow : {a b : ℕ} (j k : ℕ) → a < 2 ^ j → b < 2 ^ k → a * b < 2 ^ (j + k)
+mul-lt-pow {a} {b} j k h l = lt-of-le-of-lt (mul-le-mul-left a (le-of-lt l)) (shl-lt j k h)
+
+-- the square of a number in two columns, s1·P + s0
+pub columns : (s1 s0 P : ℕ) → (s1 * P + s0) * (s1 * P + s0) ≡ s1 * s1 * (P * P) + s1 * s0 * 2 * P + s0 * s0
+columns s1 s0 P =
+    add-mul (s1 * P) s0 (s1 * P + s0)
+    ∙ ap₂ (λ (x y : ℕ). x + y)
+    (mul-add (s1 * P) (s1 * P) s0 ∙ ap₂ (λ (x y : ℕ). x + y) (mul-mul-mul-comm s1 P s1 P) (mul-right-comm s1 P s0))
+    (mul-add s0 (s1 * P) s0 ∙ ap (λ (x : ℕ). x + s0 * s0) (sym (mul-assoc s0 s1 P) ∙ ap (λ (x : ℕ). x * P) (mul-comm s0 s1)))
+    ∙ regroup (s1 * s1 * (P * P)) (s1 * s0 * P) (s1 * s0 * 2 * P) (s0 * s0) (mul-right-comm (s1 * s0) 2 P)
+  where
+    regroup : (a b c d : ℕ) → c ≡ b * 2 → a + b + (b + d) ≡ a + c + d
+    regroup a b c d e = omega arith
 
 -- the order of squares is the order of the numbers
 pub below-of-squares : (a b : ℕ) → a * a < b * b → a < b

@@ -1,6 +1,7 @@
--- The norm depends neither on the parts' signs nor on their order, and beside a zero it is the other part's size. Assumes nothing.
+-- The norm depends neither on the parts' signs nor on their order, and beside a zero it is the other part's size, which the bits without the
+-- sign give. Assumes nothing.
 use mathlib.Core.Path.{_≡_, refl, sym, ap, _∙_}
-use mathlib.Core.Bool.{Bool, false}
+use mathlib.Core.Bool.{Bool, true, false}
 use Prim.Native.Nat.{ℕ, zero, suc, _+_, _*_, _%_, _^_, _<_}
 use native.Mathlib.Nat.{add-comm, le-of-eq, le-of-lt, lt-of-le-of-lt, mul-pos}
 use native.Mathlib.Omega.{arith}
@@ -13,7 +14,7 @@ use Rattle.norm.specs.Norm.{norm, roundedRoot, inUnits}
 use Rattle.norm.specs.Parts.{significandOf, shiftOf, unitsOf}
 use Rattle.norm.specs.Cell.{kept-alone}
 use Rattle.norm.specs.Encoding.{own-digits, bits-at, finite-bits}
-use Rattle.norm.specs.Sizes.{Finite, finite-size, Placed, placed}
+use Rattle.norm.specs.Sizes.{finite-size, placed}
 
 pub sign-of-first : (x y : Float) → norm (neg x) y ≡ norm x y
 unfolding norm neg
@@ -40,7 +41,7 @@ parts-swapped (fin s m e) (fin t n d) = ap roundedRoot (add-comm (inUnits m e ^ 
 pub sign-of-second : (x y : Float) → norm x (neg y) ≡ norm x y
 sign-of-second x y = parts-swapped x (neg y) ∙ sign-of-first y x ∙ parts-swapped y x
 
--- ---- beside a zero
+-- ---- a part's size, and the norm beside a zero
 
 -- the size of x: x without its sign
 unfoldable pub sizeOf : Float → Float
@@ -54,34 +55,34 @@ unfolding fits
 held-unsigned s zero e f = f
 held-unsigned s (suc m) e f = f
 
+-- the bits without the sign are the size's
+pub unsigned-bits : (x : Float) → T (fits binary64 x) → ofBits binary64 (toBits binary64 x % 2 ^ 63) ≡ sizeOf x
+unfolding sizeOf toBits ofBits unitsOf
+unsigned-bits nan f = refl
+unsigned-bits (inf true) f = refl
+unsigned-bits (inf false) f = refl
+unsigned-bits (fin s m e) f =
+    let a = toBits binary64 (fin s m e) % 2 ^ 63 in
+    let p = placed a in
+    let own = own-digits (significandOf a) (shiftOf a) (p .digits) in
+    ap (λ (b : ℕ). ofBits binary64 b) (sym (p .bits) ∙ sym (bits-at (significandOf a * 2 ^ shiftOf a) (shiftOf a) (significandOf a) m e (finite-size s m e f .1) (own .0) (own .1)))
+    ∙ ofBits-toBits binary64 (fin false m e) (held-unsigned s m e f)
+
 pub beside-zero : (x : Float) (t : Bool) → T (fits binary64 x) → norm x (fin t 0 (pos 0)) ≡ sizeOf x
 unfolding norm sizeOf unitsOf
 beside-zero nan t f = refl
 beside-zero (inf s) t f = refl
 beside-zero (fin s m e) t f =
-    ap (λ (n : ℕ). roundedRoot (n ^ 2 + 0 ^ 2)) size
+    let a = toBits binary64 (fin s m e) % 2 ^ 63 in
+    let q = significandOf a in
+    let k = shiftOf a in
+    let p = placed a in
+    let w = finite-size s m e f in
+    ap (λ (n : ℕ). roundedRoot (n ^ 2 + 0 ^ 2)) (w .1)
     ∙ kept-alone q k 0 (p .digits) (mul-pos (next (4 * q)) (mul-pos (pow-pos k) (pow-pos k)))
     ∙ sym (finite-bits q k (le-of-lt (p .digits .small)) (p .digits .full) (lt-of-le-of-lt (le-of-eq (p .bits)) (w .0)))
-    ∙ ap (λ (b : ℕ). ofBits binary64 b) (sym (bits-at (q * 2 ^ k) k q m e size (own-digits q k (p .digits) .0) (own-digits q k (p .digits) .1)))
-    ∙ ofBits-toBits binary64 (fin false m e) (held-unsigned s m e f)
+    ∙ ap (λ (b : ℕ). ofBits binary64 b) (p .bits)
+    ∙ unsigned-bits (fin s m e) f
   where
-    a : ℕ
-    a = toBits binary64 (fin s m e) % 2 ^ 63
-
-    w : Finite a m e
-    w = finite-size s m e f
-
-    q : ℕ
-    q = significandOf a
-
-    k : ℕ
-    k = shiftOf a
-
-    p : Placed a
-    p = placed a
-
-    size : inUnits m e ≡ q * 2 ^ k
-    size = w .1
-
     next : (x : ℕ) → 0 < x + 1
     next x = omega arith

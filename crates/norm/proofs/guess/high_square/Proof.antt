@@ -4,8 +4,8 @@ use Prim.Native.Nat.{ℕ, _+_, _*_, _/_, _%_, _^_, _<_}
 use native.Mathlib.Nat.{le-of-eq, lt-of-le-of-lt, div-lt-iff-lt-mul, mod-lt}
 use native.Mathlib.Omega.{arith}
 use lib.Pow.{pow-pos, shr-lt, split}
-use Rattle.norm.specs.Squares.{square-small}
-use Rattle.norm.proofs.Words.{Columns, columns, columns-fit}
+use Rattle.norm.specs.Squares.{square-small, columns}
+use Rattle.norm.proofs.Words.{Columns, columns-fit}
 use Rattle.norm.proofs.guess.high_square.Statement.{statement}
 use Rattle.norm.proofs.guess.high_square.Tie as tie
 

@@ -2,7 +2,7 @@
 use native.Mathlib.Nat.{mod-lt}
 use borrow.Author.Needs.{needs}
 use lib.Pow.{pow-pos}
-use Rattle.norm.proofs.Words.{mul-lt-pow}
+use Rattle.norm.specs.Squares.{mul-lt-pow}
 use Rattle.norm.proofs.near_root.product.Statement.{statement}
 use Rattle.norm.proofs.near_root.product.Tie as tie
 

@@ -4,7 +4,8 @@ use Prim.Native.Nat.{ℕ, _*_, _/_, _%_, _^_}
 use native.Mathlib.Nat.{mod-lt}
 use native.Mathlib.Omega.{arith}
 use lib.Pow.{pow-pos, shr-lt, split}
-use Rattle.norm.proofs.Words.{Columns, columns, columns-fit, high-fits, carried}
+use Rattle.norm.specs.Squares.{columns}
+use Rattle.norm.proofs.Words.{Columns, columns-fit, high-fits, carried}
 use Rattle.norm.proofs.wide.square.Statement.{statement}
 use Rattle.norm.proofs.wide.square.Tie as tie
 
