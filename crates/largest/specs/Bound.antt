@@ -81,7 +81,7 @@ not-true : (b : Bool) → (b ≡ true → ⊥) → b ≡ false
 not-true true h = absurd (h refl)
 not-true false h = refl
 
-at-most-kept : (l x : Float) → le x l ≡ true → larger l x ≡ l
+pub at-most-kept : (l x : Float) → le x l ≡ true → larger l x ≡ l
 at-most-kept l x h = let t : T (le x l) = subst T (sym h) tt in first l x (number-at-least x l t) (not-true (lt l x) (λ g. never-both l x g t))
 
 -- ---- finite parts

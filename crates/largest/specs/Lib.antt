@@ -2,3 +2,6 @@
 pub mod Order
 pub mod Larger
 pub mod Bound
+pub mod Unsigned
+pub mod Middle
+pub mod Digits
