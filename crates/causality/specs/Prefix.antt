@@ -21,13 +21,12 @@ use Rattle.grid.specs.Weights.{halfStep, fullWeight, intervalWeight}
 use Rattle.grid.specs.Calls.{timeLines}
 use Rattle.two_time.specs.Layout.{TwoTime, readAs, layOutAll, everywhere}
 use Rattle.two_time.specs.WeightedSum.{productAt, termAt, partialSum, weightedSum, finiteSum}
-use Rattle.two_time.specs.Convolutions.{causal, causalFinite, causalNumbers, causalFine}
+use Rattle.two_time.specs.Sums.{termsAt, sumsOf, sumsFinite, sumsNumbers, sumsFine}
 use Rattle.two_time.specs.Support.{scaleOf, residual, retarded}
 use Rattle.two_time.specs.Calls.{allLong, sizeLines, operandLines, inputLines}
 use Rattle.dyson.specs.Retarded.{solve, retardedGreen, retardedFinite, retardedNumbers, retardedFine}
 use Rattle.dyson.specs.Calls.{supportLines, greenFine}
 use Rattle.transient_run.specs.declared.Solved.the-variants.{Accepted}
-use Rattle.transient_run.specs.Lesser.{mixed, mixedFinite, lesserGreen, lesserFinite, mixedNumbers, mixedFine, lesserFine}
 use Rattle.transient_run.specs.Calls.{Run, solved, runFine, runVerdict, transientRun}
 use Rattle.transient_run.specs.P12 as P12
 use Rattle.causality.specs.Statement.{of, SameTo, Comparable}
@@ -65,7 +64,7 @@ abbrev pub two : Float
 two = Ieee.ofBits binary64 0x4000_0000_0000_0000
 
 pub short-passes : (runVerdict (short one) ≡ Pass) × (runVerdict (short two) ≡ Pass)
-unfolding runVerdict runFine greenFine mixedFine mixedFinite mixedNumbers mixed lesserFine lesserFinite lesserGreen retardedFine retardedFinite retardedNumbers retardedGreen solve causalFine causalFinite causalNumbers causal layOutAll layOut join everywhere allBelow weightedSum partialSum termAt productAt finiteSum product scaled adjoint sumFrom fold intervalWeight halfStep fullWeight cadd cmul conj cfinite finite inputLines sizeLines allLong operandLines timeLines largeEnough withinLimits fitting finiteTimes risingTimes finiteWeights finiteEntries supportLines validTolerance retarded retardedAt residual scaleOf largestNorm largestIn largestFrom larger norm finiteWork ask askAll _then_ Ieee.ofBits Ieee.add Ieee.sub Ieee.mul Ieee.div Ieee.neg Ieee.lt Ieee.ne Ieee.eq
+unfolding runVerdict runFine greenFine retardedFine retardedFinite retardedNumbers retardedGreen solve sumsFine sumsFinite sumsNumbers sumsOf termsAt layOutAll layOut join everywhere allBelow weightedSum partialSum termAt productAt finiteSum product scaled adjoint sumFrom fold intervalWeight halfStep fullWeight cadd cmul conj cfinite finite inputLines sizeLines allLong operandLines timeLines largeEnough withinLimits fitting finiteTimes risingTimes finiteWeights finiteEntries supportLines validTolerance retarded retardedAt residual scaleOf largestNorm largestIn largestFrom larger norm finiteWork ask askAll _then_ Ieee.ofBits Ieee.add Ieee.sub Ieee.mul Ieee.div Ieee.neg Ieee.lt Ieee.ne Ieee.eq
 short-passes = (refl, refl)
 
 answered : (r : Run) → runVerdict r ≡ Pass → transientRun r .answer ≡ Accepted

@@ -9,14 +9,17 @@ use lib.Dec.{ltb}
 use lib.Ieee.{Float}
 use borrow.Author.Tests.{ltb-false}
 use Rattle.lists.specs.Agreement.{cond-agree}
+use Rattle.matrix.specs.Block.{Entries}
+use Rattle.matrix.specs.Operations.{adjoint}
 use Rattle.matrix.specs.Agreement.{Agree, adjoint-agree}
 use Rattle.grid.specs.Weights.{intervalWeight}
 use Rattle.grid.specs.Agreement.{AgreeTo, weight-agree}
+use Rattle.two_time.specs.declared.sums.Sums.the-variants.{Causal, Mixed, Lesser}
 use Rattle.two_time.specs.Layout.{TwoTime}
+use Rattle.two_time.specs.WeightedSum.{weightedSum}
 use Rattle.two_time.specs.Agreement.{weighted-agree}
-use Rattle.two_time.specs.Convolutions.{causalTerms, causal}
-use Rattle.dyson.specs.Retarded.{dysonTerms, solve, retardedGreen}
-use Rattle.transient_run.specs.Lesser.{mixedTerms, mixed, lesserTerms, lesserGreen}
+use Rattle.two_time.specs.Sums.{interval, dysonTerms, termsAt, sumsOf}
+use Rattle.dyson.specs.Retarded.{solve, retardedGreen}
 
 -- two functions agree on and below the diagonal in rows to k; in rows to k; with both indices to k
 abbrev pub LowerTo : ℕ → ℕ → TwoTime → TwoTime → Type 0
@@ -33,20 +36,39 @@ module _ (n k : ℕ) (times times' : List Float) (ht : AgreeTo k times times') w
   weights : (s e p : ℕ) → e ≤ k → s ≤ p → p ≤ e → intervalWeight times p s e ≡ intervalWeight times' p s e
   weights s e p he lo hi = weight-agree times times' p s e (λ i hi'. ht i (le-trans hi' he)) lo hi
 
-  -- K(t,u) sums over u ≤ s ≤ t
-  pub causal-stage : (x x' y y' : TwoTime) → LowerTo n k x x' → LowerTo n k y y' → LowerTo n k (causal n times x y) (causal n times' x' y')
-  unfolding causal
-  causal-stage x x' y y' hx hy t u hk hu a b ha hb =
-      cond-agree (ltb t u) _ _ _ _ (λ _. refl)
-      (λ _. weighted-agree n (causalTerms n times x y t u) (causalTerms n times' x' y' t u)
+  -- a sum over it
+  interval-agree : (s e : ℕ) → e ≤ k → (x x' y y' : ℕ → Entries) → ((p : ℕ) → s ≤ p → p ≤ e → Agree n (x p) (x' p)) → ((p : ℕ) → s ≤ p → p ≤ e → Agree n (y p) (y' p))
+      → Agree n (weightedSum n (interval times s e x y)) (weightedSum n (interval times' s e x' y'))
+  interval-agree s e he x x' y y' hx hy =
+      weighted-agree n (interval times s e x y) (interval times' s e x' y')
       (record {
         from = refl;
         count = refl;
         start = λ c d hc hd. refl;
-        weight = λ s lo hi. weights u t s hk lo (omega arith);
-        left = λ s lo hi. hx t s hk (omega arith);
-        right = λ s lo hi. hy s u (omega arith) lo;
-      }) a b ha hb)
+        weight = λ p lo hi. weights s e p he lo (omega arith);
+        left = λ p lo hi. hx p lo (omega arith);
+        right = λ p lo hi. hy p lo (omega arith);
+      })
+
+  module _ (points points' : ℕ) where
+    -- K(t,u) sums over u ≤ s ≤ t
+    pub causal-stage : (x x' y y' : TwoTime) → LowerTo n k x x' → LowerTo n k y y' → LowerTo n k (sumsOf Causal points n times x y) (sumsOf Causal points' n times' x' y')
+    unfolding sumsOf termsAt
+    causal-stage x x' y y' hx hy t u hk hu =
+        interval-agree u t hk (λ s. x t s) (λ s. x' t s) (λ s. y s u) (λ s. y' s u) (λ s lo hi. hx t s hk hi) (λ s lo hi. hy s u (le-trans hi hk) lo)
+
+    -- X(t,u) sums over s ≤ u
+    pub mixed-stage : (x x' g g' : TwoTime) → SquareTo n k x x' → SquareTo n k g g' → SquareTo n k (sumsOf Mixed points n times x g) (sumsOf Mixed points' n times' x' g')
+    unfolding sumsOf termsAt
+    mixed-stage x x' g g' hx hg t u hk hu =
+        interval-agree 0 u hu (λ s. x t s) (λ s. x' t s) (λ s. adjoint (g u s)) (λ s. adjoint (g' u s))
+        (λ s lo hi. hx t s hk (le-trans hi hu)) (λ s lo hi. adjoint-agree n (g u s) (g' u s) (hg u s hu (le-trans hi hu)))
+
+    -- G^<(t,u) sums over s ≤ t
+    pub lesser-stage : (g g' x x' : TwoTime) → SquareTo n k g g' → SquareTo n k x x' → SquareTo n k (sumsOf Lesser points n times g x) (sumsOf Lesser points' n times' g' x')
+    unfolding sumsOf termsAt
+    lesser-stage g g' x x' hg hx t u hk hu =
+        interval-agree 0 t hk (λ s. g t s) (λ s. g' t s) (λ s. x s u) (λ s. x' s u) (λ s lo hi. hg t s hk (le-trans hi hk)) (λ s lo hi. hx s u (le-trans hi hk) hu)
 
   -- G(t,u) sums over u ≤ s < t, and above the diagonal is +0
   module _ (f f' m m' : TwoTime) (hf : LowerTo n k f f') (hm : LowerTo n k m m') where
@@ -54,7 +76,7 @@ module _ (n k : ℕ) (times times' : List Float) (ht : AgreeTo k times times') w
     unfolding solve
     solve-stage zero t u hk hu = λ a b ha hb. refl
     solve-stage (suc d) t u hk hu =
-        weighted-agree n (dysonTerms n times f m (solve n times f m d) t u) (dysonTerms n times' f' m' (solve n times' f' m' d) t u)
+        weighted-agree n (dysonTerms times f m (solve n times f m d) t u) (dysonTerms times' f' m' (solve n times' f' m' d) t u)
         (record {
           from = refl;
           count = refl;
@@ -67,31 +89,3 @@ module _ (n k : ℕ) (times times' : List Float) (ht : AgreeTo k times times') w
     pub retarded-stage : RowsTo n k (retardedGreen n times f m) (retardedGreen n times' f' m')
     unfolding retardedGreen
     retarded-stage t u hk a b ha hb = cond-agree (ltb t u) _ _ _ _ (λ _. refl) (λ below. solve-stage (suc t) t u hk (ltb-false t u below) a b ha hb)
-
-  -- X(t,u) sums over s ≤ u
-  pub mixed-stage : (x x' g g' : TwoTime) → SquareTo n k x x' → SquareTo n k g g' → SquareTo n k (mixed n times x g) (mixed n times' x' g')
-  unfolding mixed
-  mixed-stage x x' g g' hx hg t u hk hu =
-      weighted-agree n (mixedTerms n times x g t u) (mixedTerms n times' x' g' t u)
-      (record {
-        from = refl;
-        count = refl;
-        start = λ c d hc hd. refl;
-        weight = λ s lo hi. weights 0 u s hu lo (omega arith);
-        left = λ s lo hi. hx t s hk (omega arith);
-        right = λ s lo hi. adjoint-agree n (g u s) (g' u s) (hg u s hu (omega arith));
-      })
-
-  -- G^<(t,u) sums over s ≤ t
-  pub lesser-stage : (g g' x x' : TwoTime) → SquareTo n k g g' → SquareTo n k x x' → SquareTo n k (lesserGreen n times g x) (lesserGreen n times' g' x')
-  unfolding lesserGreen
-  lesser-stage g g' x x' hg hx t u hk hu =
-      weighted-agree n (lesserTerms n times g x t u) (lesserTerms n times' g' x' t u)
-      (record {
-        from = refl;
-        count = refl;
-        start = λ c d hc hd. refl;
-        weight = λ s lo hi. weights 0 t s hk lo (omega arith);
-        left = λ s lo hi. hg t s hk (omega arith);
-        right = λ s lo hi. hx s u (omega arith) hu;
-      })

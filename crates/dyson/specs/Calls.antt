@@ -7,7 +7,8 @@ use Rattle.refusal.specs.declared.Verdict.{Verdict}
 use Rattle.refusal.specs.Verdict.{_then_, afterwards}
 use Rattle.refusal.specs.Lines.{finiteWork}
 use Rattle.two_time.specs.Layout.{readAs}
-use Rattle.two_time.specs.Convolutions.{causalNumbers, causalFine}
+use Rattle.two_time.specs.Sums.{sumsNumbers, sumsFine}
+use Rattle.two_time.specs.declared.sums.Sums.the-variants.{Causal}
 use Rattle.two_time.specs.declared.sums.Summed.{Summed}
 use Rattle.two_time.specs.Calls.{sizeLines, inputLines}
 use Rattle.two_time.specs.Outcome.{summedAnswer, summedOut}
@@ -28,13 +29,13 @@ defaultTolerance = ofBits binary64 0x3d71_9799_812d_ea11
 -- "K is the causal convolution of both", G is made of it, and every block of the two is finite or 10
 module _ (points orbitals : ℕ) (times free selfEnergy : List Float) where
   abbrev pub kernelOf : List Float
-  kernelOf = causalNumbers points orbitals times free selfEnergy
+  kernelOf = sumsNumbers Causal points orbitals times free selfEnergy
 
   abbrev pub greenOf : List Float
   greenOf = retardedNumbers points orbitals times free kernelOf
 
   unfoldable pub greenFine : Bool
-  greenFine = causalFine points orbitals times free selfEnergy && retardedFine points orbitals times free kernelOf
+  greenFine = sumsFine Causal points orbitals times free selfEnergy && retardedFine points orbitals times free kernelOf
 
 -- `solve_retarded`: K and G alone
 pub record RetardedLeft : Type 0 where

@@ -18,7 +18,7 @@ use Rattle.grid.specs.Weights.{halfStep, fullWeight, intervalWeight}
 use Rattle.grid.specs.Calls.{timeLines}
 use Rattle.two_time.specs.Layout.{layOutAll, everywhere}
 use Rattle.two_time.specs.WeightedSum.{productAt, termAt, partialSum, weightedSum, finiteSum}
-use Rattle.two_time.specs.Convolutions.{causal, causalFinite, causalNumbers, causalFine}
+use Rattle.two_time.specs.Sums.{termsAt, sumsOf, sumsFinite, sumsNumbers, sumsFine}
 use Rattle.two_time.specs.Support.{scaleOf, residual, retarded}
 use Rattle.two_time.specs.Calls.{allLong, sizeLines, operandLines, inputLines}
 use Rattle.dyson.specs.Retarded.{solve, retardedGreen, retardedFinite, retardedNumbers, retardedFine}
@@ -42,13 +42,13 @@ p11-run = dysonWithTolerance 3 1 half (floats (0 ∷ 0x3ff0000000000000 ∷ 0x40
 p11 : (p11-run .answer ≡ Pass)
     × (bits (p11-run .retarded) ≡ 0x3ff0000000000000 ∷ 0 ∷ 0 ∷ 0 ∷ 0 ∷ 0 ∷ 0x3ff8000000000000 ∷ 0 ∷ 0x3ff0000000000000 ∷ 0 ∷ 0 ∷ 0 ∷ 0x400c000000000000 ∷ 0 ∷ 0x3ff8000000000000 ∷ 0 ∷ 0x3ff0000000000000 ∷ 0 ∷ [])
     × (bits (p11-run .kernel) ≡ 0 ∷ 0 ∷ 0 ∷ 0 ∷ 0 ∷ 0 ∷ 0x3ff0000000000000 ∷ 0 ∷ 0 ∷ 0 ∷ 0 ∷ 0 ∷ 0x4000000000000000 ∷ 0 ∷ 0x3ff0000000000000 ∷ 0 ∷ 0 ∷ 0 ∷ [])
-unfolding dysonWithTolerance dysonVerdict supportLines greenFine causalNumbers causalFine retardedNumbers retardedFine inputLines sizeLines allLong operandLines timeLines largeEnough withinLimits fitting finiteTimes risingTimes finiteWeights finiteEntries validTolerance finiteWork retarded retardedAt residual scaleOf ask askAll _then_ afterwards layOutAll layOut join everywhere allBelow causal causalFinite solve retardedGreen retardedFinite weightedSum partialSum termAt productAt finiteSum product scaled largestNorm largestIn largestFrom sumFrom fold fullWeight intervalWeight halfStep larger norm cadd cmul cfinite finite Ieee.ofBits toBits Ieee.add Ieee.sub Ieee.mul Ieee.neg Ieee.div Ieee.lt Ieee.ne Ieee.eq
+unfolding dysonWithTolerance dysonVerdict supportLines greenFine sumsNumbers sumsFine retardedNumbers retardedFine inputLines sizeLines allLong operandLines timeLines largeEnough withinLimits fitting finiteTimes risingTimes finiteWeights finiteEntries validTolerance finiteWork retarded retardedAt residual scaleOf ask askAll _then_ afterwards layOutAll layOut join everywhere allBelow sumsOf sumsFinite termsAt solve retardedGreen retardedFinite weightedSum partialSum termAt productAt finiteSum product scaled largestNorm largestIn largestFrom sumFrom fold fullWeight intervalWeight halfStep larger norm cadd cmul cfinite finite Ieee.ofBits toBits Ieee.add Ieee.sub Ieee.mul Ieee.neg Ieee.div Ieee.lt Ieee.ne Ieee.eq
 p11 = (refl, refl, refl)
 
 -- two orbitals
 two-orbitals : (bits (kernelOf 3 2 Example.times Example.free Example.selfEnergy) ≡ Example.kernelBits)
     × (bits (greenOf 3 2 Example.times Example.free Example.selfEnergy) ≡ Example.retardedBits)
-unfolding dysonWithTolerance dysonVerdict supportLines greenFine causalNumbers causalFine retardedNumbers retardedFine inputLines sizeLines allLong operandLines timeLines largeEnough withinLimits fitting finiteTimes risingTimes finiteWeights finiteEntries validTolerance finiteWork retarded retardedAt residual scaleOf ask askAll _then_ afterwards layOutAll layOut join everywhere allBelow causal causalFinite solve retardedGreen retardedFinite weightedSum partialSum termAt productAt finiteSum product scaled largestNorm largestIn largestFrom sumFrom fold fullWeight intervalWeight halfStep larger norm cadd cmul cfinite finite Ieee.ofBits toBits Ieee.add Ieee.sub Ieee.mul Ieee.neg Ieee.div Ieee.lt Ieee.ne Ieee.eq
+unfolding dysonWithTolerance dysonVerdict supportLines greenFine sumsNumbers sumsFine retardedNumbers retardedFine inputLines sizeLines allLong operandLines timeLines largeEnough withinLimits fitting finiteTimes risingTimes finiteWeights finiteEntries validTolerance finiteWork retarded retardedAt residual scaleOf ask askAll _then_ afterwards layOutAll layOut join everywhere allBelow sumsOf sumsFinite termsAt solve retardedGreen retardedFinite weightedSum partialSum termAt productAt finiteSum product scaled largestNorm largestIn largestFrom sumFrom fold fullWeight intervalWeight halfStep larger norm cadd cmul cfinite finite Ieee.ofBits toBits Ieee.add Ieee.sub Ieee.mul Ieee.neg Ieee.div Ieee.lt Ieee.ne Ieee.eq
 two-orbitals = (refl, refl)
 
 -- ---- refusals, with two points
@@ -70,12 +70,12 @@ refused : seen plusZero (square 0 0x3ff0000000000000 0 0) (square 0 0 0 0) ∷ s
     ∷ seen half (square 0x4090000000000000 0 0x7fd0000000000000 0) (square 0x3ff0000000000000 0 0 0) ∷ []
     ≡ (8 ∷ 0x3ff0000000000000 ∷ 0x3ff0000000000000 ∷ []) ∷ (9 ∷ 0x3ff0000000000000 ∷ 0x3ff0000000000000 ∷ []) ∷ (9 ∷ 0x3ff0000000000000 ∷ 0x3ff0000000000000 ∷ [])
     ∷ (10 ∷ 0 ∷ 0 ∷ []) ∷ (10 ∷ 0 ∷ 0 ∷ []) ∷ []
-unfolding dysonWithTolerance dysonVerdict supportLines greenFine causalNumbers causalFine retardedNumbers retardedFine inputLines sizeLines allLong operandLines timeLines largeEnough withinLimits fitting finiteTimes risingTimes finiteWeights finiteEntries validTolerance finiteWork retarded retardedAt residual scaleOf ask askAll _then_ afterwards layOutAll layOut join everywhere allBelow causal causalFinite solve retardedGreen retardedFinite weightedSum partialSum termAt productAt finiteSum product scaled largestNorm largestIn largestFrom sumFrom fold fullWeight intervalWeight halfStep larger norm cadd cmul cfinite finite Ieee.ofBits toBits Ieee.add Ieee.sub Ieee.mul Ieee.neg Ieee.div Ieee.lt Ieee.ne Ieee.eq numberOf
+unfolding dysonWithTolerance dysonVerdict supportLines greenFine sumsNumbers sumsFine retardedNumbers retardedFine inputLines sizeLines allLong operandLines timeLines largeEnough withinLimits fitting finiteTimes risingTimes finiteWeights finiteEntries validTolerance finiteWork retarded retardedAt residual scaleOf ask askAll _then_ afterwards layOutAll layOut join everywhere allBelow sumsOf sumsFinite termsAt solve retardedGreen retardedFinite weightedSum partialSum termAt productAt finiteSum product scaled largestNorm largestIn largestFrom sumFrom fold fullWeight intervalWeight halfStep larger norm cadd cmul cfinite finite Ieee.ofBits toBits Ieee.add Ieee.sub Ieee.mul Ieee.neg Ieee.div Ieee.lt Ieee.ne Ieee.eq numberOf
 refused = refl
 
 -- operand 0 is free, operand 1 the self-energy
 operands : dysonVerdict 2 1 half (plusZero ∷ one ∷ []) (square 0 0x3ff0000000000000 0 0) (square 0 0x3ff0000000000000 0 0) (replicate 8 one) (replicate 8 one)
     ∷ dysonVerdict 2 1 half (plusZero ∷ one ∷ []) (square 0 0 0 0) (square 0 0x3ff0000000000000 0 0) (replicate 8 one) (replicate 8 one) ∷ []
     ≡ Refused (record { number = 9; operand = 0; first = 0; second = 1; part = one }) ∷ Refused (record { number = 9; operand = 1; first = 0; second = 1; part = one }) ∷ []
-unfolding dysonWithTolerance dysonVerdict supportLines greenFine causalNumbers causalFine retardedNumbers retardedFine inputLines sizeLines allLong operandLines timeLines largeEnough withinLimits fitting finiteTimes risingTimes finiteWeights finiteEntries validTolerance finiteWork retarded retardedAt residual scaleOf ask askAll _then_ afterwards layOutAll layOut join everywhere allBelow causal causalFinite solve retardedGreen retardedFinite weightedSum partialSum termAt productAt finiteSum product scaled largestNorm largestIn largestFrom sumFrom fold fullWeight intervalWeight halfStep larger norm cadd cmul cfinite finite Ieee.ofBits toBits Ieee.add Ieee.sub Ieee.mul Ieee.neg Ieee.div Ieee.lt Ieee.ne Ieee.eq
+unfolding dysonWithTolerance dysonVerdict supportLines greenFine sumsNumbers sumsFine retardedNumbers retardedFine inputLines sizeLines allLong operandLines timeLines largeEnough withinLimits fitting finiteTimes risingTimes finiteWeights finiteEntries validTolerance finiteWork retarded retardedAt residual scaleOf ask askAll _then_ afterwards layOutAll layOut join everywhere allBelow sumsOf sumsFinite termsAt solve retardedGreen retardedFinite weightedSum partialSum termAt productAt finiteSum product scaled largestNorm largestIn largestFrom sumFrom fold fullWeight intervalWeight halfStep larger norm cadd cmul cfinite finite Ieee.ofBits toBits Ieee.add Ieee.sub Ieee.mul Ieee.neg Ieee.div Ieee.lt Ieee.ne Ieee.eq
 operands = refl

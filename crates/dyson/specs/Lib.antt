@@ -3,7 +3,6 @@ pub mod Retarded
 pub mod Calls
 pub mod Cases
 pub mod Recursion
-pub mod Places
-pub mod Forward
+pub mod Rows
 pub mod Outcome
 pub mod Asking

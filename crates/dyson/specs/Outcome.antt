@@ -13,10 +13,9 @@ use Rattle.two_time.specs.declared.sums.Sums.the-variants.{Causal}
 use Rattle.two_time.specs.declared.sums.Summed.{Summed}
 use Rattle.two_time.specs.declared.sums.Summed.the-variants.{Finite, Overflow, Unfit}
 use Rattle.two_time.specs.Layout.{lengthOf}
-use Rattle.two_time.specs.Convolutions.{causalFine}
+use Rattle.two_time.specs.Sums.{sumsFine}
 use Rattle.two_time.specs.Calls.{allLong, sizeLines}
 use Rattle.two_time.specs.Outcome.{summed, summedAnswer, summedOut, allSummed, sums-finite, sums-overflow, left-finite, left-overflow}
-use Rattle.two_time.specs.Intervals.{causal-numbers, causal-fine}
 use Rattle.two_time.specs.SizeLines.{SizesPassed, sizes-passed, sizes-pass, long-first}
 use Rattle.dyson.specs.Retarded.{retardedFine}
 use Rattle.dyson.specs.Calls.{RetardedLeft, kernelOf, greenOf, greenFine, solvedRetarded}
@@ -63,26 +62,23 @@ module _ (points n : ℕ) (times free selfEnergy retarded kernel : List Float) w
             (f .0, s .0, long-first count kernel _ (g .1) .0)
 
         -- K was made
-        pub kernel-made : allSummed w ≡ true → (causalFine points n times free selfEnergy ≡ true) × (k ≡ kernelOf points n times free selfEnergy)
-        kernel-made q =
-            let made = sums-finite Causal points n times free selfEnergy kernel sizes (lengths .0) (lengths .1) (lengths .2) w k answered holds q in
-            (sym (causal-fine points n times free selfEnergy) ∙ made .0, made .1 ∙ causal-numbers points n times free selfEnergy)
+        pub kernel-made : allSummed w ≡ true → (sumsFine Causal points n times free selfEnergy ≡ true) × (k ≡ kernelOf points n times free selfEnergy)
+        kernel-made q = sums-finite Causal points n times free selfEnergy kernel sizes (lengths .0) (lengths .1) (lengths .2) w k answered holds q
 
         -- or was not finite
         pub kernel-overflows : allSummed w ≡ false → Left Overflow (replicate (length retarded) plusZero) k
         unfolding greenFine
         kernel-overflows q =
             let told = sums-overflow Causal points n times free selfEnergy kernel sizes (lengths .0) (lengths .1) (lengths .2) w k answered holds q in
-            let kernel-not : causalFine points n times free selfEnergy ≡ false = sym (causal-fine points n times free selfEnergy) ∙ told .0 in
-            let o = overflowed (rw kernel-not) in
+            let o = overflowed (rw (told .0)) in
             record { answered = o .answered; green = o .green; scratch = told .1 ∙ o .scratch }
 
-      pub accepted : causalFine points n times free selfEnergy ≡ true → retardedFine points n times free (kernelOf points n times free selfEnergy) ≡ true
+      pub accepted : sumsFine Causal points n times free selfEnergy ≡ true → retardedFine points n times free (kernelOf points n times free selfEnergy) ≡ true
           → Left Finite (greenOf points n times free selfEnergy) (kernelOf points n times free selfEnergy)
       unfolding solvedRetarded summedAnswer summedOut greenFine
       accepted c g = record { answered = rw (lines, c, g); green = rw (lines, c, g); scratch = rw (lines, c, g) }
 
-      pub green-overflows : causalFine points n times free selfEnergy ≡ true → retardedFine points n times free (kernelOf points n times free selfEnergy) ≡ false
+      pub green-overflows : sumsFine Causal points n times free selfEnergy ≡ true → retardedFine points n times free (kernelOf points n times free selfEnergy) ≡ false
           → Left Overflow (replicate (length retarded) plusZero) (replicate (length kernel) plusZero)
       unfolding greenFine
       green-overflows c g = overflowed (rw (c, g))

@@ -9,14 +9,15 @@ use Rattle.complex.specs.Arithmetic.{czero}
 use Rattle.matrix.specs.Agreement.{Agree}
 use Rattle.two_time.specs.Layout.{TwoTime}
 use Rattle.two_time.specs.WeightedSum.{weightedSum}
+use Rattle.two_time.specs.Sums.{dysonTerms}
 use Rattle.two_time.specs.Agreement.{weighted-agree}
-use Rattle.dyson.specs.Retarded.{dysonTerms, solve, retardedGreen}
+use Rattle.dyson.specs.Retarded.{solve, retardedGreen}
 
 module _ (n : ℕ) (times : List Float) (free k : TwoTime) where
   -- two functions that agree in the rows from j to i − 1 of column j give the same terms at (i,j)
-  pub same-terms : (g g' : TwoTime) (i j : ℕ) → j ≤ i → ((s : ℕ) → j ≤ s → s < i → Agree n (g s j) (g' s j))
-      → Agree n (weightedSum n (dysonTerms n times free k g i j)) (weightedSum n (dysonTerms n times free k g' i j))
-  same-terms g g' i j le h =
+  pub same-terms : (g g' : TwoTime) (i j : ℕ) → ((s : ℕ) → j ≤ s → s < i → Agree n (g s j) (g' s j))
+      → Agree n (weightedSum n (dysonTerms times free k g i j)) (weightedSum n (dysonTerms times free k g' i j))
+  same-terms g g' i j h =
       weighted-agree n _ _
       (record {
         from = refl;
@@ -33,18 +34,18 @@ module _ (n : ℕ) (times : List Float) (free k : TwoTime) where
   enough zero d' i j le l l' = absurd (omega arith)
   enough (suc d) zero i j le l l' = absurd (omega arith)
   enough (suc d) (suc d') i j le l l' =
-      same-terms (solve n times free k d) (solve n times free k d') i j le (λ s lo hi. enough d d' s j lo (omega arith) (omega arith))
+      same-terms (solve n times free k d) (solve n times free k d') i j (λ s lo hi. enough d d' s j lo (omega arith) (omega arith))
 
   below : (i j a b : ℕ) → j ≤ i → retardedGreen n times free k i j a b ≡ solve n times free k (suc i) i j a b
   unfolding retardedGreen
   below i j a b le = rw (le-ltb i j le)
 
   -- "G(i,j) for j ≤ i starts as free(i,j) and, for s from j to i−1, adds interval weight (s, j, i) times K(i,s)·G(s,j)."
-  pub recursion : (i j : ℕ) → j ≤ i → Agree n (retardedGreen n times free k i j) (weightedSum n (dysonTerms n times free k (retardedGreen n times free k) i j))
+  pub recursion : (i j : ℕ) → j ≤ i → Agree n (retardedGreen n times free k i j) (weightedSum n (dysonTerms times free k (retardedGreen n times free k) i j))
   unfolding solve
   recursion i j le a b ha hb =
       below i j a b le
-      ∙ same-terms (solve n times free k i) (retardedGreen n times free k) i j le
+      ∙ same-terms (solve n times free k i) (retardedGreen n times free k) i j
       (λ s lo hi c d hc hd. enough i (suc s) s j lo (omega arith) (omega arith) c d hc hd ∙ sym (below s j c d lo)) a b ha hb
 
   -- "Above the diagonal +0."

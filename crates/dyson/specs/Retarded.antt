@@ -1,33 +1,28 @@
 -- Document 01, Dyson: "K is the causal convolution of both ... G(i,j) for j ≤ i starts as free(i,j) and, for s from j to i−1, adds interval
 -- weight (s, j, i) times K(i,s)·G(s,j). Above the diagonal +0."
-use Prim.Native.Nat.{ℕ, zero, suc, _-_}
-use mathlib.Core.Bool.{Bool, cond, _||_}
+use Prim.Native.Nat.{ℕ, zero, suc}
+use mathlib.Core.Bool.{Bool, cond}
 use mathlib.Core.List.{List}
 use lib.Dec.{ltb}
 use lib.Ieee.{Float}
 use Rattle.complex.specs.Arithmetic.{czero}
-use Rattle.grid.specs.Weights.{intervalWeight}
 use Rattle.two_time.specs.Layout.{TwoTime, readAs, layOutAll, everywhere}
-use Rattle.two_time.specs.WeightedSum.{Terms, weightedSum, finiteSum}
+use Rattle.two_time.specs.WeightedSum.{weightedSum, finiteSum}
+use Rattle.two_time.specs.Sums.{dysonTerms}
 
 module _ (orbitals : ℕ) (times : List Float) (free k : TwoTime) where
-  -- the terms of G(i,j), given the earlier rows
-  abbrev pub dysonTerms : TwoTime → ℕ → ℕ → Terms
-  dysonTerms g i j =
-      record { start = free i j; weight = λ s. intervalWeight times s j i; left = λ s. k i s; right = λ s. g s j; from = j; count = i - j }
-
   -- G on and below the diagonal. The document's recursion goes from (i,j) to (s,j) with s below i, so `depth` rows above i − j are enough
   -- (specs/Recursion.antt).
   unfoldable pub solve : ℕ → TwoTime
   solve zero i j a b = czero
-  solve (suc depth) i j a b = weightedSum orbitals (dysonTerms (solve depth) i j) a b
+  solve (suc depth) i j a b = weightedSum orbitals (dysonTerms times free k (solve depth) i j) a b
 
   unfoldable pub retardedGreen : TwoTime
   retardedGreen i j a b = cond (ltb i j) czero (solve (suc i) i j a b)
 
-  -- every block made for G is finite
+  -- every block made for G is finite: above the diagonal none is made
   unfoldable pub retardedFinite : ℕ → Bool
-  retardedFinite points = everywhere points orbitals (λ i j a b. ltb i j || finiteSum orbitals (dysonTerms retardedGreen i j) a b)
+  retardedFinite points = everywhere points orbitals (λ i j a b. finiteSum orbitals (dysonTerms times free k retardedGreen i j) a b)
 
 -- G over lent numbers, K read as it stands in its scratch: laid out, and whether every block made for it is finite
 module _ (points orbitals : ℕ) (times free kernel : List Float) where

@@ -7,13 +7,13 @@ use forward::forward;
 use grid::time_lines;
 use refusal::Refusal;
 use refusal::Verdict;
+use sums::weighted_sums;
 use two_time::layout::clear;
 use two_time::lines::has_length;
 use two_time::lines::operand;
 use two_time::lines::sizes;
 use two_time::sums::Summed;
 use two_time::sums::Sums;
-use two_time::sums::weighted_sums;
 use two_time::support::check_retarded_inputs;
 
 // K, the causal convolution of free and self-energy, in the scratch, and then G in the output: both +0 throughout where something is not

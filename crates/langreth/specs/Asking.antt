@@ -14,14 +14,15 @@ use Rattle.refusal.specs.declared.Verdict.the-variants.{Pass, Refused}
 use Rattle.refusal.specs.Verdict.{by, _then_}
 use Rattle.refusal.specs.Lines.{finiteEntries, finiteWork}
 use Rattle.refusal.specs.Agreement.{then-assoc}
-use Rattle.two_time.specs.Layout.{layOutAll, lengthOf}
-use Rattle.two_time.specs.Convolutions.{causalNumbers}
+use Rattle.two_time.specs.declared.sums.Sums.the-variants.{Causal, Advanced}
+use Rattle.two_time.specs.Layout.{lengthOf}
+use Rattle.two_time.specs.Sums.{sumsNumbers}
 use Rattle.two_time.specs.Calls.{allLong, allFit, operandLines, inputLines}
 use Rattle.two_time.specs.SizeLines.{SizesPassed}
 use Rattle.two_time.specs.Working as Working
 use Rattle.two_time.specs.Working.{inputs-keeping, inputs-sizes}
 use Rattle.langreth.specs.Calls.{Components, Multiplied, listed, correlationOf, productFine, productVerdict, langrethProduct}
-use Rattle.langreth.specs.Work.{advancedNumbers, Made}
+use Rattle.langreth.specs.Work.{Made}
 use Rattle.langreth.specs.Lengths.{others-asked}
 
 -- tests and lines of two groups of slices, one after the other
@@ -74,10 +75,10 @@ module _ (points n : ℕ) (times : List Float) (left right out : Components) whe
   left-by : (answer : Verdict) (leave : List Float → List Float → List Float)
       → ((made before : List Float) → Working.Left answer (lines then finiteWork (productFine points n times left right)) (leave made before) made before)
       → (after : Components)
-      → after .retarded ≡ leave (causalNumbers points n times (left .retarded) (right .retarded)) (out .retarded)
-      → after .advanced ≡ leave (advancedNumbers points n times (left .advanced) (right .advanced)) (out .advanced)
-      → after .lesser ≡ leave (layOutAll points n (correlationOf points n times left right (left .lesser) (right .lesser))) (out .lesser)
-      → after .greater ≡ leave (layOutAll points n (correlationOf points n times left right (left .greater) (right .greater))) (out .greater)
+      → after .retarded ≡ leave (sumsNumbers Causal points n times (left .retarded) (right .retarded)) (out .retarded)
+      → after .advanced ≡ leave (sumsNumbers Advanced points n times (left .advanced) (right .advanced)) (out .advanced)
+      → after .lesser ≡ leave (correlationOf points n times left right (left .lesser) (right .lesser)) (out .lesser)
+      → after .greater ≡ leave (correlationOf points n times left right (left .greater) (right .greater)) (out .greater)
       → Left answer after
   unfolding langrethProduct productVerdict
   left-by answer leave h after r a l g =

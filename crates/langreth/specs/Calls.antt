@@ -6,10 +6,10 @@ use lib.Ieee.{Float}
 use Rattle.refusal.specs.declared.Verdict.{Verdict}
 use Rattle.refusal.specs.Verdict.{_then_, afterwards}
 use Rattle.refusal.specs.Lines.{finiteWork}
-use Rattle.two_time.specs.Layout.{TwoTime, readAs, layOutAll}
-use Rattle.two_time.specs.Convolutions.{causalNumbers, causalFine}
+use Rattle.two_time.specs.declared.sums.Sums.the-variants.{Causal, Advanced}
+use Rattle.two_time.specs.Sums.{sumsNumbers, sumsFine}
 use Rattle.two_time.specs.Calls.{inputLines}
-use Rattle.langreth.specs.Product.{advanced, advancedFinite, correlation, correlationFinite}
+use Rattle.langreth.specs.Product.{correlationNumbers, correlationFine}
 
 -- four components: of an operand, or of what the outputs hold
 pub record Components : Type 0 where
@@ -32,20 +32,17 @@ pub record Multiplied : Type 0 where
   pub out : Components
 
 module _ (points orbitals : ℕ) (times : List Float) (left right : Components) where
-  abbrev function : List Float → TwoTime
-  function = readAs points orbitals
-
   -- lesser or greater, of the two operands' components
-  abbrev pub correlationOf : List Float → List Float → TwoTime
-  correlationOf x y = correlation points orbitals times (function (left .retarded)) (function y) (function x) (function (right .advanced))
+  abbrev pub correlationOf : List Float → List Float → List Float
+  correlationOf x y = correlationNumbers points orbitals times (left .retarded) y x (right .advanced)
 
   abbrev pub correlationFineOf : List Float → List Float → Bool
-  correlationFineOf x y = correlationFinite points orbitals times (function (left .retarded)) (function y) (function x) (function (right .advanced))
+  correlationFineOf x y = correlationFine points orbitals times (left .retarded) y x (right .advanced)
 
   unfoldable pub productFine : Bool
   productFine =
-      causalFine points orbitals times (left .retarded) (right .retarded)
-      && (advancedFinite points orbitals times (function (left .advanced)) (function (right .advanced))
+      sumsFine Causal points orbitals times (left .retarded) (right .retarded)
+      && (sumsFine Advanced points orbitals times (left .advanced) (right .advanced)
       && (correlationFineOf (left .lesser) (right .lesser) && correlationFineOf (left .greater) (right .greater)))
 
   -- operands the left four, then the right four: lines 1 to 7, then 10
@@ -58,9 +55,9 @@ module _ (points orbitals : ℕ) (times : List Float) (left right : Components) 
       record {
         answer = productVerdict out;
         out = record {
-          retarded = afterwards (productVerdict out) (causalNumbers points orbitals times (left .retarded) (right .retarded)) (out .retarded);
-          advanced = afterwards (productVerdict out) (layOutAll points orbitals (advanced points orbitals times (function (left .advanced)) (function (right .advanced)))) (out .advanced);
-          lesser = afterwards (productVerdict out) (layOutAll points orbitals (correlationOf (left .lesser) (right .lesser))) (out .lesser);
-          greater = afterwards (productVerdict out) (layOutAll points orbitals (correlationOf (left .greater) (right .greater))) (out .greater);
+          retarded = afterwards (productVerdict out) (sumsNumbers Causal points orbitals times (left .retarded) (right .retarded)) (out .retarded);
+          advanced = afterwards (productVerdict out) (sumsNumbers Advanced points orbitals times (left .advanced) (right .advanced)) (out .advanced);
+          lesser = afterwards (productVerdict out) (correlationOf (left .lesser) (right .lesser)) (out .lesser);
+          greater = afterwards (productVerdict out) (correlationOf (left .greater) (right .greater)) (out .greater);
         };
       }

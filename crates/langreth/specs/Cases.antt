@@ -17,10 +17,15 @@ use Rattle.grid.specs.Weights.{halfStep, fullWeight, intervalWeight}
 use Rattle.grid.specs.Calls.{timeLines}
 use Rattle.two_time.specs.Layout.{layOutAll, everywhere}
 use Rattle.two_time.specs.WeightedSum.{productAt, termAt, partialSum, weightedSum, finiteSum}
-use Rattle.two_time.specs.Convolutions.{convolution, convolutionFinite, causal, causalFinite, causalNumbers, causalFine}
+use Rattle.two_time.specs.Sums.{termsAt, sumsOf, sumsFinite, sumsNumbers, sumsFine}
 use Rattle.two_time.specs.Calls.{allLong, sizeLines, operandLines, inputLines}
-use Rattle.langreth.specs.Product.{advanced, advancedFinite, correlation, correlationFinite}
+use Rattle.langreth.specs.Product.{correlation, correlationFinite}
 use Rattle.langreth.specs.Calls.{Components, listed, productFine, productVerdict, langrethProduct}
+
+-- what the cases compute with
+unfoldable computing : Unit {0}
+unfolding langrethProduct productVerdict productFine inputLines sizeLines allLong operandLines timeLines largeEnough withinLimits fitting finiteTimes risingTimes finiteWeights finiteEntries finiteWork ask askAll _then_ afterwards correlation correlationFinite sumsNumbers sumsFine sumsOf sumsFinite termsAt layOutAll layOut join everywhere allBelow weightedSum partialSum termAt productAt finiteSum product scaled added sumFrom fold intervalWeight fullWeight halfStep cadd cmul cfinite finite Ieee.ofBits toBits Ieee.add Ieee.sub Ieee.mul Ieee.neg Ieee.lt
+computing = tt
 
 abbrev floats : List ℕ → List Float
 floats = map (Ieee.ofBits binary64)
@@ -73,11 +78,11 @@ components : bits (langrethProduct 2 1 times left right ones .out) ≡
     ∷ (
     0x3fa47ae147ae147c ∷ 0x3f847ae147ae147c ∷ 0xbf847ae147ae1480 ∷ 0xbc60000000000000 ∷ 0x3fc999999999999a ∷ 0xbfc1eb851eb851ec ∷ 0x3fc999999999999a ∷ 0xbfc3333333333333 ∷ [])
     ∷ []
-unfolding langrethProduct productVerdict productFine inputLines sizeLines allLong operandLines timeLines largeEnough withinLimits fitting finiteTimes risingTimes finiteWeights finiteEntries finiteWork ask askAll _then_ afterwards causalNumbers causalFine causal causalFinite advanced advancedFinite correlation correlationFinite convolution convolutionFinite layOutAll layOut join everywhere allBelow weightedSum partialSum termAt productAt finiteSum product scaled added sumFrom fold intervalWeight fullWeight halfStep cadd cmul cfinite finite Ieee.ofBits toBits Ieee.add Ieee.sub Ieee.mul Ieee.neg Ieee.lt
+unfolding computing
 components = refl
 
 -- 10 by the product of the advanced components at (1,1), where the weight is 0: each output +0. And 7 of operand 7, the right greater function
-most : List Float
+abbrev most : List Float
 most = floats (0 ∷ 0 ∷ 0 ∷ 0 ∷ 0 ∷ 0 ∷ 0x7fe0000000000000 ∷ 0 ∷ [])
 
 abbrev zero-but-advanced : List Float → Components
@@ -87,5 +92,5 @@ refused : langrethProduct 2 1 times (zero-but-advanced most) (zero-but-advanced 
     ∷ langrethProduct 2 1 times ones (record { retarded = replicate 8 one; advanced = replicate 8 one; lesser = replicate 8 one; greater = nan ∷ replicate 7 one }) ones ∷ []
     ≡ record { answer = Refused (by 10); out = zero-but-advanced (replicate 8 plusZero) }
     ∷ record { answer = Refused (record { number = 7; operand = 7; first = 0; second = 0; part = plusZero }); out = ones } ∷ []
-unfolding most langrethProduct productVerdict productFine inputLines sizeLines allLong operandLines timeLines largeEnough withinLimits fitting finiteTimes risingTimes finiteWeights finiteEntries finiteWork ask askAll _then_ afterwards causalNumbers causalFine causal causalFinite advanced advancedFinite correlation correlationFinite convolution convolutionFinite layOutAll layOut join everywhere allBelow weightedSum partialSum termAt productAt finiteSum product scaled added sumFrom fold intervalWeight fullWeight halfStep cadd cmul cfinite finite Ieee.ofBits toBits Ieee.add Ieee.sub Ieee.mul Ieee.neg Ieee.lt
+unfolding computing
 refused = refl

@@ -1,17 +1,17 @@
-// The four components of a Langreth product, each by the sums of two_time (document 01, Langreth).
+// The four components of a Langreth product, each by the sums at all places (document 01, Langreth).
 ghost use mathlib.Core.Path.{_≡_};
 ghost use mathlib.Core.Bool.{true};
 ghost use mathlib.Core.List.{[], _∷_, _++_};
 ghost use lib.ListN.{length};
-ghost use Rattle.two_time.specs.Layout.{layOutAll};
-ghost use Rattle.two_time.specs.Sums.{madeBy, fineBy};
+ghost use Rattle.two_time.specs.Sums.{sumsNumbers, sumsFine};
 ghost use Rattle.two_time.specs.SizeLines.{SizesPassed};
+ghost use Rattle.langreth.specs.Product.{correlationNumbers, correlationFine};
 ghost use Rattle.langreth.specs.Calls.{componentsOf, listed, productFine};
 ghost use Rattle.langreth.specs.Adding.{plus, numbersFinite};
-ghost use Rattle.langreth.specs.Work.{correlationNumbers, correlationFine, Made};
+ghost use Rattle.langreth.specs.Work.{Made};
 use complex::is_finite;
+use sums::weighted_sums;
 use two_time::sums::Sums;
-use two_time::sums::weighted_sums;
 
 // The sums at all places, and whether all that is made for them is finite.
 fn convolve(
@@ -24,8 +24,8 @@ fn convolve(
     out: &mut [f64],
 ) -> bool
     requires { ⌜ SizesPassed points orbitals true (now left ∷ now right ∷ now out ∷ []) ⌝ }
-    ensures { λ r. ⌜ (r ≡ fineBy sums points orbitals (now (times .entry)) (now (left .entry)) (now (right .entry)))
-        × (r ≡ true → now (out .exit) ≡ layOutAll points orbitals (madeBy sums points orbitals (now (times .entry)) (now (left .entry)) (now (right .entry)))) ⌝ }
+    ensures { λ r. ⌜ (r ≡ sumsFine sums points orbitals (now (times .entry)) (now (left .entry)) (now (right .entry)))
+        × (r ≡ true → now (out .exit) ≡ sumsNumbers sums points orbitals (now (times .entry)) (now (left .entry)) (now (right .entry))) ⌝ }
 {
     weighted_sums(sums, times, left, right, points, orbitals, out).is_finite()
 }

@@ -5,14 +5,14 @@ use crate::lent::Places;
 use crate::lent::output;
 use crate::lent::part;
 use crate::show;
+use convolution::causal_volterra_convolution;
+use convolution::time_convolution;
 use dyson::retarded_dyson;
 use dyson::retarded_dyson_with_tolerance;
 use langreth::langreth_product;
 use refusal::Verdict;
 use transient_run::Solved;
 use transient_run::transient_run;
-use two_time::causal_volterra_convolution;
-use two_time::time_convolution;
 
 // Of two operands: both convolutions, and Dyson with the default tolerance or the one that is given, which leaves G and K.
 fn of_two(head: Head, numbers: &[f64], at: &Places, a: &mut [f64], b: &mut [f64]) -> Verdict {

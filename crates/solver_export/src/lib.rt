@@ -3,7 +3,8 @@ pub mod keldysh;
 pub mod observed;
 
 ghost use mathlib.Core.Path.{_≡_};
-ghost use Rattle.two_time.specs.Calls.{timeConvolution, causalConvolution, checkSupport};
+ghost use Rattle.two_time.specs.Calls.{checkSupport};
+ghost use Rattle.convolution.specs.Calls.{timeConvolution, causalConvolution};
 ghost use Rattle.dyson.specs.Calls.{dysonWithTolerance};
 ghost use Rattle.transient_run.specs.Calls.{transientRun};
 ghost use Rattle.transient_run.specs.Asking.{runOf};
@@ -29,7 +30,7 @@ pub extern "C" fn leechgrommet_time_convolution(
         (tells r (now (places .exit)) (now (part .exit)) ≡ told (made .answer) (now (places .entry)) (now (part .entry)))
         × (now (out .exit) ≡ made .out)) ⌝ }
 {
-    let verdict = two_time::time_convolution(times, left, right, points, orbitals, out);
+    let verdict = convolution::time_convolution(times, left, right, points, orbitals, out);
     tell(verdict, places, part)
 }
 
@@ -49,7 +50,14 @@ pub extern "C" fn leechgrommet_causal_volterra_convolution(
         (tells r (now (places .exit)) (now (part .exit)) ≡ told (made .answer) (now (places .entry)) (now (part .entry)))
         × (now (out .exit) ≡ made .out)) ⌝ }
 {
-    let verdict = two_time::causal_volterra_convolution(times, left, right, points, orbitals, out);
+    let verdict = convolution::causal_volterra_convolution(
+        times,
+        left,
+        right,
+        points,
+        orbitals,
+        out,
+    );
     tell(verdict, places, part)
 }
 

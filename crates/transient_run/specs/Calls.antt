@@ -1,4 +1,4 @@
--- Document 01, transient: the outcome of a transient run.
+-- Document 01, transient: the outcome of a transient run. "The device starts empty."
 use Prim.Native.Nat.{ℕ}
 use mathlib.Core.Bool.{Bool, _&&_}
 use mathlib.Core.List.{List, [], _∷_}
@@ -7,12 +7,13 @@ use Rattle.refusal.specs.declared.Verdict.{Verdict}
 use Rattle.refusal.specs.declared.Verdict.the-variants.{Pass, Refused}
 use Rattle.refusal.specs.Verdict.{_then_, afterwards}
 use Rattle.refusal.specs.Lines.{finiteWork}
+use Rattle.two_time.specs.declared.sums.Sums.the-variants.{Mixed, Lesser}
 use Rattle.two_time.specs.Layout.{readAs}
+use Rattle.two_time.specs.Sums.{sumsNumbers, sumsFine}
 use Rattle.two_time.specs.Calls.{inputLines}
 use Rattle.dyson.specs.Calls.{supportLines, kernelOf, greenOf, greenFine}
 use Rattle.transient_run.specs.declared.Solved.{Solved}
 use Rattle.transient_run.specs.declared.Solved.the-variants.{Accepted, Refused as NotSolved}
-use Rattle.transient_run.specs.Lesser.{mixedNumbers, mixedFine, lesserNumbers, lesserFine}
 
 -- What a run is given, "Operands: free, retarded self-energy, Σ^<", and what its outputs and scratch hold before
 pub record Run : Type 0 where
@@ -54,17 +55,17 @@ module _ (r : Run) where
   retardedOfRun = greenOf (r .points) (r .orbitals) (r .times) (r .free) (r .selfEnergy)
 
   abbrev pub mixedOfRun : List Float
-  mixedOfRun = mixedNumbers (r .points) (r .orbitals) (r .times) (r .lesserSelfEnergy) retardedOfRun
+  mixedOfRun = sumsNumbers Mixed (r .points) (r .orbitals) (r .times) (r .lesserSelfEnergy) retardedOfRun
 
   abbrev pub lesserOfRun : List Float
-  lesserOfRun = lesserNumbers (r .points) (r .orbitals) (r .times) retardedOfRun mixedOfRun
+  lesserOfRun = sumsNumbers Lesser (r .points) (r .orbitals) (r .times) retardedOfRun mixedOfRun
 
   -- every block made for the four is finite
   unfoldable pub runFine : Bool
   runFine =
       greenFine (r .points) (r .orbitals) (r .times) (r .free) (r .selfEnergy)
-      && (mixedFine (r .points) (r .orbitals) (r .times) (r .lesserSelfEnergy) retardedOfRun
-      && lesserFine (r .points) (r .orbitals) (r .times) retardedOfRun mixedOfRun)
+      && (sumsFine Mixed (r .points) (r .orbitals) (r .times) (r .lesserSelfEnergy) retardedOfRun
+      && sumsFine Lesser (r .points) (r .orbitals) (r .times) retardedOfRun mixedOfRun)
 
   -- lines 1 to 7, then as Dyson asks: 8, 9 for free, 9 for the retarded self-energy, 10
   unfoldable pub runVerdict : Verdict

@@ -1,5 +1,4 @@
--- Document 01, transient: the mixed and the lesser function, the run's outcome, and closed cases.
-pub mod Lesser
+-- Document 01, transient: the run's outcome, and closed cases.
 pub mod Calls
 pub mod Cases
 pub mod P12

@@ -16,16 +16,16 @@ use Rattle.matrix.specs.Block.{layOut}
 use Rattle.matrix.specs.Operations.{product, scaled, adjoint}
 use Rattle.grid.specs.Weights.{halfStep, fullWeight, intervalWeight}
 use Rattle.grid.specs.Calls.{timeLines}
+use Rattle.two_time.specs.declared.sums.Sums.the-variants.{Causal, Mixed, Lesser}
 use Rattle.two_time.specs.Layout.{readAs, layOutAll, everywhere}
 use Rattle.two_time.specs.WeightedSum.{productAt, termAt, partialSum, weightedSum, finiteSum}
-use Rattle.two_time.specs.Convolutions.{causal, causalFinite, causalNumbers, causalFine}
+use Rattle.two_time.specs.Sums.{termsAt, sumsOf, sumsFinite, sumsNumbers, sumsFine}
 use Rattle.two_time.specs.Support.{retarded}
 use Rattle.two_time.specs.Calls.{allLong, sizeLines, operandLines, inputLines}
 use Rattle.dyson.specs.Retarded.{solve, retardedGreen, retardedFinite, retardedNumbers, retardedFine}
 use Rattle.dyson.specs.Calls.{supportLines, greenFine}
 use Rattle.two_time.specs.Example.{floats}
 use Rattle.transient_run.specs.declared.Solved.the-variants.{Accepted}
-use Rattle.transient_run.specs.Lesser.{mixed, mixedFinite, lesserGreen, lesserFinite, mixedNumbers, mixedFine, lesserNumbers, lesserFine}
 use Rattle.transient_run.specs.Calls.{Run, solved, runFine, runVerdict, transientRun}
 
 abbrev half : Float
@@ -73,37 +73,37 @@ lesserBits =
     0 ∷ 0 ∷ 0 ∷ 0x3ff9000000000000 ∷ 0 ∷ 0x4012c00000000000 ∷
     0 ∷ 0 ∷ 0 ∷ 0x4012c00000000000 ∷ 0 ∷ 0x402c200000000000 ∷ []
 
-pub kernel-stage : causalNumbers 3 1 times lower lower ≡ floats kernelBits
-unfolding causalNumbers causal layOutAll layOut join everywhere allBelow weightedSum partialSum termAt productAt finiteSum product scaled adjoint sumFrom fold intervalWeight halfStep cadd cmul conj cfinite finite Ieee.ofBits toBits Ieee.add Ieee.sub Ieee.mul Ieee.neg
+pub kernel-stage : sumsNumbers Causal 3 1 times lower lower ≡ floats kernelBits
+unfolding sumsNumbers sumsOf termsAt layOutAll layOut join everywhere allBelow weightedSum partialSum termAt productAt finiteSum product scaled adjoint sumFrom fold intervalWeight halfStep cadd cmul conj cfinite finite Ieee.ofBits toBits Ieee.add Ieee.sub Ieee.mul Ieee.neg
 kernel-stage = refl
 
 pub retarded-stage : retardedNumbers 3 1 times lower (floats kernelBits) ≡ floats retardedBits
 unfolding retardedNumbers retardedGreen solve layOutAll layOut join everywhere allBelow weightedSum partialSum termAt productAt finiteSum product scaled adjoint sumFrom fold intervalWeight halfStep cadd cmul conj cfinite finite Ieee.ofBits toBits Ieee.add Ieee.sub Ieee.mul Ieee.neg
 retarded-stage = refl
 
-mixed-stage : mixedNumbers 3 1 times imaginary (floats retardedBits) ≡ floats mixedBits
-unfolding mixedNumbers mixed layOutAll layOut join everywhere allBelow weightedSum partialSum termAt productAt finiteSum product scaled adjoint sumFrom fold intervalWeight halfStep cadd cmul conj cfinite finite Ieee.ofBits toBits Ieee.add Ieee.sub Ieee.mul Ieee.neg
+mixed-stage : sumsNumbers Mixed 3 1 times imaginary (floats retardedBits) ≡ floats mixedBits
+unfolding sumsNumbers sumsOf termsAt layOutAll layOut join everywhere allBelow weightedSum partialSum termAt productAt finiteSum product scaled adjoint sumFrom fold intervalWeight halfStep cadd cmul conj cfinite finite Ieee.ofBits toBits Ieee.add Ieee.sub Ieee.mul Ieee.neg
 mixed-stage = refl
 
-lesser-stage : lesserNumbers 3 1 times (floats retardedBits) (floats mixedBits) ≡ floats lesserBits
-unfolding lesserNumbers lesserGreen layOutAll layOut join everywhere allBelow weightedSum partialSum termAt productAt finiteSum product scaled adjoint sumFrom fold intervalWeight halfStep cadd cmul conj cfinite finite Ieee.ofBits toBits Ieee.add Ieee.sub Ieee.mul Ieee.neg
+lesser-stage : sumsNumbers Lesser 3 1 times (floats retardedBits) (floats mixedBits) ≡ floats lesserBits
+unfolding sumsNumbers sumsOf termsAt layOutAll layOut join everywhere allBelow weightedSum partialSum termAt productAt finiteSum product scaled adjoint sumFrom fold intervalWeight halfStep cadd cmul conj cfinite finite Ieee.ofBits toBits Ieee.add Ieee.sub Ieee.mul Ieee.neg
 lesser-stage = refl
 
 -- every block of each stage is finite
-pub kernel-fine : causalFine 3 1 times lower lower ≡ true
-unfolding causalFine causalFinite layOutAll layOut join everywhere allBelow weightedSum partialSum termAt productAt finiteSum product scaled adjoint sumFrom fold intervalWeight halfStep cadd cmul conj cfinite finite Ieee.ofBits toBits Ieee.add Ieee.sub Ieee.mul Ieee.neg
+pub kernel-fine : sumsFine Causal 3 1 times lower lower ≡ true
+unfolding sumsFine sumsFinite termsAt layOutAll layOut join everywhere allBelow weightedSum partialSum termAt productAt finiteSum product scaled adjoint sumFrom fold intervalWeight halfStep cadd cmul conj cfinite finite Ieee.ofBits toBits Ieee.add Ieee.sub Ieee.mul Ieee.neg
 kernel-fine = refl
 
 pub retarded-fine : retardedFine 3 1 times lower (floats kernelBits) ≡ true
 unfolding retardedFine retardedFinite retardedGreen solve layOutAll layOut join everywhere allBelow weightedSum partialSum termAt productAt finiteSum product scaled adjoint sumFrom fold intervalWeight halfStep cadd cmul conj cfinite finite Ieee.ofBits toBits Ieee.add Ieee.sub Ieee.mul Ieee.neg
 retarded-fine = refl
 
-mixed-fine : mixedFine 3 1 times imaginary (floats retardedBits) ≡ true
-unfolding mixedFine mixedFinite layOutAll layOut join everywhere allBelow weightedSum partialSum termAt productAt finiteSum product scaled adjoint sumFrom fold intervalWeight halfStep cadd cmul conj cfinite finite Ieee.ofBits toBits Ieee.add Ieee.sub Ieee.mul Ieee.neg
+mixed-fine : sumsFine Mixed 3 1 times imaginary (floats retardedBits) ≡ true
+unfolding sumsFine sumsFinite termsAt layOutAll layOut join everywhere allBelow weightedSum partialSum termAt productAt finiteSum product scaled adjoint sumFrom fold intervalWeight halfStep cadd cmul conj cfinite finite Ieee.ofBits toBits Ieee.add Ieee.sub Ieee.mul Ieee.neg
 mixed-fine = refl
 
-lesser-fine : lesserFine 3 1 times (floats retardedBits) (floats mixedBits) ≡ true
-unfolding lesserFine lesserFinite layOutAll layOut join everywhere allBelow weightedSum partialSum termAt productAt finiteSum product scaled adjoint sumFrom fold intervalWeight halfStep cadd cmul conj cfinite finite Ieee.ofBits toBits Ieee.add Ieee.sub Ieee.mul Ieee.neg
+lesser-fine : sumsFine Lesser 3 1 times (floats retardedBits) (floats mixedBits) ≡ true
+unfolding sumsFine sumsFinite termsAt layOutAll layOut join everywhere allBelow weightedSum partialSum termAt productAt finiteSum product scaled adjoint sumFrom fold intervalWeight halfStep cadd cmul conj cfinite finite Ieee.ofBits toBits Ieee.add Ieee.sub Ieee.mul Ieee.neg
 lesser-fine = refl
 
 -- the run, with outputs and scratch that hold `before`

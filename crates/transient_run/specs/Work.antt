@@ -3,21 +3,18 @@ use mathlib.Core.Path.{_≡_, sym, ap, ap₂, _∙_}
 use mathlib.Core.Bool.{Bool, true, false, _&&_}
 use mathlib.Core.List.{List, [], _∷_}
 use Prim.Native.Nat.{ℕ}
-use native.Mathlib.Numerals.{add-one}
 use lib.ListN.{length}
 use lib.Ieee.{Float}
 use Rattle.lists.specs.Agreement.{never}
 use Rattle.two_time.specs.declared.sums.Summed.{Summed}
 use Rattle.two_time.specs.declared.sums.Sums.the-variants.{Mixed, Lesser}
-use Rattle.two_time.specs.Layout.{lengthOf, layOutAll}
-use Rattle.two_time.specs.Sums.{weightBy, rightBy, summationAt, madeBy, fineBy}
+use Rattle.two_time.specs.Layout.{lengthOf}
+use Rattle.two_time.specs.Sums.{sumsNumbers, sumsFine}
 use Rattle.two_time.specs.Calls.{allLong}
 use Rattle.two_time.specs.Outcome.{summed, allSummed, sums-finite, sums-overflow}
-use Rattle.two_time.specs.Intervals.{laid-agree, everywhere-agree}
 use Rattle.two_time.specs.SizeLines.{SizesPassed, long-also, long-none}
 use Rattle.dyson.specs.Calls.{kernelOf, greenOf, greenFine}
 use Rattle.dyson.specs.Outcome.{Left, solved-finite, solved-overflow}
-use Rattle.transient_run.specs.Lesser.{mixed, mixedFinite, mixedNumbers, mixedFine, lesserGreen, lesserFinite, lesserNumbers, lesserFine}
 
 module _ (points n : ℕ) (times free sigma source : List Float) where
   abbrev pub workKernel : List Float
@@ -27,32 +24,13 @@ module _ (points n : ℕ) (times free sigma source : List Float) where
   workGreen = greenOf points n times free sigma
 
   abbrev pub workMixed : List Float
-  workMixed = mixedNumbers points n times source workGreen
+  workMixed = sumsNumbers Mixed points n times source workGreen
 
   abbrev pub workLesser : List Float
-  workLesser = lesserNumbers points n times workGreen workMixed
+  workLesser = sumsNumbers Lesser points n times workGreen workMixed
 
   unfoldable pub workFine : Bool
-  workFine = greenFine points n times free sigma && (mixedFine points n times source workGreen && lesserFine points n times workGreen workMixed)
-
--- ---- X and G^< are sums at all places
-
-module _ (points n : ℕ) (times left right : List Float) where
-  mixed-numbers : layOutAll points n (madeBy Mixed points n times left right) ≡ mixedNumbers points n times left right
-  unfolding mixedNumbers mixed madeBy summationAt weightBy rightBy
-  mixed-numbers = laid-agree points n _ _ (λ t u a b. rw add-one)
-
-  mixed-fine : fineBy Mixed points n times left right ≡ mixedFine points n times left right
-  unfolding mixedFine mixedFinite fineBy summationAt weightBy rightBy
-  mixed-fine = everywhere-agree points n _ _ (λ t u a b. rw add-one)
-
-  lesser-numbers : layOutAll points n (madeBy Lesser points n times left right) ≡ lesserNumbers points n times left right
-  unfolding lesserNumbers lesserGreen madeBy summationAt weightBy rightBy
-  lesser-numbers = laid-agree points n _ _ (λ t u a b. rw add-one)
-
-  lesser-fine : fineBy Lesser points n times left right ≡ lesserFine points n times left right
-  unfolding lesserFine lesserFinite fineBy summationAt weightBy rightBy
-  lesser-fine = everywhere-agree points n _ _ (λ t u a b. rw add-one)
+  workFine = greenFine points n times free sigma && (sumsFine Mixed points n times source workGreen && sumsFine Lesser points n times workGreen workMixed)
 
 -- ---- the three steps, of slices that have their length
 
@@ -78,36 +56,36 @@ module _ (points n : ℕ) (times free sigma source : List Float) {fits : Bool} {
   module _ (fine : greenFine points n times free sigma ≡ true) (green' : List Float) (made : green' ≡ workGreen points n times free sigma source) (green-long : length green' ≡ count) where
     module _ (mixed₀ : List Float) (mixed-long : length mixed₀ ≡ count) (answer : Summed) (mixed' : List Float)
         (answered : answer ≡ summed Mixed points n times source green' mixed₀ .answer) (holds : mixed' ≡ summed Mixed points n times source green' mixed₀ .out) where
-      pub mixed-made : allSummed answer ≡ true → (mixedFine points n times source (workGreen points n times free sigma source) ≡ true) × (mixed' ≡ workMixed points n times free sigma source)
+      pub mixed-made : allSummed answer ≡ true → (sumsFine Mixed points n times source (workGreen points n times free sigma source) ≡ true) × (mixed' ≡ workMixed points n times free sigma source)
       mixed-made p =
           let told = sums-finite Mixed points n times source green' mixed₀ z source-long green-long mixed-long answer mixed' answered holds p in (
-            sym (mixed-fine points n times source green' ∙ ap (mixedFine points n times source) made) ∙ told .0,
-            told .1 ∙ mixed-numbers points n times source green' ∙ ap (mixedNumbers points n times source) made,
+            sym (ap (sumsFine Mixed points n times source) made) ∙ told .0,
+            told .1 ∙ ap (sumsNumbers Mixed points n times source) made,
           )
 
       pub mixed-lost : allSummed answer ≡ false → workFine points n times free sigma source ≡ false
       unfolding workFine
       mixed-lost p =
           let told = sums-overflow Mixed points n times source green' mixed₀ z source-long green-long mixed-long answer mixed' answered holds p in
-          rw (fine, sym (mixed-fine points n times source green' ∙ ap (mixedFine points n times source) made) ∙ told .0)
+          rw (fine, sym (ap (sumsFine Mixed points n times source) made) ∙ told .0)
 
     -- G^<, where X is made too
-    module _ (mixed-fine' : mixedFine points n times source (workGreen points n times free sigma source) ≡ true) (mixed' : List Float) (mixed-made : mixed' ≡ workMixed points n times free sigma source) (mixed-long : length mixed' ≡ count)
+    module _ (mixed-fine : sumsFine Mixed points n times source (workGreen points n times free sigma source) ≡ true) (mixed' : List Float) (mixed-made : mixed' ≡ workMixed points n times free sigma source) (mixed-long : length mixed' ≡ count)
         (lesser₀ : List Float) (lesser-long : length lesser₀ ≡ count) (answer : Summed) (lesser' : List Float)
         (answered : answer ≡ summed Lesser points n times green' mixed' lesser₀ .answer) (holds : lesser' ≡ summed Lesser points n times green' mixed' lesser₀ .out) where
       lesser-made : allSummed answer ≡ true → (workFine points n times free sigma source ≡ true) × (lesser' ≡ workLesser points n times free sigma source)
       unfolding workFine
       lesser-made p =
           let told = sums-finite Lesser points n times green' mixed' lesser₀ z green-long mixed-long lesser-long answer lesser' answered holds p in (
-            rw (fine, mixed-fine', sym (lesser-fine points n times green' mixed' ∙ ap₂ (lesserFine points n times) made mixed-made) ∙ told .0),
-            told .1 ∙ lesser-numbers points n times green' mixed' ∙ ap₂ (lesserNumbers points n times) made mixed-made,
+            rw (fine, mixed-fine, sym (ap₂ (sumsFine Lesser points n times) made mixed-made) ∙ told .0),
+            told .1 ∙ ap₂ (sumsNumbers Lesser points n times) made mixed-made,
           )
 
       lesser-lost : allSummed answer ≡ false → workFine points n times free sigma source ≡ false
       unfolding workFine
       lesser-lost p =
           let told = sums-overflow Lesser points n times green' mixed' lesser₀ z green-long mixed-long lesser-long answer lesser' answered holds p in
-          rw (fine, mixed-fine', sym (lesser-fine points n times green' mixed' ∙ ap₂ (lesserFine points n times) made mixed-made) ∙ told .0)
+          rw (fine, mixed-fine, sym (ap₂ (sumsFine Lesser points n times) made mixed-made) ∙ told .0)
 
       -- the last answer is the work's
       pub lesser-told : (ok : Bool) → ok ≡ allSummed answer → (ok ≡ workFine points n times free sigma source) × (ok ≡ true → lesser' ≡ workLesser points n times free sigma source)

@@ -12,13 +12,13 @@ use dyson::solve_retarded;
 use grid::time_lines;
 use refusal::Refusal;
 use refusal::Verdict;
+use sums::weighted_sums;
 use two_time::layout::clear;
 use two_time::lines::all_fit;
 use two_time::lines::has_length;
 use two_time::lines::operand;
 use two_time::lines::sizes;
 use two_time::sums::Sums;
-use two_time::sums::weighted_sums;
 use two_time::support::check_retarded_inputs;
 
 // The answer of a transient run.

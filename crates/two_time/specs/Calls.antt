@@ -1,4 +1,4 @@
--- Document 01, convolutions and support: the outcome of each call, and lines 1 to 7 as every call on two-time functions asks them.
+-- Document 01: lines 1 to 7 as every call on two-time functions asks them, and the outcome of the support test.
 use Prim.Native.Nat.{ℕ, suc}
 use mathlib.Core.Bool.{Bool, true, _&&_}
 use mathlib.Core.List.{List, [], _∷_, _++_}
@@ -7,11 +7,10 @@ use lib.ListN.{length}
 use lib.Ieee.{Float}
 use Rattle.refusal.specs.declared.Verdict.{Verdict}
 use Rattle.refusal.specs.declared.Verdict.the-variants.{Pass}
-use Rattle.refusal.specs.Verdict.{_then_, afterwards}
-use Rattle.refusal.specs.Lines.{largeEnough, withinLimits, fitting, finiteEntries, validTolerance, finiteWork}
+use Rattle.refusal.specs.Verdict.{_then_}
+use Rattle.refusal.specs.Lines.{largeEnough, withinLimits, fitting, finiteEntries, validTolerance}
 use Rattle.grid.specs.Calls.{timeLines}
 use Rattle.two_time.specs.Layout.{TwoTime, lengthOf, readAs}
-use Rattle.two_time.specs.Convolutions.{convolutionNumbers, convolutionFine, causalNumbers, causalFine}
 use Rattle.two_time.specs.Support.{retarded}
 
 -- each of the slices has that length
@@ -37,26 +36,6 @@ operandLines k (xs ∷ rest) = finiteEntries k xs (length xs) then operandLines 
 unfoldable pub inputLines : ℕ → ℕ → List Float → List (List Float) → List (List Float) → Verdict
 inputLines points orbitals times operands lent =
     sizeLines points orbitals (eqb (length times) points) (operands ++ lent) then timeLines points times then operandLines 0 operands
-
--- the answer, and the output afterwards
-pub record Convolved : Type 0 where
-  pub answer : Verdict
-  pub out : List Float
-
-module _ (points orbitals : ℕ) (times left right out : List Float) where
-  -- lines 1 to 7, then 10
-  unfoldable pub convolved : Bool → List Float → Convolved
-  convolved finite made =
-      let verdict = inputLines points orbitals times (left ∷ right ∷ []) (out ∷ []) then finiteWork finite in
-      record { answer = verdict; out = afterwards verdict made out }
-
-  -- `time_convolution`
-  unfoldable pub timeConvolution : Convolved
-  timeConvolution = convolved (convolutionFine points orbitals times left right) (convolutionNumbers points orbitals times left right)
-
-  -- `causal_volterra_convolution`
-  unfoldable pub causalConvolution : Convolved
-  causalConvolution = convolved (causalFine points orbitals times left right) (causalNumbers points orbitals times left right)
 
 -- `check_retarded_support`: lines 1 to 3, 7, 8 and 9 of one function, operand 0
 unfoldable pub checkSupport : ℕ → ℕ → List Float → Float → Verdict

@@ -1,25 +1,19 @@
--- Document 01, two-time functions: where an entry stands, the one weighted sum, the convolutions, the support test, and closed cases.
+-- Document 01, two-time functions: where an entry stands, the one weighted sum and what is summed, the support test, and closed cases.
 pub mod Layout
 pub mod WeightedSum
-pub mod Convolutions
 pub mod Support
 pub mod Sums
 pub mod Calls
 pub mod Outcome
 pub mod Example
 pub mod Cases
-pub mod ReachCases
 pub mod Reading
 pub mod Agreement
 pub mod Places
-pub mod Walking
 pub mod OneTest
 pub mod Filling
-pub mod Intervals
 pub mod Reaching
 pub mod SizeLines
 pub mod Working
-pub mod Rows
-pub mod RowSums
 pub mod AskingSupport
 pub mod Finite

@@ -1,4 +1,4 @@
--- The outcome of a call that lays the sums at all places out in a lent slice: asked of its sizes alone, and of all its input.
+-- The outcome of a call that lays the sums at all places out in a lent slice and asks its sizes alone.
 use mathlib.Core.Path.{_≡_, refl, sym, ap, _∙_}
 use Prim.Native.Nat.{ℕ}
 use mathlib.Core.Bool.{Bool, true, false}
@@ -12,9 +12,9 @@ use Rattle.refusal.specs.declared.Verdict.the-variants.{Pass, Refused}
 use Rattle.two_time.specs.declared.sums.Sums.{Sums}
 use Rattle.two_time.specs.declared.sums.Summed.{Summed}
 use Rattle.two_time.specs.declared.sums.Summed.the-variants.{Finite, Overflow, Unfit}
-use Rattle.two_time.specs.Layout.{layOutAll, lengthOf}
-use Rattle.two_time.specs.Sums.{madeBy, fineBy}
-use Rattle.two_time.specs.Calls.{Convolved, sizeLines, convolved}
+use Rattle.two_time.specs.Layout.{lengthOf}
+use Rattle.two_time.specs.Sums.{sumsNumbers, sumsFine}
+use Rattle.two_time.specs.Calls.{sizeLines}
 use Rattle.two_time.specs.SizeLines.{SizesPassed, sizes-pass, long-also, long-none}
 
 -- the answer of `weighted_sums`, and its slice afterwards
@@ -59,18 +59,11 @@ module _ (v : Verdict) (fine : Bool) (passed : v ≡ Pass) (answer : Summed) (an
       by-flag false e = (e, λ made before after s. s ∙ rw (passed, e))
 
 module _ (sums : Sums) (points orbitals : ℕ) (times left right out : List Float) where
-  abbrev numbersBy : List Float
-  numbersBy = layOutAll points orbitals (madeBy sums points orbitals times left right)
-
   -- `weighted_sums`
   unfoldable pub summed : SumsLeft
   summed =
-      let answer = summedAnswer (sizeLines points orbitals true (left ∷ right ∷ out ∷ [])) (fineBy sums points orbitals times left right) in
-      record { answer = answer; out = summedOut answer numbersBy out }
-
-  -- lines 1 to 7, then 10
-  unfoldable pub convolvedBy : Convolved
-  convolvedBy = convolved points orbitals times left right out (fineBy sums points orbitals times left right) numbersBy
+      let answer = summedAnswer (sizeLines points orbitals true (left ∷ right ∷ out ∷ [])) (sumsFine sums points orbitals times left right) in
+      record { answer = answer; out = summedOut answer (sumsNumbers sums points orbitals times left right) out }
 
   -- what the outcome says of slices that have their length
   module _ {fits : Bool} {others : List (List Float)} (z : SizesPassed points orbitals fits others)
@@ -81,10 +74,10 @@ module _ (sums : Sums) (points orbitals : ℕ) (times left right out : List Floa
         let count = lengthOf points orbitals in
         sizes-pass _ z (long-also count left _ left-long (long-also count right _ right-long (long-also count out _ out-long (long-none count))))
 
-    pub sums-finite : allSummed answer ≡ true → (fineBy sums points orbitals times left right ≡ true) × (after ≡ layOutAll points orbitals (madeBy sums points orbitals times left right))
+    pub sums-finite : allSummed answer ≡ true → (sumsFine sums points orbitals times left right ≡ true) × (after ≡ sumsNumbers sums points orbitals times left right)
     unfolding summed
     sums-finite h = let told = left-finite _ _ sizes answer answered h in (told .0, told .1 _ _ after holds)
 
-    pub sums-overflow : allSummed answer ≡ false → (fineBy sums points orbitals times left right ≡ false) × (after ≡ replicate (length out) plusZero)
+    pub sums-overflow : allSummed answer ≡ false → (sumsFine sums points orbitals times left right ≡ false) × (after ≡ replicate (length out) plusZero)
     unfolding summed
     sums-overflow h = let told = left-overflow _ _ sizes answer answered h in (told .0, told .1 _ out after holds)

@@ -68,9 +68,22 @@ fn main() -> ExitCode {
     println!("Rounds: {rounds}. All {same} numbers made are the same in bits.");
     println!("Of {residuals} residuals and largest differences, which are norms, {differ} differ in bits, by hypot.\n");
     table::functions("Functions of two times, by (N, n)", SIZES.map(|size| format!("{size:?}")), MILLISECONDS, &functions);
+    table::terms(SIZES.map(|size| format!("{size:?}")), &functions, multiply_adds);
     table::functions("Operations on n by n blocks", SIZES.map(|(_, orbitals)| format!("n = {orbitals}")), NANOSECONDS, &operations);
     table::norms(&kinds);
     ExitCode::SUCCESS
+}
+
+/// How many complex multiply-adds the sums of a function make at each size: products of blocks by n³.
+fn multiply_adds(name: &str) -> Option<[f64; 5]> {
+    let products: fn(f64) -> f64 = match name {
+        "time_convolution" => |points| points * points * points,
+        "causal_volterra_convolution" => |points| points * (points + 1.0) * (points + 2.0) / 6.0,
+        "retarded_dyson_with_tolerance" => |points| points * (points + 1.0) * (2.0 * points + 1.0) / 6.0,
+        "transient_run" => |points| points * (points + 1.0) * (2.0 * points + 1.0) / 6.0 + points * points * (points + 1.0),
+        _ => return None,
+    };
+    Some(SIZES.map(|(points, orbitals)| products(points as f64) * (orbitals as f64).powi(3)))
 }
 
 /// Whether something of this name can be measured.

@@ -24,6 +24,21 @@ pub fn functions(title: &str, sizes: [String; 5], (unit, size): Unit, rows: &[Ro
     table(&sizes, rows, |times| Some(significant(times.here / size)));
 }
 
+/// Nanoseconds of a call for each complex multiply-add of its sums, here and with the port's beside it.
+pub fn terms(sizes: [String; 5], rows: &[Row], counts: impl Fn(&str) -> Option<[f64; 5]>) {
+    let sums: Vec<(&Row, [f64; 5])> = rows.iter().filter_map(|row| Some((row, counts(row.name)?))).collect();
+    if sums.is_empty() {
+        return;
+    }
+    println!("Nanoseconds a complex multiply-add of the sums (terms · n³), the call's questions included; in brackets the port's:\n");
+    head("function", &sizes);
+    for (row, counts) in sums {
+        let cells: Vec<String> = row.times.iter().zip(counts).map(|(times, count)| format!("{} ({})", significant(times.here / count), significant(times.port / count))).collect();
+        line(&format!("`{}`", row.name), &cells);
+    }
+    println!();
+}
+
 /// A row has no place in a table in which it has no cells.
 fn table(sizes: &[String; 5], rows: &[Row], cell: impl Fn(&Times) -> Option<String>) {
     head("function", sizes);

@@ -3,16 +3,16 @@ use mathlib.Core.Path.{_≡_, sym, ap, _∙_}
 use mathlib.Core.Bool.{true}
 use mathlib.Core.List.{[], _∷_}
 use Prim.Native.Nat.{ℕ}
-use native.Mathlib.Omega.{arith}
 use lib.ListN.{replicate}
 use denote.Ref.{now}
 use borrow.Author.Needs.{needs}
 use borrow.Author.Tests.{not-true, not-false}
 use Rattle.complex.specs.Arithmetic.{plusZero}
 use Rattle.two_time.specs.Layout.{lengthOf}
-use Rattle.two_time.specs.Convolutions.{causalFine}
+use Rattle.two_time.specs.declared.sums.Sums.the-variants.{Causal}
+use Rattle.two_time.specs.Sums.{sumsFine}
 use Rattle.two_time.specs.Calls.{sizeLines}
-use Rattle.two_time.specs.SizeLines.{sizes-asked, fits-more, long-first}
+use Rattle.two_time.specs.SizeLines.{sizes-asked, sizes-pass, fits-more, long-first, long-also, long-none}
 use Rattle.dyson.specs.Retarded.{retardedNumbers, retardedFine}
 use Rattle.dyson.specs.Calls.{kernelOf}
 use Rattle.dyson.specs.Outcome.{unfit, sizes, kernel-made, kernel-overflows, accepted, green-overflows}
@@ -74,11 +74,11 @@ forward-requires c κs =
     let e = long-first count (now (x .self-energy)) _ (l .1) in
     let g = long-first count (now (x .green)) _ (e .1) in
     let k = long-first count (now (x .kernel)) _ (g .1) in
-    ((z .points-most, z .orbitals-most), (omega (arith, l .0), (omega (arith, k .0, w .weighted-sums .kept .1 .1 .1 .1 .1 .1 .0), g .0)))
+    sizes-pass _ z (long-also count (now (x .free)) _ (l .0) (long-also count _ _ (w .weighted-sums .kept .1 .1 .1 .1 .1 .1 .0 ∙ k .0) (long-also count (now (x .green)) _ (g .0) (long-none count))))
 
 -- K is made
 made : (c : tie.Else1) → let s = sized (c .before) in let x = start s .args in
-    (causalFine (x .points) (x .orbitals) (now (x .times)) (now (x .free)) (now (x .self-energy)) ≡ true)
+    (sumsFine Causal (x .points) (x .orbitals) (now (x .times)) (now (x .free)) (now (x .self-energy)) ≡ true)
     × (convolved (c .before) .weighted-sums .last .1 .1 .1 .1 .1 .1 .0 ≡ kernelOf (x .points) (x .orbitals) (now (x .times)) (now (x .free)) (now (x .self-energy)))
 made c =
     let f = c .before in

@@ -1,4 +1,4 @@
--- `solver_export::leechgrommet_time_convolution` meets its contract: the answer of `two_time`'s call is told. Assumes nothing.
+-- `solver_export::leechgrommet_time_convolution` meets its contract: the answer of `convolution`'s call is told. Assumes nothing.
 use borrow.Author.Needs.{needs}
 use Rattle.solver_export.proofs.leechgrommet_time_convolution.Statement.{statement}
 use Rattle.solver_export.proofs.leechgrommet_time_convolution.Tie as tie

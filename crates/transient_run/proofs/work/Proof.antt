@@ -8,11 +8,12 @@ use denote.Ref.{now}
 use borrow.Author.Needs.{needs}
 use borrow.Author.Tests.{not-true, not-false}
 use Rattle.lists.specs.Agreement.{never}
+use Rattle.two_time.specs.declared.sums.Sums.the-variants.{Mixed}
 use Rattle.two_time.specs.Layout.{lengthOf}
+use Rattle.two_time.specs.Sums.{sumsFine}
 use Rattle.two_time.specs.SizeLines.{SizesPassed, sizes-passed, long-first}
 use Rattle.dyson.specs.Calls.{greenFine}
 use Rattle.dyson.specs.Outcome.{Left}
-use Rattle.transient_run.specs.Lesser.{mixedFine}
 use Rattle.transient_run.specs.Work.{workGreen, workKernel, workMixed, green-made, green-lost, mixed-made, mixed-lost, lesser-told}
 use Rattle.transient_run.proofs.work.Statement.{statement}
 use Rattle.transient_run.proofs.work.Tie as tie
@@ -88,7 +89,7 @@ abbrev mixedLeft : tie.After-weighted-sums → List Float
 mixedLeft m = m .weighted-sums .last .1 .1 .1 .1 .1 .1 .0
 
 mixeds : (c : tie.Else2) → let m = summed (c .before) in let x = start (solved (first m .before)) .args in
-    (mixedFine (x .points) (x .orbitals) (now (x .times)) (now (x .source)) (workGreen (x .points) (x .orbitals) (now (x .times)) (now (x .free)) (now (x .sigma)) (now (x .source))) ≡ true)
+    (sumsFine Mixed (x .points) (x .orbitals) (now (x .times)) (now (x .source)) (workGreen (x .points) (x .orbitals) (now (x .times)) (now (x .free)) (now (x .sigma)) (now (x .source))) ≡ true)
     × (mixedLeft m ≡ workMixed (x .points) (x .orbitals) (now (x .times)) (now (x .free)) (now (x .sigma)) (now (x .source)))
 mixeds c =
     let f = c .before in

@@ -5,9 +5,8 @@ use denote.Ref.{now}
 use borrow.Author.Needs.{needs}
 use borrow.Author.Tests.{not-true, not-false}
 use Rattle.lists.specs.Agreement.{never}
-use Rattle.two_time.specs.Intervals.{causal-numbers}
 use Rattle.langreth.specs.Calls.{Components, componentsOf}
-use Rattle.langreth.specs.Work.{advanced-numbers, lesser-failed, greater-failed, retarded-failed, all-made}
+use Rattle.langreth.specs.Work.{lesser-failed, greater-failed, retarded-failed, all-made}
 use Rattle.langreth.specs.Lengths.{lengths, none-asked, also-asked}
 use Rattle.langreth.proofs.components.work.Statement.{statement}
 use Rattle.langreth.proofs.components.work.Tie as tie
@@ -93,8 +92,8 @@ returns-4 c =
     let three = not-false _ (e3 .if3 .left) in (
       all-made (x .points) (x .orbitals) (now (x .times)) (lefts t) (rights t) _ (sym (s1 .correlation .ensures .0) ∙ one) (sym (s2 .correlation2 .ensures .0) ∙ two) (sym (s3 .convolve .ensures .0) ∙ three) (last .convolve2 .ensures .0),
       λ h. record {
-        retarded = s3 .convolve .ensures .1 three ∙ causal-numbers (x .points) (x .orbitals) (now (x .times)) (now (x .left-retarded)) (now (x .right-retarded));
-        advanced = last .convolve2 .ensures .1 h ∙ advanced-numbers (x .points) (x .orbitals) (now (x .times)) (now (x .left-advanced)) (now (x .right-advanced));
+        retarded = s3 .convolve .ensures .1 three;
+        advanced = last .convolve2 .ensures .1 h;
         lesser = s1 .correlation .ensures .1 one;
         greater = s2 .correlation2 .ensures .1 two;
       },

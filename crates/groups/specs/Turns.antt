@@ -1,0 +1,84 @@
+-- A sum over times by the turns of a loop over s that serves many sums: each takes the turns that lie in its interval. Assumes nothing.
+use mathlib.Core.Path.{_≡_, refl, sym, ap, _∙_}
+use mathlib.Core.Bool.{Bool, true, false, cond, _&&_}
+use mathlib.Core.List.{List}
+use Prim.Native.Nat.{ℕ, _+_, _-_, _≤_, _<_, min}
+use native.Mathlib.Omega.{arith}
+use lib.Dec.{leb, ltb}
+use lib.Ieee.{Float}
+use borrow.Author.Tests.{leb-true, leb-false, ltb-true, ltb-false}
+use Rattle.complex.specs.declared.Complex.{Complex}
+use Rattle.complex.specs.Arithmetic.{real, cadd, cmul}
+use Rattle.matrix.specs.Operations.{product, scaled}
+use Rattle.two_time.specs.declared.sums.Sums.{Sums}
+use Rattle.two_time.specs.WeightedSum.{Terms, productAt, termAt, partialSum, weightedSum}
+use Rattle.two_time.specs.Layout.{readAs}
+use Rattle.two_time.specs.Sums.{termsAt}
+use Rattle.two_time.specs.OneTest.{partial-none, partial-more}
+
+-- a sum that begins with what it is given
+abbrev pub begun : Complex → Terms → Terms
+begun first x = record { start = λ a b. first; weight = x .weight; left = x .left; right = x .right; from = x .from; count = x .count }
+
+-- the terms at (t, u) of a kind of sums
+abbrev pub termsOf : Sums → ℕ → ℕ → ℕ → List Float → List Float → List Float → ℕ → ℕ → Complex → Terms
+termsOf sums points stride n times left right t u first = begun first (termsAt sums points times (readAs stride n left) (readAs stride n right) t u)
+
+-- s is one of the sum's
+unfoldable pub held : Terms → ℕ → Bool
+held x s = leb (x .from) s && ltb s (x .from + x .count)
+
+-- how many terms it has before s
+abbrev pub passed : Terms → ℕ → ℕ
+passed x s = min (s - x .from) (x .count)
+
+-- what turn s makes of a total
+unfoldable pub turned : ℕ → Terms → ℕ → ℕ → ℕ → Complex → Complex
+turned n x s a b z = cond (held x s) (cadd z (termAt n x s a b)) z
+
+-- entry (a, b) after the turns before s
+unfoldable pub partialAt : ℕ → Terms → ℕ → ℕ → ℕ → Complex
+partialAt n x s a b = partialSum n x (passed x s) a b
+
+module _ (n : ℕ) (x : Terms) (a b : ℕ) where
+  -- before its first
+  pub turns-none : (s : ℕ) → s ≤ x .from → partialAt n x s a b ≡ x .start a b
+  unfolding partialAt
+  turns-none s h = ap (λ (k : ℕ). partialSum n x k a b) (let e : passed x s ≡ 0 = omega arith in e) ∙ partial-none n x a b
+
+  -- after its last
+  pub turns-all : (s : ℕ) → x .count ≤ s - x .from → partialAt n x s a b ≡ weightedSum n x a b
+  unfolding partialAt weightedSum
+  turns-all s h = ap (λ (k : ℕ). partialSum n x k a b) (let e : passed x s ≡ x .count = omega arith in e)
+
+  turn-in : (s : ℕ) → x .from ≤ s → s < x .from + x .count → partialAt n x (s + 1) a b ≡ cadd (partialAt n x s a b) (termAt n x s a b)
+  unfolding partialAt termAt productAt scaled
+  turn-in s h l =
+      let k = s - x .from in
+      let one : passed x (s + 1) ≡ k + 1 = omega arith in
+      let now : passed x s ≡ k = omega arith in
+      let at : x .from + k ≡ s = omega arith in
+      ap (λ (m : ℕ). partialSum n x m a b) one ∙ partial-more n x a b k
+      ∙ ap (λ (m : ℕ). cadd (partialSum n x k a b) (cmul (product n (x .left m) (x .right m) a b) (real (x .weight m)))) at
+      ∙ ap (λ (m : ℕ). cadd (partialSum n x m a b) (cmul (product n (x .left s) (x .right s) a b) (real (x .weight s)))) (sym now)
+
+  turn-out : (s : ℕ) → passed x (s + 1) ≡ passed x s → partialAt n x (s + 1) a b ≡ partialAt n x s a b
+  unfolding partialAt
+  turn-out s e = ap (λ (m : ℕ). partialSum n x m a b) e
+
+  -- one more turn
+  pub turns-more : (s : ℕ) → partialAt n x (s + 1) a b ≡ turned n x s a b (partialAt n x s a b)
+  unfolding turned held
+  turns-more s = by-flags (leb (x .from) s) (ltb s (x .from + x .count)) refl refl
+    where
+      by-flags : (p q : Bool) → leb (x .from) s ≡ p → ltb s (x .from + x .count) ≡ q
+          → partialAt n x (s + 1) a b ≡ cond (leb (x .from) s && ltb s (x .from + x .count)) (cadd (partialAt n x s a b) (termAt n x s a b)) (partialAt n x s a b)
+      by-flags true true e f = rw (e, f) (turn-in s (leb-true _ _ e) (ltb-true _ _ f))
+      by-flags true false e f = rw (e, f) (turn-out s (let h = ltb-false s (x .from + x .count) f in let g = leb-true (x .from) s e in omega arith))
+      by-flags false q e f = rw e (turn-out s (let h = leb-false (x .from) s e in omega arith))
+
+-- a turn does not ask where the sum starts
+pub turned-start : (sums : Sums) (points stride n : ℕ) (times left right : List Float) (t u : ℕ) (y y' : Complex) (s a b : ℕ) (z : Complex)
+    → turned n (termsOf sums points stride n times left right t u y) s a b z ≡ turned n (termsOf sums points stride n times left right t u y') s a b z
+unfolding turned held termAt productAt
+turned-start sums points stride n times left right t u y y' s a b z = refl

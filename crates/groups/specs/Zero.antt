@@ -1,0 +1,60 @@
+-- Places that no term goes to hold +0, and a list of +0 is their blocks. Assumes nothing.
+use mathlib.Core.Path.{_≡_, sym, ap, _∙_}
+use mathlib.Core.Bool.{true}
+use mathlib.Core.List.{List}
+use Prim.Native.Nat.{ℕ, _+_, _-_, _*_, _<_}
+use native.Mathlib.Nat.{mul-assoc, mul-comm}
+use native.Mathlib.Omega.{arith}
+use lib.ListN.{replicate, length-replicate, getD-replicate}
+use lib.Seq.{ext-getD}
+use lib.Ieee.{Float}
+use borrow.Author.Tests.{eq-eqb}
+use Rattle.lists.specs.Indexed.{join}
+use Rattle.lists.specs.Agreement.{join-agree, each-all}
+use Rattle.lists.specs.Reading.{length-join, each-in-join}
+use Rattle.complex.specs.declared.Complex.{Complex}
+use Rattle.complex.specs.Arithmetic.{plusZero, czero}
+use Rattle.complex.specs.Numbers.{pair}
+use Rattle.matrix.specs.Block.{layOut}
+use Rattle.two_time.specs.declared.sums.Sums.{Sums}
+use Rattle.two_time.specs.Layout.{readAs}
+use Rattle.two_time.specs.WeightedSum.{Terms, partialSum, weightedSum}
+use Rattle.two_time.specs.Sums.{termsAt, sumsOf}
+use Rattle.two_time.specs.OneTest.{partial-none, one-test}
+use Rattle.terms.specs.declared.Span.{Span}
+use Rattle.terms.specs.Spans.{Spanned}
+use Rattle.groups.specs.PlaceSums.{sumAt, blockFine, zero-start}
+use Rattle.groups.specs.Groups.{groupFine, groupNumbers}
+
+pub join-replicate : (k w : ℕ) (z : Float) → join k (λ _. replicate w z) ≡ replicate (k * w) z
+join-replicate k w z =
+    ext-getD z (join k (λ _. replicate w z)) (replicate (k * w) z) (length-join k w (λ _. replicate w z) (λ i l. length-replicate w z) ∙ sym (length-replicate (k * w) z))
+    (λ i l. each-in-join (λ (x : Float). x ≡ z) k (λ _. replicate w z) z (λ m hm j hj. getD-replicate w j z z (omega (arith, length-replicate w z))) i l ∙ sym (getD-replicate (k * w) i z z (omega (arith, length-join k w (λ _. replicate w z) (λ i l. length-replicate w z)))))
+
+-- a block of +0
+pub block-zero : (n : ℕ) (f : ℕ → ℕ → Complex) → ((a b : ℕ) → a < n → b < n → f a b ≡ czero) → layOut n n f ≡ replicate (2 * (n * n)) plusZero
+unfolding layOut
+block-zero n f h =
+    join-agree n _ _ (λ a ha. join-agree n _ _ (λ b hb. ap pair (h a b ha hb)) ∙ join-replicate n 2 plusZero) ∙ join-replicate n (n * 2) plusZero
+    ∙ ap (λ (k : ℕ). replicate k plusZero) (sym (mul-assoc n n 2) ∙ mul-comm (n * n) 2)
+
+-- a group that has no s
+module _ (sums : Sums) (points n : ℕ) (times left right : List Float) (t u places : ℕ) (out : List Float) (span : Span) (z : Spanned sums points t u places span) (none : span .first ≡ span .last) where
+  abbrev at : ℕ → Terms
+  at p = termsAt sums points times (readAs points n left) (readAs points n right) t (u + p)
+
+  no-terms : (p : ℕ) → p < places → at p .count ≡ 0
+  no-terms p h = omega (arith, z .least times (readAs points n left) (readAs points n right) p h, z .enough times (readAs points n left) (readAs points n right) p h)
+
+  zero-sum : (p a b : ℕ) → p < places → sumAt sums points n times left right t (u + p) a b ≡ czero
+  unfolding sumsOf weightedSum
+  zero-sum p a b h = ap (λ (k : ℕ). partialSum n (at p) k a b) (no-terms p h) ∙ partial-none n (at p) a b ∙ zero-start sums points times (readAs points n left) (readAs points n right) t (u + p) a b
+
+  pub none-fine : groupFine sums points n times left right t u places out ≡ true
+  unfolding blockFine
+  none-fine = each-all places _ (λ p hp. each-all n _ (λ a ha. each-all n _ (λ b hb. one-test n (at p) a b ∙ rw (eq-eqb (at p .count) 0 (no-terms p hp)))))
+
+  pub none-numbers : (len : ℕ) → len ≡ places * (2 * (n * n)) → replicate len plusZero ≡ groupNumbers sums points n times left right t u places out
+  none-numbers len e =
+      ap (λ (k : ℕ). replicate k plusZero) e
+      ∙ sym (join-agree places _ _ (λ p hp. block-zero n (sumAt sums points n times left right t (u + p)) (λ a b ha hb. zero-sum p a b hp)) ∙ join-replicate places (2 * (n * n)) plusZero)
