@@ -14,7 +14,7 @@ use Rattle.refusal.specs.Agreement.{then-pass, then-agree, then-after, then-ass
 use Rattle.refusal.specs.Keeping.{Keeping, passed, ask-keeping, then-keeping, all-keeping}
 use Rattle.two_time.specs.Layout.{TwoTime, readAs, lengthOf}
 use Rattle.two_time.specs.Support.{retarded, residual}
-use Rattle.two_time.specs.Calls.{operandLines, inputLines, checkInputs}
+use Rattle.two_time.specs.Calls.{inputLines, checkInputs}
 use Rattle.two_time.specs.SizeLines.{SizesPassed, sizes-pass, long-first, long-also, long-none}
 use Rattle.two_time.specs.Working.{inputs-keeping, inputs-sizes}
 use Rattle.dyson.specs.Calls.{supportLines, greenFine, dysonVerdict}
@@ -37,16 +37,13 @@ module _ (points n : ℕ) (tolerance : Float) where
   -- after lines 1 to 7 of a call that has both among its operands, asking them again changes nothing
   pub asked-again : (times free selfEnergy : List Float) (rest lent : List (List Float)) → inputLines points n times (free ∷ selfEnergy ∷ rest) lent ≡ Pass
       → checkInputs points n free selfEnergy tolerance ≡ supportLines points n tolerance (readAs points n free) (readAs points n selfEnergy)
-  unfolding checkInputs inputLines operandLines
+  unfolding checkInputs
   asked-again times free selfEnergy rest lent h =
       let count = lengthOf points n in
       let z = inputs-sizes points n times (free ∷ selfEnergy ∷ rest) lent h in
       let f = long-first count free _ (z .long) in
       let g = long-first count selfEnergy _ (f .1) in
-      let first = then-pass _ _ (then-pass _ _ (then-pass _ _ h .1) .1) in
-      let second = then-pass _ _ (first .1) in
       then-after _ _ (sizes-pass (free ∷ selfEnergy ∷ []) z (long-also count free _ (f .0) (long-also count selfEnergy _ (g .0) (long-none count))))
-      ∙ then-after _ _ (then-after _ _ (first .0) ∙ then-after _ _ (second .0))
 
   module _ (times free selfEnergy green kernel : List Float) where
     abbrev inputs : Verdict

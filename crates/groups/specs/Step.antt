@@ -3,7 +3,7 @@ use mathlib.Core.Path.{_≡_, refl, sym, ap, ap₂, _∙_}
 use mathlib.Core.Bool.{Bool, true, false, cond}
 use mathlib.Core.List.{List}
 use Prim.Native.Nat.{ℕ, _+_, _-_, _*_, _≤_, _<_, min}
-use native.Mathlib.Nat.{mul-le-mul-right, zero-mul, suc-mul, add-zero, add-mul, mul-left-comm}
+use native.Mathlib.Nat.{mul-le-mul-right, zero-mul, add-zero, add-mul, mul-left-comm}
 use native.Mathlib.Decide.{decLt}
 use native.Mathlib.Omega.{arith}
 use lib.Arith.{digits-lt}
@@ -14,8 +14,7 @@ use Rattle.complex.specs.Arithmetic.{czero, real, cadd, cmul}
 use Rattle.complex.specs.Numbers.{entryAt}
 use Rattle.complex.specs.Agreement.{sum-agree}
 use Rattle.matrix.specs.Operations.{product, scaled}
-use Rattle.two_time.specs.Layout.{place, readAs, lengthOf}
-use Rattle.two_time.specs.Places.{Placed, within, entry-placed}
+use Rattle.two_time.specs.Layout.{place, readAs}
 use Rattle.two_time.specs.declared.sums.Sums.{Sums}
 use Rattle.two_time.specs.WeightedSum.{Terms, productAt, termAt}
 use Rattle.terms.specs.declared.Term.{Term}
@@ -149,15 +148,3 @@ module _ (sums : Sums) (points stride n : ℕ) (times left right : List Float) (
   lane-product =
       sum-agree czero czero _ _ 0 n refl (λ k h. ap₂ cmul (ap (entryAt left) (left-place (0 + k))) (packed (0 + k) (omega arith)))
       ∙ sym (product-is points t (u + p) s times (readAs stride n left) (readAs stride n right) sums n a b)
-
--- all entries of a block lie in its function
-pub block-inside : {stride n t s : ℕ} → Placed stride n t s 0 0 → (i len : ℕ) → i ≡ place stride n t s 0 0 → lengthOf stride n ≤ len → i + 2 * (n * n) ≤ len
-block-inside {stride} {n} {t} {s} h i len e l =
-    let k : ℕ = n - 1 in
-    let x = (t * stride + s) * n in
-    let few : k < n = omega (arith, h .row) in
-    let last = within (entry-placed k k h few few) .inside in
-    omega (arith, last, ap (λ (m : ℕ). m * n) (add-zero x), add-mul x k n, square n (h .row))
-  where
-    square : (n : ℕ) → 0 < n → (n - 1) * n + n ≡ n * n
-    square n h = rw (← suc-mul (n - 1) n) (ap (λ (m : ℕ). m * n) (omega arith))

@@ -47,9 +47,7 @@ unfoldable pub supportLines : ℕ → ℕ → Float → TwoTime → TwoTime → 
 supportLines points orbitals tolerance free selfEnergy =
     validTolerance tolerance then retarded points orbitals 0 tolerance free then retarded points orbitals 1 tolerance selfEnergy
 
--- `check_retarded_inputs`: lines 1 to 3, 7, 8 and 9 of free, operand 0, and the self-energy, operand 1
+-- `check_retarded_inputs`: lines 1 to 3, 8 and 9 of free, operand 0, and the self-energy, operand 1
 unfoldable pub checkInputs : ℕ → ℕ → List Float → List Float → Float → Verdict
 checkInputs points orbitals free selfEnergy tolerance =
-    sizeLines points orbitals true (free ∷ selfEnergy ∷ [])
-    then operandLines 0 (free ∷ selfEnergy ∷ [])
-    then supportLines points orbitals tolerance (readAs points orbitals free) (readAs points orbitals selfEnergy)
+    sizeLines points orbitals true (free ∷ selfEnergy ∷ []) then supportLines points orbitals tolerance (readAs points orbitals free) (readAs points orbitals selfEnergy)

@@ -15,5 +15,6 @@ pub mod Filling
 pub mod Reaching
 pub mod SizeLines
 pub mod Working
+pub mod Scale
 pub mod AskingSupport
 pub mod Finite

@@ -1,7 +1,7 @@
 -- Where entries stand, within the limits of N and n: every place lies in its function, and every number on the way to it fits. Assumes nothing.
-use mathlib.Core.Path.{_≡_}
-use Prim.Native.Nat.{ℕ, _+_, _*_, _≤_, _<_}
-use native.Mathlib.Nat.{le-trans, mul-le-mul-left, mul-le-mul-right, mul-assoc}
+use mathlib.Core.Path.{_≡_, ap}
+use Prim.Native.Nat.{ℕ, _+_, _-_, _*_, _≤_, _<_}
+use native.Mathlib.Nat.{le-trans, add-zero, add-mul, suc-mul, mul-le-mul-left, mul-le-mul-right, mul-assoc}
 use native.Mathlib.Omega.{arith}
 use lib.Arith.{digits-lt}
 use lib.Dec.{leb, ltb}
@@ -92,3 +92,15 @@ within {stride} {orbitals} {t} {u} {a} {b} p =
       entry-row = product-most ((t * stride + u) * orbitals + a) orbitals {m = 1048592} (let l = p .row in let m = p .orbitals-most in omega arith) (p .orbitals-most);
       inside = omega arith;
     }
+
+-- all entries of a block lie in its function
+pub block-inside : {stride n t s : ℕ} → Placed stride n t s 0 0 → (i len : ℕ) → i ≡ place stride n t s 0 0 → lengthOf stride n ≤ len → i + 2 * (n * n) ≤ len
+block-inside {stride} {n} {t} {s} h i len e l =
+    let k : ℕ = n - 1 in
+    let x = (t * stride + s) * n in
+    let few : k < n = omega (arith, h .row) in
+    let last = within (entry-placed k k h few few) .inside in
+    omega (arith, last, ap (λ (m : ℕ). m * n) (add-zero x), add-mul x k n, square n (h .row))
+  where
+    square : (n : ℕ) → 0 < n → (n - 1) * n + n ≡ n * n
+    square n h = rw (← suc-mul (n - 1) n) (ap (λ (m : ℕ). m * n) (omega arith))

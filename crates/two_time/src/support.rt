@@ -1,18 +1,16 @@
 // The support of a retarded function (document 01, support): a place t < t' holds nothing above the tolerance.
 ghost use mathlib.Core.Path.{_≡_};
-ghost use Prim.Native.Nat.{_<_, _≤_};
+ghost use Prim.Native.Nat.{_+_, _*_, _<_, _≤_};
 ghost use lib.ListN.{length};
-ghost use Rattle.complex.specs.Arithmetic.{larger};
+ghost use Rattle.complex.specs.Numbers.{entryAt};
 ghost use Rattle.complex.specs.Sum.{largestFrom};
-ghost use Rattle.largest.specs.Larger.{FromZero};
-ghost use Rattle.matrix.specs.Operations.{cnorm, largestNorm};
+ghost use Rattle.matrix.specs.Operations.{cnorm};
 ghost use Rattle.two_time.specs.Layout.{readAs, lengthOf};
 ghost use Rattle.two_time.specs.Support.{scaleOf, retarded, retardedPlace};
 ghost use Rattle.two_time.specs.Calls.{checkInputs};
 ghost use Rattle.refusal.specs.Verdict.{askAll};
-use crate::layout::entry;
+use crate::layout::place;
 use crate::lines::has_length;
-use crate::lines::operand;
 use crate::lines::sizes;
 use complex::max;
 use largest::larger_norm;
@@ -20,52 +18,15 @@ use refusal::Verdict;
 use refusal::lines::retarded_at;
 use refusal::lines::valid_tolerance;
 
-// The largest of `largest` and the norms of row a of block (t, u).
-fn largest_in_row(
-    xs: &[f64],
-    stride: usize,
-    orbitals: usize,
-    t: usize,
-    u: usize,
-    a: usize,
-    largest: f64,
-) -> f64
-    requires { ⌜ (t < stride) × (u < stride) × (a < orbitals) × (stride ≤ 256) × (orbitals ≤ 16) ⌝ }
-    requires { ⌜ lengthOf stride orbitals ≤ length (now xs) ⌝ }
-    ensures { λ r. ⌜ r ≡ largestFrom largest orbitals (λ b. cnorm (readAs stride orbitals (now (xs .entry)) t u a b)) ⌝ }
+// The largest of `largest` and the norms of `count` complex numbers, the first of which stands at `from`.
+fn largest_from(xs: &[f64], from: usize, count: usize, largest: f64) -> f64
+    requires { ⌜ from + 2 * count ≤ length (now xs) ⌝ }
+    ensures { λ r. ⌜ r ≡ largestFrom largest count (λ k. cnorm (entryAt (now (xs .entry)) (from + 2 * k))) ⌝ }
 {
     let mut most = largest;
-    for b in 0..orbitals {
-        let z = entry(xs, stride, orbitals, t, u, a, b);
-        most = larger_norm(most, z.re, z.im);
-    }
-    most
-}
-
-// The largest of `largest` and the norms of the entries of block (t, u).
-fn largest_norm(xs: &[f64], stride: usize, orbitals: usize, t: usize, u: usize, largest: f64) -> f64
-    requires { ⌜ (t < stride) × (u < stride) × (stride ≤ 256) × (orbitals ≤ 16) ⌝ }
-    requires { ⌜ lengthOf stride orbitals ≤ length (now xs) ⌝ }
-    requires { ⌜ FromZero largest ⌝ }
-    ensures { λ r. ⌜ r ≡ larger largest (largestNorm orbitals orbitals (readAs stride orbitals (now (xs .entry)) t u)) ⌝ }
-{
-    let mut most = largest;
-    for a in 0..orbitals {
-        most = largest_in_row(xs, stride, orbitals, t, u, a, most);
-    }
-    most
-}
-
-// The largest of `largest` and the norms of row t.
-fn largest_in_time(xs: &[f64], points: usize, orbitals: usize, t: usize, largest: f64) -> f64
-    requires { ⌜ (t < points) × (points ≤ 256) × (orbitals ≤ 16) ⌝ }
-    requires { ⌜ lengthOf points orbitals ≤ length (now xs) ⌝ }
-    requires { ⌜ FromZero largest ⌝ }
-    ensures { λ r. ⌜ r ≡ largestFrom largest points (λ u. largestNorm orbitals orbitals (readAs points orbitals (now (xs .entry)) t u)) ⌝ }
-{
-    let mut most = largest;
-    for u in 0..points {
-        most = largest_norm(xs, points, orbitals, t, u, most);
+    for k in 0..count {
+        let i = from + 2 * k;
+        most = larger_norm(most, xs[i], xs[i + 1]);
     }
     most
 }
@@ -76,10 +37,8 @@ fn scale_of(xs: &[f64], points: usize, orbitals: usize) -> f64
     requires { ⌜ lengthOf points orbitals ≤ length (now xs) ⌝ }
     ensures { λ r. ⌜ r ≡ scaleOf points orbitals (readAs points orbitals (now (xs .entry))) ⌝ }
 {
-    let mut largest = 0.0;
-    for t in 0..points {
-        largest = largest_in_time(xs, points, orbitals, t, largest);
-    }
+    let count = points * points * (orbitals * orbitals);
+    let largest = largest_from(xs, 0, count, 0.0);
     max(largest, f64::from_bits(0x0010_0000_0000_0000))
 }
 
@@ -91,7 +50,7 @@ pub(crate) fn retarded(
     orbitals: usize,
     tolerance: f64,
 ) -> Verdict
-    requires { ⌜ (0 < points) × (points ≤ 256) × (orbitals ≤ 16) ⌝ }
+    requires { ⌜ (0 < points) × (points ≤ 256) × (0 < orbitals) × (orbitals ≤ 16) ⌝ }
     requires { ⌜ lengthOf points orbitals ≤ length (now xs) ⌝ }
     ensures { λ r. ⌜ r ≡ retarded points orbitals operand tolerance (readAs points orbitals (now (xs .entry))) ⌝ }
 {
@@ -99,8 +58,8 @@ pub(crate) fn retarded(
     within(operand, xs, points, orbitals, tolerance, scale)
 }
 
-// Whether the inputs of a Dyson call are retarded within the tolerance: lines 1 to 3, 7, 8, then 9 of free (operand 0) and of the self-energy
-// (operand 1).
+// Whether the inputs of a Dyson call are retarded within the tolerance: lines 1 to 3, 8, then 9 of free (operand 0) and of the self-energy (operand
+// 1).
 pub fn check_retarded_inputs(
     free: &[f64],
     self_energy: &[f64],
@@ -112,9 +71,8 @@ pub fn check_retarded_inputs(
 {
     let free_fits = has_length(points, orbitals, free);
     let self_energy_fits = has_length(points, orbitals, self_energy);
-    let entries = operand(0, free).then(operand(1, self_energy));
-    let finite = entries.then(valid_tolerance(tolerance));
-    let verdict = sizes(points, orbitals, free_fits & self_energy_fits).then(finite);
+    let fits = free_fits & self_energy_fits;
+    let verdict = sizes(points, orbitals, fits).then(valid_tolerance(tolerance));
     let Verdict::Pass = verdict else {
         return verdict;
     };
@@ -131,7 +89,7 @@ fn within(
     tolerance: f64,
     scale: f64,
 ) -> Verdict
-    requires { ⌜ (0 < points) × (points ≤ 256) × (orbitals ≤ 16) ⌝ }
+    requires { ⌜ (0 < points) × (points ≤ 256) × (0 < orbitals) × (orbitals ≤ 16) ⌝ }
     requires { ⌜ lengthOf points orbitals ≤ length (now xs) ⌝ }
     requires { ⌜ scale ≡ scaleOf points orbitals (readAs points orbitals (now xs)) ⌝ }
     ensures { λ r. ⌜ r ≡ retarded points orbitals operand tolerance (readAs points orbitals (now (xs .entry))) ⌝ }
@@ -155,13 +113,15 @@ fn row_within(
     scale: f64,
     t: usize,
 ) -> Verdict
-    requires { ⌜ (t < points) × (points ≤ 256) × (orbitals ≤ 16) ⌝ }
+    requires { ⌜ (t < points) × (points ≤ 256) × (0 < orbitals) × (orbitals ≤ 16) ⌝ }
     requires { ⌜ lengthOf points orbitals ≤ length (now xs) ⌝ }
     requires { ⌜ scale ≡ scaleOf points orbitals (readAs points orbitals (now xs)) ⌝ }
     ensures { λ r. ⌜ r ≡ askAll points (retardedPlace points orbitals operand tolerance (readAs points orbitals (now (xs .entry))) t) ⌝ }
 {
+    let count = orbitals * orbitals;
     for u in t + 1..points {
-        let residual = largest_norm(xs, points, orbitals, t, u, 0.0) / scale;
+        let from = place(points, orbitals, t, u, 0, 0);
+        let residual = largest_from(xs, from, count, 0.0) / scale;
         let place = retarded_at(operand, t, u, tolerance, residual);
         let Verdict::Pass = place else {
             return place;

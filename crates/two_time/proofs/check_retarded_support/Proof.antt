@@ -48,7 +48,7 @@ check-retarded-support-spec =
     let v = c .before .before in
     let x = start v .args in
     let z = nine-sizes (x .points) (x .orbitals) (now (x .xs) ∷ []) (x .tolerance) (sym (asked v) ∙ c .enum-told .given .1) in
-    ((omega arith, z .points-most, z .orbitals-most), le-of-eq (sym (long-first _ _ _ (z .long) .0))))  -- retarded-requires
+    ((omega arith, z .points-most, z .orbitals-least, z .orbitals-most), le-of-eq (sym (long-first _ _ _ (z .long) .0))))  -- retarded-requires
     (λ c.
     let e = c .before in
     let v = e .before .before in

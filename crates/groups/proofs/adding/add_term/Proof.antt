@@ -12,7 +12,7 @@ use borrow.Author.Needs.{needs}
 use Rattle.terms.specs.declared.Factor.{Factor}
 use Rattle.two_time.specs.Layout.{place, readAs}
 use Rattle.terms.specs.Kinds.{rightBy}
-use Rattle.two_time.specs.Places.{Placed}
+use Rattle.two_time.specs.Places.{Placed, block-inside}
 use Rattle.terms.specs.TermAt.{TermAt, term-at}
 use Rattle.complex.specs.Numbers.{entryAt}
 use Rattle.lanes.specs.Lanes.{laneAt}
@@ -22,7 +22,7 @@ use Rattle.rows.specs.Ranges.{Ranged}
 use Rattle.rows.specs.Parts.{Rowed, rowed-none, rowed-next, part-length}
 use Rattle.rows.specs.Fitting.{Fits, totals-length, totals-lane}
 use Rattle.groups.specs.InPlace.{inPlace, lane-in-place, lane-reach}
-use Rattle.groups.specs.Step.{ranged, lane-turn, lane-product, block-inside}
+use Rattle.groups.specs.Step.{ranged, lane-turn, lane-product}
 use Rattle.groups.proofs.adding.add_term.Statement.{statement}
 use Rattle.groups.proofs.adding.add_term.Tie as tie
 
