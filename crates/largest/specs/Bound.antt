@@ -102,23 +102,23 @@ units-of-sum m n e d = sums (inUnits m e) (inUnits n d) (down e) (down d) (m * u
         let r : b * (p * q) ≤ y * p * u = le-trans (le-of-eq (ap (λ (z : ℕ). b * z) (mul-comm p q) ∙ sym (mul-assoc b q p))) (le-trans (mul-le-mul-right p k) (le-of-eq (mul-right-comm y u p))) in
         le-trans (le-of-eq (add-mul a b (p * q))) (le-trans (add-le-add l r) (le-of-eq (sym (add-mul (x * q) (y * p) u))))
 
--- the norm is at most the sum of the units, rounded, and that at most the sum of the sizes
-module _ (m n : ℕ) (e d : ℤ) where
+-- the norm is at most a number of units whose square is at least that of the parts, rounded, and that at most the sum of the numbers it is made of
+module _ (m n k : ℕ) (e d c : ℤ) (square : inUnits m e ^ 2 + inUnits n d ^ 2 ≤ (inUnits m e + inUnits k c) * (inUnits m e + inUnits k c)) where
   abbrev between : Float
-  between = round binary64 false (inUnits m e + inUnits n d) (2 ^ 1074)
+  between = round binary64 false (inUnits m e + inUnits k c) (2 ^ 1074)
 
   abbrev sum : Float
-  sum = round binary64 false (m * up e * down d + n * up d * down e) (down e * down d)
+  sum = round binary64 false (m * up e * down c + k * up c * down e) (down e * down c)
 
   norm-at-most : T (le (roundedRoot (inUnits m e ^ 2 + inUnits n d ^ 2)) between)
   norm-at-most =
-      subst (λ (x : Float). T (le (roundedRoot (inUnits m e ^ 2 + inUnits n d ^ 2)) x)) (square-rounds (inUnits m e + inUnits n d))
-      (order-kept (inUnits m e ^ 2 + inUnits n d ^ 2) ((inUnits m e + inUnits n d) * (inUnits m e + inUnits n d)) (squares-of-sum (inUnits m e) (inUnits n d)))
+      subst (λ (x : Float). T (le (roundedRoot (inUnits m e ^ 2 + inUnits n d ^ 2)) x)) (square-rounds (inUnits m e + inUnits k c))
+      (order-kept (inUnits m e ^ 2 + inUnits n d ^ 2) ((inUnits m e + inUnits k c) * (inUnits m e + inUnits k c)) square)
 
   sum-at-least : T (le between sum)
-  sum-at-least = round-mono binary64 (inUnits m e + inUnits n d) (2 ^ 1074) (m * up e * down d + n * up d * down e) (down e * down d) (pow-pos 1074) (mul-pos (down-pos e) (down-pos d)) (units-of-sum m n e d)
+  sum-at-least = round-mono binary64 (inUnits m e + inUnits k c) (2 ^ 1074) (m * up e * down c + k * up c * down e) (down e * down c) (pow-pos 1074) (mul-pos (down-pos e) (down-pos c)) (units-of-sum m k e c)
 
-  norm-kept : (l : Float) → T (le sum l) → larger l (roundedRoot (inUnits m e ^ 2 + inUnits n d ^ 2)) ≡ l
+  pub norm-kept : (l : Float) → T (le sum l) → larger l (roundedRoot (inUnits m e ^ 2 + inUnits n d ^ 2)) ≡ l
   norm-kept l h =
       first l _ (number-at-least sum l h)
       (not-true (lt l _) (λ g. not-above _ between l norm-at-most (not-above between sum l sum-at-least (λ k. never-both l sum k h)) g))
@@ -133,4 +133,4 @@ not-larger l (inf s) (inf t) h = at-most-kept l (inf false) h
 not-larger l (inf s) (fin t n d) h = at-most-kept l (inf false) h
 not-larger l (fin s m e) nan h = never h
 not-larger l (fin s m e) (inf t) h = at-most-kept l (inf false) h
-not-larger l (fin s m e) (fin t n d) h = norm-kept m n e d l (subst T (sym h) tt)
+not-larger l (fin s m e) (fin t n d) h = norm-kept m n n e d d (squares-of-sum _ _) l (subst T (sym h) tt)

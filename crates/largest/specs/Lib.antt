@@ -2,6 +2,7 @@
 pub mod Order
 pub mod Larger
 pub mod Bound
+pub mod Halves
 pub mod Unsigned
 pub mod Middle
 pub mod Digits

@@ -20,10 +20,14 @@ size-of-bits x f = unsigned-bits x f ∙ same x
     same (inf s) = refl
     same (fin s m e) = refl
 
-pub bits-of-number : (x : Float) → T (fits binary64 x) → ne x x ≡ false → T (not (nanBits binary64 (toBits binary64 x % 2 ^ 63)))
-bits-of-number x f n = at-most-infinity _ (le-trans (mod-le _ (2 ^ 63)) (go (kind x f)))
+-- the bits of a number are at most infinity's
+pub number-bits : (x : Float) → T (fits binary64 x) → ne x x ≡ false → toBits binary64 x % 2 ^ 63 ≤ 2047 * 2 ^ 52
+number-bits x f n = go (kind x f)
   where
     go : Kind x (toBits binary64 x % 2 ^ 63) → toBits binary64 x % 2 ^ 63 ≤ 2047 * 2 ^ 52
     go (is-nan p h) = never (sym (sym nan-differs ∙ ap (λ (y : Float). ne y y) (sym p) ∙ n))
     go (is-infinite s p h) = le-of-eq h
     go (is-finite s m e p h u) = le-of-lt h
+
+pub bits-of-number : (x : Float) → T (fits binary64 x) → ne x x ≡ false → T (not (nanBits binary64 (toBits binary64 x % 2 ^ 63)))
+bits-of-number x f n = at-most-infinity _ (le-trans (mod-le _ (2 ^ 63)) (number-bits x f n))

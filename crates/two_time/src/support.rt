@@ -13,7 +13,7 @@ use crate::layout::place;
 use crate::lines::has_length;
 use crate::lines::sizes;
 use complex::max;
-use largest::larger_norm;
+use largest::larger_norm_in_loop;
 use refusal::Verdict;
 use refusal::lines::retarded_at;
 use refusal::lines::valid_tolerance;
@@ -26,7 +26,7 @@ fn largest_from(xs: &[f64], from: usize, count: usize, largest: f64) -> f64
     let mut most = largest;
     for k in 0..count {
         let i = from + 2 * k;
-        most = larger_norm(most, xs[i], xs[i + 1]);
+        most = larger_norm_in_loop(most, xs[i], xs[i + 1]);
     }
     most
 }

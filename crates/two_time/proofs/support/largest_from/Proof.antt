@@ -28,13 +28,13 @@ largest-from-spec =
     (λ c. (omega arith, sym (fold-none _ _)))  -- loop-holds
     (λ c. let s = c .before .before .before in omega (arith, s .pre, c .loop-test .taken))  -- mul-i
     (λ c. let s = c .before .before .before in omega (arith, s .pre, c .loop-test .taken))  -- add-i
-    (λ c. let s = c .before .before .before in omega (arith, s .pre, c .loop-test .taken))  -- mul-larger-norm
-    (λ c. let s = c .before .before .before .before in omega (arith, s .pre, c .before .loop-test .taken))  -- shared-slice-read-larger-norm
-    (λ c. let s = c .before .before .before .before in omega (arith, s .pre, c .before .loop-test .taken))  -- add-larger-norm
-    (λ c. let s = c .before .before .before .before in omega (arith, s .pre, c .before .loop-test .taken))  -- mul-larger-norm-2
-    (λ c. let s = c .before .before .before .before .before in omega (arith, s .pre, c .before .before .loop-test .taken))  -- shared-slice-read-larger-norm-2
-    (λ c κs. search needs)  -- larger-norm-requires
+    (λ c. let s = c .before .before .before in omega (arith, s .pre, c .loop-test .taken))  -- mul-larger-norm-in-loop
+    (λ c. let s = c .before .before .before .before in omega (arith, s .pre, c .before .loop-test .taken))  -- shared-slice-read-larger-norm-in-loop
+    (λ c. let s = c .before .before .before .before in omega (arith, s .pre, c .before .loop-test .taken))  -- add-larger-norm-in-loop
+    (λ c. let s = c .before .before .before .before in omega (arith, s .pre, c .before .loop-test .taken))  -- mul-larger-norm-in-loop-2
+    (λ c. let s = c .before .before .before .before .before in omega (arith, s .pre, c .before .before .loop-test .taken))  -- shared-slice-read-larger-norm-in-loop-2
+    (λ c κs. search needs)  -- larger-norm-in-loop-requires
     (λ c. search needs)  -- add-k
     (λ c. search needs)  -- loop-less
-    (λ c. (omega arith, rw fold-more (c .larger-norm .ensures ∙ ap₂ larger (c .before .before .before .before .loop .inv .1) refl)))  -- loop-again
+    (λ c. (omega arith, rw fold-more (c .larger-norm-in-loop .ensures ∙ ap₂ larger (c .before .before .before .before .loop .inv .1) refl)))  -- loop-again
     (λ c. c .before .loop .inv .1 ∙ rw (le-antisymm (c .before .loop .inv .0) (c .loop-test .left))))  -- returns
