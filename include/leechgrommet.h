@@ -1,7 +1,6 @@
 /*
- * The C interface of the solver: what the archives of `rt staticlib norm_export`, `rt staticlib matrix_export` and `rt staticlib
- * solver_export` export. Each function is proved to do, for all inputs, what is said here; the definitions are in the crates' specs/, and
- * "document 01" is the specification.
+ * The C interface of the solver: what the archive of `scripts/archive` exports. Each function is proved to do, for all inputs, what
+ * is said here; the definitions are in the crates' specs/, and "document 01" is the specification.
  *
  * What is trusted. That the checker is sound; that the back end compiles what was proved; that the machine runs in the mode below; that the
  * caller keeps to what it owes.
@@ -13,9 +12,9 @@
  *   Memory. A slice crosses as its address and its length in elements. An address is aligned and not null, also where the length is 0; the
  *   memory of that length is readable, and of what is not const writable. All LEECHGROMMET_BLOCK_NUMBERS numbers of a block are readable,
  *   though no answer depends on those past its entries.
- *   Overlap. What is written (what is not const) lies apart from everything else that is lent to the same call. What is only read may
+ *   Overlap. What is written (what is not const) lies apart from everything else that is passed to the same call. What is only read may
  *   overlap, and may be the same memory.
- * No address is kept after a call. Any numbers and lengths may be given: the calls end and refuse.
+ * No address is used after a call. Any numbers and lengths may be given: the calls end and refuse.
  *
  * Functions. A two-time function of N times (points) and n orbitals has 2*N*N*n*n numbers: block (t, t') row by row, in a block entry
  * (a, b) row by row, real part before imaginary. Times are N numbers.
@@ -29,17 +28,17 @@
  * Answers. 0: accepted. Otherwise the number of the first question that was answered no, in the order that each call names:
  *     1   N at least 2, n at least 1                       9   each input retarded within tolerance: operand, first, second, part = residual
  *     2   N at most 256, n at most 16                      10  every block made during the work finite
- *     3   each lent slice its exact length                 11  the time index below N
+ *     3   each slice its exact length                      11  the time index below N
  *     4   all times finite                                 12  a, then b, below n; of a block, row, then column, inside
  *     5   each time above the one before: first            13  hopping and charge factor finite
  *     6   all full weights finite                          14  the imaginary part's size at most the tolerance: part
  *     7   all entries finite: operand, first = position
  *     8   the tolerance finite and above 0
- * Question 3 is asked, after 1 and 2, by every call that is lent a slice: also of what is lent for a value, residuals, a decision or a block.
+ * Question 3 is asked, after 1 and 2, by every call that is passed a slice: also of what is passed for a value, residuals, a decision or a block.
  * Operands count from 0 in the order of the parameters, times not counted. After 10 every output and scratch slice, one for a value or
- * residuals too, holds +0 throughout; after any other number nothing lent has changed.
+ * residuals too, holds +0 throughout; after any other number nothing passed has changed.
  *
- * Places. `places` and `part` are part of the answer and no lent data: a refusal writes its operand, first and second to `places`, a slice
+ * Places. `places` and `part` are part of the answer: a refusal writes its operand, first and second to `places`, a slice
  * of 3, and its part to `part`, a slice of 1; a place that it does not have is 0. An accepted call leaves both. They are not asked by 3: of
  * another length (0, if a caller does not want them) they are left as they were.
  */
@@ -190,60 +189,60 @@ uint8_t leechgrommet_check_retarded_support(
     size_t points, size_t orbitals, double tolerance,
     size_t *places, size_t places_len, double *part, size_t part_len);
 
-/* Dyson's equation: green = the retarded function G, kernel = K, the causal convolution of free and sigma. Asks 1 to 10, 9 of free before
- * sigma. */
+/* Dyson's equation: retarded = the retarded function G, kernel = K, the causal convolution of free_propagator and self_energy. Asks 1 to 10, 9 of
+ * free_propagator before self_energy. */
 uint8_t leechgrommet_retarded_dyson_with_tolerance(
     const double *times, size_t times_len,
     const double *free_propagator, size_t free_propagator_len,
-    const double *sigma, size_t sigma_len,
+    const double *self_energy, size_t self_energy_len,
     size_t points, size_t orbitals, double tolerance,
-    double *green, size_t green_len,
+    double *retarded, size_t retarded_len,
     double *kernel, size_t kernel_len,
     size_t *places, size_t places_len, double *part, size_t part_len);
 
-/* The transient run of a device that starts empty, of the free propagator, the retarded self-energy sigma and the lesser self-energy source:
- * green = G^R and lesser = G^<; kernel = K and mixed = X are scratch. Asks 1 to 10. */
+/* The transient run of a device that starts empty, of its free propagator and the retarded and the lesser self-energy of its leads: retarded = G^R and
+ * lesser = G^<; kernel = K and lesser_advanced = X, the lesser self-energy times the advanced function, are scratch. Asks 1 to 10. */
 uint8_t leechgrommet_transient_run(
     const double *times, size_t times_len,
     const double *free_propagator, size_t free_propagator_len,
-    const double *sigma, size_t sigma_len,
-    const double *source, size_t source_len,
+    const double *self_energy, size_t self_energy_len,
+    const double *lesser_self_energy, size_t lesser_self_energy_len,
     size_t points, size_t orbitals, double tolerance,
-    double *green, size_t green_len,
+    double *retarded, size_t retarded_len,
     double *lesser, size_t lesser_len,
     double *kernel, size_t kernel_len,
-    double *mixed, size_t mixed_len,
+    double *lesser_advanced, size_t lesser_advanced_len,
     size_t *places, size_t places_len, double *part, size_t part_len);
 
 /* The density -i G^<(t,t) at a time, an n by n block. Asks 1, 2, 3, 7, 11. */
 uint8_t leechgrommet_density_matrix(
     const double *lesser, size_t lesser_len,
-    size_t points, size_t orbitals, size_t time,
+    size_t points, size_t orbitals, size_t time_index,
     size_t *shape, size_t shape_len, double *out, size_t out_len,
     size_t *places, size_t places_len, double *part, size_t part_len);
 
 /* The trace of the density -i G^<(t,t) at a time, written to `value`, a slice of 1. Asks 1, 2, 3, 7, then 11, 8, 14. */
 uint8_t leechgrommet_particle_number(
     const double *lesser, size_t lesser_len,
-    size_t points, size_t orbitals, size_t time, double tolerance,
+    size_t points, size_t orbitals, size_t time_index, double tolerance,
     double *value, size_t value_len,
     size_t *places, size_t places_len, double *part, size_t part_len);
 
-/* The trace of the product of a one-body matrix, lent as an n by n block (of another shape 3; operand 1), with the density, written to `value`.
+/* The trace of the product of a one-body matrix, passed as an n by n block (of another shape 3; operand 1), with the density, written to `value`.
  * Asks 1, 2, 3, 7, then 11, 10 (the product), 8, 14. */
 uint8_t leechgrommet_one_body_expectation(
     const double *lesser, size_t lesser_len,
-    size_t points, size_t orbitals, size_t time,
+    size_t points, size_t orbitals, size_t time_index,
     size_t rows, size_t columns, const double *values, double tolerance,
     double *value, size_t value_len,
     size_t *places, size_t places_len, double *part, size_t part_len);
 
-/* (2*charge) * Im(hopping * rho_ba), the flow into orbital a from b, written to `value`; it may be infinite or a NaN. Asks 1, 2, 3, 7, then
+/* (2*charge_over_hbar) * Im(hopping_ab * rho_ba), the flow into orbital a from b, written to `value`; it may be infinite or a NaN. Asks 1, 2, 3, 7, then
  * 13, 12, 11. */
 uint8_t leechgrommet_bond_flow_into(
     const double *lesser, size_t lesser_len,
-    size_t points, size_t orbitals, size_t time, size_t a, size_t b,
-    double real, double imaginary, double charge,
+    size_t points, size_t orbitals, size_t time_index, size_t a, size_t b,
+    double real, double imaginary, double charge_over_hbar,
     double *value, size_t value_len,
     size_t *places, size_t places_len, double *part, size_t part_len);
 

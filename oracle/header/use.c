@@ -20,8 +20,8 @@ static void number(double x)
     printf(" %016" PRIX64, bits);
 }
 
-/* A call by name: its answer, a refusal's places and part, and the numbers that it was lent. */
-static void told(const char *call, uint8_t answer, const double *lent, size_t count)
+/* A call by name: its answer, a refusal's places and part, and the numbers passed to it. */
+static void print_answer(const char *call, uint8_t answer, const double *passed, size_t count)
 {
     size_t i;
     printf("%s: %d", call, answer);
@@ -31,28 +31,28 @@ static void told(const char *call, uint8_t answer, const double *lent, size_t co
     }
     printf(",");
     for (i = 0; i < count; i++)
-        number(lent[i]);
+        number(passed[i]);
     printf("\n");
 }
 
 static void particle_number(const char *call, const double *lesser, size_t points, size_t time, double *value, size_t value_len)
 {
     value[0] = LENT;
-    told(call, leechgrommet_particle_number(lesser, NUMBERS, points, 1, time, 1e-12, value, value_len, places, 3, part, 1), value, 1);
+    print_answer(call, leechgrommet_particle_number(lesser, NUMBERS, points, 1, time, 1e-12, value, value_len, places, 3, part, 1), value, 1);
 }
 
 int main(void)
 {
-    double times[POINTS] = {0, 1, 2}, retarded[NUMBERS] = {0}, source[NUMBERS] = {0}, most[NUMBERS], least[NUMBERS];
-    double green[NUMBERS], lesser[NUMBERS], kernel[NUMBERS], mixed[NUMBERS], value[2] = {LENT, LENT}, residuals[6] = {0};
+    double times[POINTS] = {0, 1, 2}, step[NUMBERS] = {0}, lesser_self_energy[NUMBERS] = {0}, most[NUMBERS], least[NUMBERS];
+    double retarded[NUMBERS], lesser[NUMBERS], kernel[NUMBERS], lesser_advanced[NUMBERS], value[2] = {LENT, LENT}, residuals[6] = {0};
     double numbers[LEECHGROMMET_BLOCK_NUMBERS];
     size_t t, u, shape[2] = {7, 7};
     uint8_t decided[1] = {7}, answer;
 
     for (t = 0; t < POINTS; t++)
         for (u = 0; u < POINTS; u++) {
-            retarded[2 * (t * POINTS + u)] = u <= t;
-            source[2 * (t * POINTS + u) + 1] = 1;
+            step[2 * (t * POINTS + u)] = u <= t;
+            lesser_self_energy[2 * (t * POINTS + u) + 1] = 1;
         }
     for (t = 0; t < NUMBERS; t++) {
         most[t] = DBL_MAX;
@@ -63,46 +63,46 @@ int main(void)
     number(leechgrommet_norm(3, 4));
     printf("\n");
 
-    answer = leechgrommet_transient_run(times, POINTS, retarded, NUMBERS, retarded, NUMBERS, source, NUMBERS, POINTS, 1, 1e-12,
-        green, NUMBERS, lesser, NUMBERS, kernel, NUMBERS, mixed, NUMBERS, places, 3, part, 1);
-    told("transient_run", answer, lesser, NUMBERS);
+    answer = leechgrommet_transient_run(times, POINTS, step, NUMBERS, step, NUMBERS, lesser_self_energy, NUMBERS, POINTS, 1, 1e-12,
+        retarded, NUMBERS, lesser, NUMBERS, kernel, NUMBERS, lesser_advanced, NUMBERS, places, 3, part, 1);
+    print_answer("transient_run", answer, lesser, NUMBERS);
     for (t = 0; t <= POINTS; t++)
         particle_number("particle_number", lesser, POINTS, t, value, 1);
     particle_number("particle_number of a longer slice", lesser, POINTS, POINTS, value, 2);
     particle_number("particle_number of one time and a longer slice", lesser, 1, 0, value, 2);
 
     times[2] = 1;
-    answer = leechgrommet_causal_volterra_convolution(times, POINTS, retarded, NUMBERS, retarded, NUMBERS, POINTS, 1, green, NUMBERS,
+    answer = leechgrommet_causal_volterra_convolution(times, POINTS, step, NUMBERS, step, NUMBERS, POINTS, 1, retarded, NUMBERS,
         places, 3, part, 1);
-    told("causal_volterra_convolution", answer, green, 2);
+    print_answer("causal_volterra_convolution", answer, retarded, 2);
     times[2] = 2;
 
     for (t = 0; t < 6; t++)
         residuals[t] = LENT;
-    answer = leechgrommet_consistency_report(retarded, NUMBERS, retarded, NUMBERS, source, NUMBERS, source, NUMBERS, POINTS, 1,
+    answer = leechgrommet_consistency_report(step, NUMBERS, step, NUMBERS, lesser_self_energy, NUMBERS, lesser_self_energy, NUMBERS, POINTS, 1,
         residuals, 5, places, 3, part, 1);
-    told("consistency_report of five residuals", answer, residuals, 6);
-    answer = leechgrommet_consistency_report(most, NUMBERS, least, NUMBERS, source, NUMBERS, source, NUMBERS, POINTS, 1,
+    print_answer("consistency_report of five residuals", answer, residuals, 6);
+    answer = leechgrommet_consistency_report(most, NUMBERS, least, NUMBERS, lesser_self_energy, NUMBERS, lesser_self_energy, NUMBERS, POINTS, 1,
         residuals, 6, places, 3, part, 1);
-    told("consistency_report", answer, residuals, 6);
+    print_answer("consistency_report", answer, residuals, 6);
 
     answer = leechgrommet_is_consistent(0, 0, 0, 0, 0, 0, 0, decided, 0, places, 3, part, 1);
-    told("is_consistent without a byte", answer, value, 0);
+    print_answer("is_consistent without a byte", answer, value, 0);
     answer = leechgrommet_is_consistent(0, 0, 0, 0, 0, 0, 1e-12, decided, 1, places, 3, part, 1);
     printf("is_consistent: %d, %d\n", answer, decided[0]);
 
     for (t = 0; t < LEECHGROMMET_BLOCK_NUMBERS; t++)
         numbers[t] = LENT;
     answer = leechgrommet_block_identity(2, shape, 2, numbers, LEECHGROMMET_BLOCK_NUMBERS - 1, places, 3, part, 1);
-    told("block_identity of a shorter slice", answer, numbers, 1);
+    print_answer("block_identity of a shorter slice", answer, numbers, 1);
     printf("%d by %d\n", (int)shape[0], (int)shape[1]);
     answer = leechgrommet_block_identity(17, shape, 2, numbers, LEECHGROMMET_BLOCK_NUMBERS, places, 3, part, 1);
-    told("block_identity", answer, numbers, 1);
+    print_answer("block_identity", answer, numbers, 1);
     printf("%d by %d\n", (int)shape[0], (int)shape[1]);
     answer = leechgrommet_block_from_scalar(0.5, -2, shape, 2, numbers, LEECHGROMMET_BLOCK_NUMBERS, places, 3, part, 1);
-    told("block_from_scalar", answer, numbers, 3);
+    print_answer("block_from_scalar", answer, numbers, 3);
     printf("%d by %d\n", (int)shape[0], (int)shape[1]);
     answer = leechgrommet_block_trace(1, 1, numbers, value, 2, places, 3, part, 1);
-    told("block_trace", answer, value, 2);
+    print_answer("block_trace", answer, value, 2);
     return answer;
 }

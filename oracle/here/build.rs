@@ -1,10 +1,8 @@
-//! Where `rt staticlib` leaves the archives.
+//! Where `scripts/archive` writes the archive.
 use std::path::Path;
 
 fn main() {
     let archives = Path::new(env!("CARGO_MANIFEST_DIR")).join("../../target/staticlib");
     println!("cargo:rustc-link-search=native={}", archives.display());
-    for name in ["norm", "matrix", "solver"] {
-        println!("cargo:rerun-if-changed={}", archives.join(format!("lib{name}_export.a")).display());
-    }
+    println!("cargo:rerun-if-changed={}", archives.join("libleechgrommet.a").display());
 }

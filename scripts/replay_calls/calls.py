@@ -25,9 +25,9 @@ NAMES = [
     "time_convolution", "causal_volterra_convolution", "check_retarded_support", "retarded_dyson_with_tolerance",
     "retarded_dyson", "transient_run", "density_matrix", "particle_number", "one_body_expectation", "bond_flow_into",
     "consistency_report", "is_consistent", "langreth_product", "norm", "from_numbers", "identity", "adjoint", "scale",
-    "multiply", "add", "subtract", "trace", "get", "max_difference", "is_hermitian", "full_weights", "interval_weight",
-    "identity_times", "adjoint_plus_is_hermitian", "from_scalar", "zero", "check_times", "time_lines", "half_step", "full_weight",
-    "trapezoid_weight",
+    "multiply", "add", "subtract", "trace", "get", "max_difference", "is_hermitian", "full_weights", "checked_interval_weight",
+    "identity_times", "adjoint_plus_is_hermitian", "from_scalar", "zero", "check_times", "check_grid", "half_step", "full_weight",
+    "interval_weight",
 ]
 FULL, CAUSAL, SUPPORT, DYSON, DYSON_DEFAULT, RUN, DENSITY, NUMBER, EXPECTATION, FLOW = range(10)
 REPORT, CONSISTENT, LANGRETH, NORM, FROM_NUMBERS, IDENTITY, ADJOINT, SCALE = range(10, 18)

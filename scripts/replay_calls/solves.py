@@ -17,12 +17,12 @@ GIVEN = (DYSON, RUN)
 SLICES = {DYSON: 5, DYSON_DEFAULT: 5, RUN: 8}
 
 
-def call(function, times, free, sigma, source=None, orbitals=1, tolerance=DEFAULT_TOLERANCE):
-    """`source` is left out of a Dyson call; its value for a run is i everywhere, if none is given."""
+def call(function, times, free, self_energy, lesser_self_energy=None, orbitals=1, tolerance=DEFAULT_TOLERANCE):
+    """`lesser_self_energy` is left out of a Dyson call; its value for a run is i everywhere, if none is given."""
     count = len(free)
-    operands = [free, sigma]
+    operands = [free, self_energy]
     if function == RUN:
-        operands.append([0.0, 1.0] * (count // 2) if source is None else source)
+        operands.append([0.0, 1.0] * (count // 2) if lesser_self_energy is None else lesser_self_energy)
     lent = SLICES[function] - 1 - len(operands)
     # The call without a tolerance reads none: what is written for it is 0, which line 8 would refuse.
     asked = 0.0 if function == DYSON_DEFAULT else tolerance
@@ -40,8 +40,8 @@ def retarded(points, orbitals, numbers):
 
 def random_call(function, points, orbitals, kind, grid, rng):
     count = function_length(points, orbitals)
-    free, sigma = (retarded(points, orbitals, some(kind, count, rng)) for _ in range(2))
-    return call(function, GRIDS[grid](points), free, sigma, some(kind, count, rng), orbitals)
+    free, self_energy = (retarded(points, orbitals, some(kind, count, rng)) for _ in range(2))
+    return call(function, GRIDS[grid](points), free, self_energy, some(kind, count, rng), orbitals)
 
 
 def ones(points):
@@ -83,8 +83,8 @@ def signs_of_zero():
     signs = [(-0.0, 0.0), (0.0, -0.0), (-0.0, -0.0)]
     for zero, value in itertools.product(signs, [(0.0, 0.0), (-1.0, 0.0), (0.0, -1.0)]):
         free = by_place(3, {(t, u): zero for t in range(3) for u in range(t + 1)})
-        sigma = by_place(3, {(t, u): value for t in range(3) for u in range(t + 1)})
-        yield call(RUN, [0.0, 1.0, 2.0], free, sigma, [*value] * 9)
+        self_energy = by_place(3, {(t, u): value for t in range(3) for u in range(t + 1)})
+        yield call(RUN, [0.0, 1.0, 2.0], free, self_energy, [*value] * 9)
     # Above the diagonal free's -0 does not stay.
     yield call(DYSON, [0.0, 1.0], [-0.0] * 8, [-0.0] * 8)
     yield call(RUN, [0.0, 1.0], [-0.0] * 8, [-0.0] * 8, [-0.0] * 8)
@@ -93,30 +93,30 @@ def signs_of_zero():
 # ---- Overflow ------------------------------------------------------------------
 
 
-def stage(points, orbitals, times, free, sigma, source):
+def stage(points, orbitals, times, free, self_energy, lesser_self_energy):
     """The first of K, G, X and the lesser function whose work overflows."""
-    free, sigma, source = (read(numbers, points, orbitals) for numbers in (free, sigma, source))
+    free, self_energy, lesser_self_energy = (read(numbers, points, orbitals) for numbers in (free, self_energy, lesser_self_energy))
     made = "K"
     try:
-        kernel = causal_convolution(points, orbitals, times, free, sigma)
+        kernel = causal_convolution(points, orbitals, times, free, self_energy)
         made = "G"
-        green = solve(points, orbitals, times, free, kernel)
+        retarded = solve(points, orbitals, times, free, kernel)
         made = "X"
-        sums = first_sums(points, orbitals, times, source, green)
+        sums = first_sums(points, orbitals, times, lesser_self_energy, retarded)
         made = "lesser"
-        lesser_function(points, orbitals, times, green, sums)
+        lesser_function(points, orbitals, times, retarded, sums)
     except Overflow:
         return made
     return "none"
 
 
-def overflow(made, times, free, sigma, source, orbitals=1):
+def overflow(made, times, free, self_energy, lesser_self_energy, orbitals=1):
     """The run that overflows at `made` and nowhere before, and the Dyson call that overflows too."""
-    found = stage(len(times), orbitals, times, free, sigma, source)
-    assert found == made, (found, made, times, free, sigma, source)
-    yield call(RUN, times, free, sigma, source, orbitals)
+    found = stage(len(times), orbitals, times, free, self_energy, lesser_self_energy)
+    assert found == made, (found, made, times, free, self_energy, lesser_self_energy)
+    yield call(RUN, times, free, self_energy, lesser_self_energy, orbitals)
     if made in ("K", "G"):
-        yield call(DYSON, times, free, sigma, orbitals=orbitals)
+        yield call(DYSON, times, free, self_energy, orbitals=orbitals)
 
 
 def by_kernel():
@@ -137,11 +137,11 @@ def by_kernel():
 def by_green():
     """K is finite: K(1, 0)·G(0, 0) overflows, or its scaling, or the sum with free."""
     none = [0.0] * 8
-    sigma = by_place(2, {(1, 0): 1.0})
-    yield from overflow("G", [0.0, 1.0], by_place(2, {(0, 0): 1e200, (1, 1): 1e200}), sigma, none)
-    yield from overflow("G", [0.0, 4.0], by_place(2, {(0, 0): 0.75 * LARGEST, (1, 1): 0.5}), sigma, none)
-    yield from overflow("G", [0.0, 2.0], by_place(2, {(0, 0): 0.75 * LARGEST, (1, 0): 0.75 * LARGEST, (1, 1): 1.0}), sigma, none)
-    yield from overflow("G", [0.0, 2.0], by_place(2, {(0, 0): (0.0, LARGEST), (1, 0): (0.0, LARGEST), (1, 1): 1.0}), sigma, none)
+    self_energy = by_place(2, {(1, 0): 1.0})
+    yield from overflow("G", [0.0, 1.0], by_place(2, {(0, 0): 1e200, (1, 1): 1e200}), self_energy, none)
+    yield from overflow("G", [0.0, 4.0], by_place(2, {(0, 0): 0.75 * LARGEST, (1, 1): 0.5}), self_energy, none)
+    yield from overflow("G", [0.0, 2.0], by_place(2, {(0, 0): 0.75 * LARGEST, (1, 0): 0.75 * LARGEST, (1, 1): 1.0}), self_energy, none)
+    yield from overflow("G", [0.0, 2.0], by_place(2, {(0, 0): (0.0, LARGEST), (1, 0): (0.0, LARGEST), (1, 1): 1.0}), self_energy, none)
     # In block (2, 0) alone, by K(2, 1)·G(1, 0).
     free = by_place(3, {(1, 0): 1e200, (2, 2): 1e200})
     yield from overflow("G", [0.0, 1.0, 2.0], free, by_place(3, {(2, 1): 1.0}), [1.0] * 18)
@@ -151,7 +151,7 @@ def by_green():
 
 
 def by_sums():
-    """G is finite, free itself: the product of the source and its adjoint overflows, where the weight is 0 too, or its
+    """G is finite, free itself: the product of the lesser_self_energy and its adjoint overflows, where the weight is 0 too, or its
     scaling, or a sum."""
     none = [0.0] * 18
     for at in itertools.product(range(3), repeat=2):
@@ -162,9 +162,9 @@ def by_sums():
     yield from overflow("X", [0.0, 2.0], one, none[:8], by_place(2, {(1, 0): (0.0, LARGEST), (1, 1): (0.0, LARGEST)}))
     # With a kernel that is not 0.
     yield from overflow("X", [0.0, 1.0, 2.0], ones(3), ones(3), [LARGEST] * 18)
-    source = with_entries(2, 2, {(0, 1, 1, 0): (LARGEST, 0.0), (0, 1, 1, 1): (LARGEST, 0.0)})
+    lesser_self_energy = with_entries(2, 2, {(0, 1, 1, 0): (LARGEST, 0.0), (0, 1, 1, 1): (LARGEST, 0.0)})
     free = with_entries(2, 2, {(1, 1, 0, k): (1.0, 0.0) for k in range(2)})
-    yield from overflow("X", [0.0, 2.0], free, [0.0] * 32, source, 2)
+    yield from overflow("X", [0.0, 2.0], free, [0.0] * 32, lesser_self_energy, 2)
 
 
 def by_lesser():
@@ -173,8 +173,8 @@ def by_lesser():
     for at in (0, 1):
         # X(at, 1) is half of 1e200, and G^R(at, at) is 1e200.
         free = by_place(2, {(0, 0): 1e200, (1, 1): 1.0}) if at == 0 else by_place(2, {(1, 1): 1e200})
-        source = by_place(2, {(at, 1): 1e200 if at == 0 else 1.0})
-        yield from overflow("lesser", [0.0, 1.0], free, none, source)
+        lesser_self_energy = by_place(2, {(at, 1): 1e200 if at == 0 else 1.0})
+        yield from overflow("lesser", [0.0, 1.0], free, none, lesser_self_energy)
     one = by_place(2, {(1, 0): 1.0, (1, 1): 1.0})
     yield from overflow("lesser", [0.0, 2.0], one, none, by_place(2, {(0, 1): LARGEST, (1, 1): LARGEST}))
     yield from overflow("lesser", [0.0, 4.0], one, none, by_place(2, {(0, 1): 0.5 * LARGEST}))
@@ -183,8 +183,8 @@ def by_lesser():
     yield from overflow("none", [0.0, 2.0], one, none, by_place(2, {(0, 1): LARGEST}))
     yield from overflow("none", [0.0, 2.0], one, none, by_place(2, {(0, 1): LARGEST, (1, 1): -LARGEST}))
     # In the last block alone, with a kernel that is not 0.
-    free, sigma = by_place(3, {(0, 0): 1.0, (1, 1): 1.0, (2, 2): 1e160}), by_place(3, {(1, 0): 1.0, (2, 2): 1e-160})
-    yield from overflow("lesser", [0.0, 1.0, 2.0], free, sigma, by_place(3, {(2, 2): 1.0}))
+    free, self_energy = by_place(3, {(0, 0): 1.0, (1, 1): 1.0, (2, 2): 1e160}), by_place(3, {(1, 0): 1.0, (2, 2): 1e-160})
+    yield from overflow("lesser", [0.0, 1.0, 2.0], free, self_energy, by_place(3, {(2, 2): 1.0}))
     free = with_entries(2, 2, {(0, 0, 0, 1): (1e200, 0.0), (1, 1, 1, 1): (1.0, 0.0)})
     yield from overflow("lesser", [0.0, 1.0], free, [0.0] * 32, with_entries(2, 2, {(0, 1, 1, 1): (0.0, 1e200)}), 2)
 
@@ -210,8 +210,8 @@ def above_the_diagonal():
     rng = random.Random(13)
     for function, (points, orbitals) in itertools.product(GIVEN, [(2, 1), (3, 1), (3, 2)]):
         count = function_length(points, orbitals)
-        free, sigma, source = (some("plain", count, rng) for _ in range(3))
-        yield call(function, quarters(points), free, sigma, source, orbitals, 1.0)
+        free, self_energy, lesser_self_energy = (some("plain", count, rng) for _ in range(3))
+        yield call(function, quarters(points), free, self_energy, lesser_self_energy, orbitals, 1.0)
     # Infinite norms: the residual is a NaN, or 0.
     huge = by_place(2, {(0, 0): 1.0, (0, 1): (LARGEST, LARGEST), (1, 1): 1.0})
     for function in (DYSON_DEFAULT, RUN):
@@ -228,9 +228,9 @@ def not_retarded():
     wrong = by_place(3, {(0, 0): LARGEST, (1, 2): LARGEST})
     worse = by_place(3, {(0, 0): 4.0, (0, 2): 1.0, (1, 2): 2.0})
     twos = [2.0 * x for x in ones(3)]
-    for function, (free, sigma) in itertools.product(GIVEN, [(wrong, worse), (worse, wrong), (twos, wrong), (wrong, twos)]):
-        assert stage(3, 1, [0.0, 1.0, 2.0], free, sigma, [0.0] * 18) == "K"
-        yield call(function, [0.0, 1.0, 2.0], free, sigma)
+    for function, (free, self_energy) in itertools.product(GIVEN, [(wrong, worse), (worse, wrong), (twos, wrong), (wrong, twos)]):
+        assert stage(3, 1, [0.0, 1.0, 2.0], free, self_energy, [0.0] * 18) == "K"
+        yield call(function, [0.0, 1.0, 2.0], free, self_energy)
     yield call(DYSON_DEFAULT, [0.0, 1.0, 2.0], worse, wrong)
     yield call(DYSON_DEFAULT, [0.0, 1.0, 2.0], ones(3), worse)
     # The second operand's place comes first, and only the second is above the tolerance.

@@ -1,33 +1,26 @@
 -- Document 01, "Bench cases (P is proved)". Assumes nothing.
-use mathlib.Core.Path.{_≡_, refl}
-use mathlib.Core.Bool.{false}
-use mathlib.Core.List.{List, [], _∷_}
-use Prim.Native.Nat.{suc, _+_, _-_, _*_, _^_}
-use lib.ListN.{replicate}
+use Rattle.lists.specs.Prelude.{_≡_, refl, false, List, [], _∷_, suc, _+_, _-_, _*_, _^_, replicate, Float, inf, binary64, ofBits, toBits}
 use lib.Ieee as Ieee
-use lib.Ieee.{Float, inf, binary64, ofBits, toBits}
-use Rattle.lists.specs.Indexed.{fold, allBelow}
 use Rattle.complex.specs.declared.Complex.{Complex}
-use Rattle.complex.specs.Arithmetic.{plusZero, one, finite, size, larger, real, cadd, cmul}
-use Rattle.complex.specs.Sum.{sumFrom, largestFrom, largestIn}
+use Rattle.complex.specs.Arithmetic.{plusZero, one, real}
 use Rattle.norm.specs.Norm.{norm}
 use Rattle.refusal.specs.declared.Verdict.the-variants.{Pass, Refused}
-use Rattle.refusal.specs.Verdict.{by, ask, _then_, askAll, afterwards}
-use Rattle.refusal.specs.Lines.{largeEnough, withinLimits, fitting, finiteTimes, risingTimes, finiteWeights, finiteEntries, validTolerance, retardedAt, finiteWork, timeBelow, realWithin}
-use Rattle.matrix.specs.Operations.{trace, largestNorm}
-use Rattle.grid.specs.Weights.{halfStep, fullWeight}
-use Rattle.grid.specs.Calls.{timeLines, gridLines, checkTimes}
+use Rattle.refusal.specs.Verdict.{by, ask, _then_, afterwards}
+use Rattle.refusal.specs.Checks.{finiteWork}
+use Rattle.grid.specs.Calls.{gridCallChecks, checkTimes}
 use Rattle.two_time.specs.Layout.{readAs}
-use Rattle.two_time.specs.Support.{scaleOf, residual, retarded}
-use Rattle.two_time.specs.Calls.{allLong, sizeLines, operandLines, inputLines, checkSupport}
-use Rattle.dyson.specs.Calls.{defaultTolerance, greenFine, dysonVerdict, dysonWithTolerance, dyson}
+use Rattle.support.specs.Support.{residual, checkSupport}
+use Rattle.two_time.specs.Calls.{inputChecks}
+use Rattle.two_time.specs.Computation.{checks}
 use Rattle.two_time.specs.Example.{floats}
+use Rattle.dyson.specs.Calls.{Equation, Solved, equationOf, defaultTolerance, solvedFinite, dysonVerdict, dysonWithTolerance, dyson}
+use Rattle.dyson.specs.Cases.{dysonComputation}
 use Rattle.transient_run.specs.declared.Solved.the-variants.{Accepted}
 use Rattle.transient_run.specs.Calls.{transientRun}
 use Rattle.transient_run.specs.P12 as P12
 use Rattle.observables.specs.declared.Observed.the-variants.{Number, NotReal}
 use Rattle.observables.specs.Density.{density}
-use Rattle.observables.specs.Calls.{observedNumber, observed, lesserLines, particleNumber}
+use Rattle.observables.specs.Calls.{observedNumber, observed, lesserChecks, particleNumber}
 use Rattle.run_file.specs.Program.{printed}
 use Rattle.run_file.specs.P12 as File
 use Rattle.bench_cases.specs.Printing.{retarded-inputs, prints}
@@ -40,6 +33,9 @@ before = replicate 18 one
 -- the imaginary number xi
 abbrev imaginary : Float → Complex
 imaginary x = record { re = plusZero; im = x }
+
+abbrev p11-run : Solved
+p11-run = dyson 3 1 P12.times P12.lower P12.lower before before
 
 pub record BenchCases : Type 0 where
   -- "P1 norm(3,4) = 5. P2 norm(−0,+0) = +0. P3 norm(2u,2u) = 3u. P4 largest twice: +infinity."
@@ -67,10 +63,10 @@ pub record BenchCases : Type 0 where
   pub p10-refused : particleNumber 2 1 (lesserWith threeQuarters) 0 half ≡ NotReal threeQuarters
   pub p10-answers : observedNumber (particleNumber 2 1 (lesserWith half) 0 half) ∷ observedNumber (particleNumber 2 1 (lesserWith threeQuarters) 0 half) ∷ [] ≡ 0 ∷ 14 ∷ []
   -- "P11 times 0,1,2, n=1, free and self-energy 1 on and below the diagonal, +0 above: K(2,0) = 2, G(1,0) = 1.5, G(2,0) = 3.5."
-  pub p11-answer : dyson 3 1 P12.times P12.lower P12.lower before before .answer ≡ Pass
-  pub p11-kernel : entry (dyson 3 1 P12.times P12.lower P12.lower before before .kernel) 2 0 ≡ real (whole 2)
-  pub p11-first : entry (dyson 3 1 P12.times P12.lower P12.lower before before .retarded) 1 0 ≡ real (ofBits binary64 0x3ff8_0000_0000_0000)
-  pub p11-second : entry (dyson 3 1 P12.times P12.lower P12.lower before before .retarded) 2 0 ≡ real (ofBits binary64 0x400c_0000_0000_0000)
+  pub p11-answer : p11-run .answer ≡ Pass
+  pub p11-kernel : entry (p11-run .kernel) 2 0 ≡ real (whole 2)
+  pub p11-first : entry (p11-run .retarded) 1 0 ≡ real (ofBits binary64 0x3ff8_0000_0000_0000)
+  pub p11-second : entry (p11-run .retarded) 2 0 ≡ real (ofBits binary64 0x400c_0000_0000_0000)
   -- "P12 the same with Σ^< = i everywhere: G^<(1,1) = 1.5625i, G^<(2,2) = 14.0625i. The program prints:" the text of its four lines
   pub p12-answer : transientRun (P12.run defaultTolerance before) .answer ≡ Accepted
   pub p12-first : entry (transientRun (P12.run defaultTolerance before) .lesser) 1 1 ≡ imaginary (ofBits binary64 0x3ff9_0000_0000_0000)
@@ -79,24 +75,27 @@ pub record BenchCases : Type 0 where
 
 -- ---- the cases, by computation; P11 and P12 from the stages of the run (specs/P12.antt of `transient_run`) and Printing.antt
 
-dyson-inputs : inputLines 3 1 P12.times (P12.lower ∷ P12.lower ∷ []) (before ∷ before ∷ []) ≡ Pass
-unfolding inputLines sizeLines allLong operandLines timeLines largeEnough withinLimits fitting finiteTimes risingTimes finiteWeights finiteEntries ask askAll _then_ fullWeight halfStep allBelow finite Ieee.ofBits Ieee.sub Ieee.mul Ieee.lt
+dyson-inputs : inputChecks 3 1 P12.times (P12.lower ∷ P12.lower ∷ []) (before ∷ before ∷ []) ≡ Pass
+unfolding checks
 dyson-inputs = refl
 
-dyson-verdict : dysonVerdict 3 1 defaultTolerance P12.times P12.lower P12.lower before before ≡ Pass
-unfolding dysonVerdict greenFine finiteWork ask _then_
-dyson-verdict = rw (dyson-inputs, retarded-inputs, P12.kernel-fine, P12.kernel-stage, P12.retarded-fine)
+abbrev equation : Equation
+equation = equationOf 3 1 P12.times P12.lower P12.lower
 
-dyson-outcome : dyson 3 1 P12.times P12.lower P12.lower before before ≡ record { answer = Pass; retarded = floats P12.retardedBits; kernel = floats P12.kernelBits }
+dyson-verdict : dysonVerdict equation defaultTolerance before before ≡ Pass
+unfolding dysonVerdict solvedFinite finiteWork ask _then_
+dyson-verdict = rw (dyson-inputs, retarded-inputs, P12.kernel-finite, P12.kernel-stage, P12.retarded-finite)
+
+dyson-outcome : p11-run ≡ record { answer = Pass; retarded = floats P12.retardedBits; kernel = floats P12.kernelBits }
 unfolding dyson dysonWithTolerance afterwards
 dyson-outcome = rw (dyson-verdict, P12.kernel-stage, P12.retarded-stage)
 
 run-outcome : transientRun (P12.run defaultTolerance before)
-    ≡ record { answer = Accepted; retarded = floats P12.retardedBits; lesser = floats P12.lesserBits; kernel = floats P12.kernelBits; mixed = floats P12.mixedBits }
+    ≡ record { answer = Accepted; retarded = floats P12.retardedBits; lesser = floats P12.lesserBits; kernel = floats P12.kernelBits; lesserAdvanced = floats P12.lesserAdvancedBits }
 run-outcome = P12.outcome defaultTolerance before refl retarded-inputs
 
 pub bench-cases : BenchCases
-unfolding norm checkTimes gridLines timeLines checkSupport sizeLines allLong operandLines largeEnough withinLimits fitting finiteTimes risingTimes finiteWeights finiteEntries validTolerance retarded retardedAt residual scaleOf timeBelow realWithin ask askAll _then_ fullWeight halfStep allBelow particleNumber observed observedNumber lesserLines trace density sumFrom largestNorm largestIn largestFrom fold larger size cadd cmul finite Ieee.ofInt Ieee.ofBits toBits Ieee.neg Ieee.add Ieee.sub Ieee.mul Ieee.div Ieee.lt Ieee.ne Ieee.eq
+unfolding dysonComputation checkTimes gridCallChecks checkSupport particleNumber observed observedNumber lesserChecks density Ieee.ofInt
 bench-cases =
     record {
       p1 = refl;

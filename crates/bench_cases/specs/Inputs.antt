@@ -1,9 +1,6 @@
 -- The inputs of the bench cases, in the words of document 01.
-use Prim.Native.Nat.{ℕ}
-use mathlib.Core.List.{List, [], _∷_}
-use lib.IntN.{pos}
+use Rattle.lists.specs.Prelude.{ℕ, List, [], _∷_, pos, Float, binary64, ofBits}
 use lib.Ieee as Ieee
-use lib.Ieee.{Float, binary64, ofBits}
 use Rattle.complex.specs.declared.Complex.{Complex}
 use Rattle.complex.specs.Arithmetic.{plusZero, one}
 use Rattle.two_time.specs.Layout.{readAs}

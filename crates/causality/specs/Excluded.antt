@@ -1,38 +1,32 @@
 -- Demand 3 excludes a solver that reads later data: the transient run but for G(0,0), which it takes from free at the last point. Assumes nothing.
-use mathlib.Core.Path.{_≡_, refl, sym, ap, _∙_}
-use mathlib.Core.Bool.{cond, _&&_}
-use Prim.Native.Nat.{ℕ, _-_, _<_}
-use native.Mathlib.Omega.{arith}
-use lib.Dec.{eqb}
-use lib.ListN.{getD}
+use Rattle.lists.specs.Prelude.{_≡_, refl, sym, ap, _∙_, cond, _&&_, ℕ, _-_, _<_, arith, eqb, getD, nan, binary64, toBits}
 use lib.Ieee as Ieee
-use lib.Ieee.{nan, binary64, toBits}
 use Rattle.complex.specs.declared.Complex.{Complex}
 use Rattle.refusal.specs.declared.Verdict.the-variants.{Pass}
-use Rattle.matrix.specs.Agreement.{Agree}
+use Rattle.block.specs.Agreement.{Agree}
 use Rattle.two_time.specs.Layout.{TwoTime}
-use Rattle.two_time.specs.Reading.{read-back}
+use Rattle.two_time.specs.ReadBack.{read-back}
 use Rattle.transient_run.specs.declared.Solved.the-variants.{Accepted}
-use Rattle.transient_run.specs.Calls.{Run, solved, kernelOfRun, mixedOfRun, runVerdict}
+use Rattle.transient_run.specs.Calls.{Run, solved, kernelOfRun, lesserAdvancedOfRun, runVerdict}
 use Rattle.causality.specs.Statement.{Solver, of, SameTo, Demand3}
 use Rattle.causality.specs.Stages.{SquareTo}
 use Rattle.causality.specs.Solvers.{left-made, solverOf}
-use Rattle.causality.specs.Theorem.{green, lesser}
+use Rattle.causality.specs.Theorem.{retarded, lesser}
 use Rattle.causality.specs.Prefix.{run, passes, short, two, short-passes, to-zero, one-entry}
 
 abbrev last : Run → ℕ
 last r = r .points - 1
 
-abbrev lateGreen : Run → TwoTime
-lateGreen r t u a b = cond (eqb t 0 && eqb u 0) (of r (r .free) (last r) (last r) a b) (green r t u a b)
+abbrev lateRetarded : Run → TwoTime
+lateRetarded r t u a b = cond (eqb t 0 && eqb u 0) (of r (r .free) (last r) (last r) a b) (retarded r t u a b)
 
 abbrev pub lateStart : Solver
-lateStart = solverOf lateGreen lesser kernelOfRun mixedOfRun
+lateStart = solverOf lateRetarded lesser kernelOfRun lesserAdvancedOfRun
 
 -- what it leaves at G(0,0)
 starts-late : (r : Run) → runVerdict r ≡ Pass → 0 < r .points → 0 < r .orbitals → of r (lateStart r .retarded) 0 0 0 0 ≡ of r (r .free) (last r) (last r) 0 0
 unfolding solverOf
-starts-late r v hp ho = rw (left-made (runVerdict r) _ (r .retarded) v) (read-back (r .orbitals) (r .points) (lateGreen r) 0 0 0 0 hp hp ho ho)
+starts-late r v hp ho = rw (left-made (runVerdict r) _ (r .retarded) v) (read-back (r .orbitals) (r .points) (lateRetarded r) 0 0 0 0 hp hp ho ho)
 
 accepted : (r : Run) → runVerdict r ≡ Pass → lateStart r .answer ≡ Accepted
 unfolding solverOf solved

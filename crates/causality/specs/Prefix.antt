@@ -1,33 +1,17 @@
 -- P12's run and the run of its first two points: both are accepted and agree up to 1, so what demand 3 supposes can be met, by runs of different
 -- N too. Assumes nothing.
-use mathlib.Core.Path.{_≡_, refl, ap}
-use mathlib.Core.List.{[], _∷_}
-use Prim.Native.Nat.{ℕ, zero, suc, _≤_}
-use native.Mathlib.Omega.{arith}
-use lib.ListN.{getD, replicate}
+use Rattle.lists.specs.Prelude.{_≡_, refl, ap, [], _∷_, ℕ, zero, suc, _≤_, arith, getD, replicate, Float, nan, binary64}
 use lib.Ieee as Ieee
-use lib.Ieee.{Float, nan, binary64}
-use Rattle.lists.specs.Indexed.{fold, join, allBelow}
-use Rattle.complex.specs.Arithmetic.{plusZero, one, finite, larger, cadd, cmul, conj, cfinite}
-use Rattle.complex.specs.Sum.{sumFrom, largestFrom, largestIn}
-use Rattle.norm.specs.Norm.{norm}
+use Rattle.complex.specs.Arithmetic.{plusZero, one}
 use Rattle.refusal.specs.declared.Verdict.the-variants.{Pass}
-use Rattle.refusal.specs.Verdict.{ask, _then_, askAll}
-use Rattle.refusal.specs.Lines.{largeEnough, withinLimits, fitting, finiteTimes, risingTimes, finiteWeights, finiteEntries, validTolerance, retardedAt, finiteWork}
-use Rattle.matrix.specs.Block.{Entries, layOut}
-use Rattle.matrix.specs.Operations.{product, scaled, adjoint, largestNorm}
-use Rattle.matrix.specs.Agreement.{Agree}
-use Rattle.grid.specs.Weights.{halfStep, fullWeight, intervalWeight}
-use Rattle.grid.specs.Calls.{timeLines}
-use Rattle.two_time.specs.Layout.{TwoTime, readAs, layOutAll, everywhere}
-use Rattle.two_time.specs.WeightedSum.{productAt, termAt, partialSum, weightedSum, finiteSum}
-use Rattle.two_time.specs.Sums.{termsAt, sumsOf, sumsFinite, sumsNumbers, sumsFine}
-use Rattle.two_time.specs.Support.{scaleOf, residual, retarded}
-use Rattle.two_time.specs.Calls.{allLong, sizeLines, operandLines, inputLines}
-use Rattle.dyson.specs.Retarded.{solve, retardedGreen, retardedFinite, retardedNumbers, retardedFine}
-use Rattle.dyson.specs.Calls.{supportLines, greenFine}
+use Rattle.block.specs.Block.{Entries}
+use Rattle.block.specs.Agreement.{Agree}
+use Rattle.two_time.specs.Layout.{TwoTime, readAs}
+use Rattle.dyson.specs.Calls.{supportChecks}
+use Rattle.dyson.specs.Cases.{dysonComputation}
 use Rattle.transient_run.specs.declared.Solved.the-variants.{Accepted}
-use Rattle.transient_run.specs.Calls.{Run, solved, runFine, runVerdict, transientRun}
+use Rattle.transient_run.specs.Calls.{Run, runOf, solved, runVerdict, transientRun}
+use Rattle.transient_run.specs.Cases.{runComputation}
 use Rattle.transient_run.specs.P12 as P12
 use Rattle.causality.specs.Statement.{of, SameTo, Comparable}
 use Rattle.causality.specs.Stages.{SquareTo}
@@ -36,8 +20,8 @@ use Rattle.causality.specs.Stages.{SquareTo}
 abbrev pub run : Run
 run = P12.run one (replicate 18 one)
 
-pub inputs-pass : supportLines 3 1 one (readAs 3 1 P12.lower) (readAs 3 1 P12.lower) ≡ Pass
-unfolding supportLines validTolerance retarded retardedAt residual scaleOf ask askAll _then_ largestNorm largestIn largestFrom fold larger norm finite Ieee.ofBits Ieee.div Ieee.lt Ieee.ne Ieee.eq
+pub inputs-pass : supportChecks 3 1 one (readAs 3 1 P12.lower) (readAs 3 1 P12.lower) ≡ Pass
+unfolding dysonComputation
 inputs-pass = refl
 
 pub passes : runVerdict run ≡ Pass
@@ -46,25 +30,15 @@ passes = P12.verdict one (replicate 18 one) refl inputs-pass
 -- the run of its first two points, with x for free's last entry
 abbrev pub short : Float → Run
 short x =
-    record {
-      points = 2;
-      orbitals = 1;
-      tolerance = one;
-      times = plusZero ∷ one ∷ [];
-      free = one ∷ plusZero ∷ plusZero ∷ plusZero ∷ one ∷ plusZero ∷ x ∷ plusZero ∷ [];
-      selfEnergy = one ∷ plusZero ∷ plusZero ∷ plusZero ∷ one ∷ plusZero ∷ one ∷ plusZero ∷ [];
-      lesserSelfEnergy = plusZero ∷ one ∷ plusZero ∷ one ∷ plusZero ∷ one ∷ plusZero ∷ one ∷ [];
-      retarded = replicate 8 one;
-      lesser = replicate 8 one;
-      kernel = replicate 8 one;
-      mixed = replicate 8 one;
-    }
+    let before = replicate 8 one in
+    runOf 2 1 one (plusZero ∷ one ∷ []) (one ∷ plusZero ∷ plusZero ∷ plusZero ∷ one ∷ plusZero ∷ x ∷ plusZero ∷ [])
+    (one ∷ plusZero ∷ plusZero ∷ plusZero ∷ one ∷ plusZero ∷ one ∷ plusZero ∷ []) (plusZero ∷ one ∷ plusZero ∷ one ∷ plusZero ∷ one ∷ plusZero ∷ one ∷ []) before before before before
 
 abbrev pub two : Float
 two = Ieee.ofBits binary64 0x4000_0000_0000_0000
 
 pub short-passes : (runVerdict (short one) ≡ Pass) × (runVerdict (short two) ≡ Pass)
-unfolding runVerdict runFine greenFine retardedFine retardedFinite retardedNumbers retardedGreen solve sumsFine sumsFinite sumsNumbers sumsOf termsAt layOutAll layOut join everywhere allBelow weightedSum partialSum termAt productAt finiteSum product scaled adjoint sumFrom fold intervalWeight halfStep fullWeight cadd cmul conj cfinite finite inputLines sizeLines allLong operandLines timeLines largeEnough withinLimits fitting finiteTimes risingTimes finiteWeights finiteEntries supportLines validTolerance retarded retardedAt residual scaleOf largestNorm largestIn largestFrom larger norm finiteWork ask askAll _then_ Ieee.ofBits Ieee.add Ieee.sub Ieee.mul Ieee.div Ieee.neg Ieee.lt Ieee.ne Ieee.eq
+unfolding runComputation
 short-passes = (refl, refl)
 
 answered : (r : Run) → runVerdict r ≡ Pass → transientRun r .answer ≡ Accepted

@@ -1,25 +1,18 @@
 -- Each stage of a run reads only what stands on and below the diagonal in rows to k, or with both indices to k: the four sums, by one lemma.
 -- Assumes nothing.
-use mathlib.Core.Path.{_≡_, refl}
-use mathlib.Core.List.{List}
-use Prim.Native.Nat.{ℕ, zero, suc, _≤_}
-use native.Mathlib.Nat.{le-trans}
-use native.Mathlib.Omega.{arith}
-use lib.Dec.{ltb}
-use lib.Ieee.{Float}
-use borrow.Author.Tests.{ltb-false}
+use Rattle.lists.specs.Prelude.{_≡_, refl, List, ℕ, zero, suc, _≤_, le-trans, arith, ltb, Float, ltb-false}
 use Rattle.lists.specs.Agreement.{cond-agree}
-use Rattle.matrix.specs.Block.{Entries}
-use Rattle.matrix.specs.Operations.{adjoint}
-use Rattle.matrix.specs.Agreement.{Agree, adjoint-agree}
+use Rattle.block.specs.Block.{Entries}
+use Rattle.block.specs.Operations.{adjoint}
+use Rattle.block.specs.Agreement.{Agree, adjoint-agree}
 use Rattle.grid.specs.Weights.{intervalWeight}
 use Rattle.grid.specs.Agreement.{AgreeTo, weight-agree}
-use Rattle.two_time.specs.declared.sums.Sums.the-variants.{Causal, Mixed, Lesser}
+use Rattle.two_time.specs.declared.sums.Sums.the-variants.{Causal, LesserAdvanced, Lesser}
 use Rattle.two_time.specs.Layout.{TwoTime}
 use Rattle.two_time.specs.WeightedSum.{weightedSum}
 use Rattle.two_time.specs.Agreement.{weighted-agree}
 use Rattle.two_time.specs.Sums.{interval, dysonTerms, termsAt, sumsOf}
-use Rattle.dyson.specs.Retarded.{solve, retardedGreen}
+use Rattle.dyson.specs.Retarded.{solve, retardedRetarded}
 
 -- two functions agree on and below the diagonal in rows to k; in rows to k; with both indices to k
 abbrev pub LowerTo : ℕ → ℕ → TwoTime → TwoTime → Type 0
@@ -58,9 +51,9 @@ module _ (n k : ℕ) (times times' : List Float) (ht : AgreeTo k times times') w
         interval-agree u t hk (λ s. x t s) (λ s. x' t s) (λ s. y s u) (λ s. y' s u) (λ s lo hi. hx t s hk hi) (λ s lo hi. hy s u (le-trans hi hk) lo)
 
     -- X(t,u) sums over s ≤ u
-    pub mixed-stage : (x x' g g' : TwoTime) → SquareTo n k x x' → SquareTo n k g g' → SquareTo n k (sumsOf Mixed points n times x g) (sumsOf Mixed points' n times' x' g')
+    pub lesser-advanced-stage : (x x' g g' : TwoTime) → SquareTo n k x x' → SquareTo n k g g' → SquareTo n k (sumsOf LesserAdvanced points n times x g) (sumsOf LesserAdvanced points' n times' x' g')
     unfolding sumsOf termsAt
-    mixed-stage x x' g g' hx hg t u hk hu =
+    lesser-advanced-stage x x' g g' hx hg t u hk hu =
         interval-agree 0 u hu (λ s. x t s) (λ s. x' t s) (λ s. adjoint (g u s)) (λ s. adjoint (g' u s))
         (λ s lo hi. hx t s hk (le-trans hi hu)) (λ s lo hi. adjoint-agree n (g u s) (g' u s) (hg u s hu (le-trans hi hu)))
 
@@ -86,6 +79,6 @@ module _ (n k : ℕ) (times times' : List Float) (ht : AgreeTo k times times') w
           right = λ s lo hi. solve-stage d s u (omega arith) lo;
         })
 
-    pub retarded-stage : RowsTo n k (retardedGreen n times f m) (retardedGreen n times' f' m')
-    unfolding retardedGreen
+    pub retarded-stage : RowsTo n k (retardedRetarded n times f m) (retardedRetarded n times' f' m')
+    unfolding retardedRetarded
     retarded-stage t u hk a b ha hb = cond-agree (ltb t u) _ _ _ _ (λ _. refl) (λ below. solve-stage (suc t) t u hk (ltb-false t u below) a b ha hb)

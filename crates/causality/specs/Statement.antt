@@ -1,14 +1,11 @@
 -- Document 01, "Words of demand 3": no later data reaches an earlier row.
-use mathlib.Core.Path.{_≡_}
-use mathlib.Core.List.{List}
-use Prim.Native.Nat.{ℕ, _≤_, _<_}
-use lib.Ieee.{Float}
+use Rattle.lists.specs.Prelude.{_≡_, List, ℕ, _≤_, _<_, Float}
 use Rattle.complex.specs.declared.Complex.{Complex}
 use Rattle.complex.specs.Arithmetic.{czero}
 use Rattle.refusal.specs.declared.Verdict.the-variants.{Pass}
 use Rattle.matrix.specs.declared.DenseMatrix.{DenseMatrix}
-use Rattle.matrix.specs.Block.{entriesOf}
-use Rattle.matrix.specs.Agreement.{Agree}
+use Rattle.matrix.specs.Dense.{entriesOf}
+use Rattle.block.specs.Agreement.{Agree}
 use Rattle.grid.specs.Agreement.{AgreeTo}
 use Rattle.two_time.specs.Layout.{TwoTime, readAs}
 use Rattle.dyson.specs.Calls.{Solved}
@@ -20,7 +17,7 @@ use Rattle.observables.specs.Calls.{particleNumber, oneBodyExpectation, bondFlo
 abbrev pub Solver : Type 0
 Solver = Run → Outcome
 
--- a list that a run was lent or left, as a function of places with that run's N and n
+-- a list that a run was given or left, as a function of places with that run's N and n
 abbrev pub of : Run → List Float → TwoTime
 of r xs = readAs (r .points) (r .orbitals) xs
 

@@ -1,27 +1,19 @@
 -- Demand 3 alone is weak: a solver that leaves +0 everywhere, and one that leaves the free function with +0 above the diagonal, meet the same
 -- statement, and P11 tells both from the definition. So the rows themselves are demand 2's. Assumes nothing.
-use mathlib.Core.Path.{_≡_, refl, sym, ap, _∙_}
-use mathlib.Core.Bool.{true, cond}
-use mathlib.Core.List.{List}
-use Prim.Native.Nat.{ℕ, _<_}
-use native.Mathlib.Omega.{arith}
-use lib.Dec.{ltb}
-use lib.ListN.{getD, replicate}
+use Rattle.lists.specs.Prelude.{_≡_, refl, sym, ap, _∙_, true, cond, List, ℕ, _<_, arith, ltb, getD, replicate, Float, nan, binary64, toBits, lt-ltb, ltb-false}
 use lib.Ieee as Ieee
-use lib.Ieee.{Float, nan, binary64, toBits}
-use borrow.Author.Tests.{lt-ltb, ltb-false}
 use Rattle.lists.specs.Indexed.{join}
 use Rattle.lists.specs.Agreement.{cond-agree}
 use Rattle.complex.specs.Arithmetic.{one, czero, finite, cfinite}
-use Rattle.matrix.specs.Block.{layOut}
+use Rattle.block.specs.Block.{layOut}
 use Rattle.two_time.specs.Layout.{TwoTime, layOutAll}
-use Rattle.two_time.specs.Support.{retarded}
+use Rattle.support.specs.Support.{retarded}
 use Rattle.transient_run.specs.Calls.{Run, Outcome, runVerdict, transientRun}
 use Rattle.transient_run.specs.P12 as P12
 use Rattle.causality.specs.Statement.{Solver, of, SameTo, Demand3}
 use Rattle.causality.specs.Stages.{RowsTo}
 use Rattle.causality.specs.Prefix.{run, inputs-pass, passes}
-use Rattle.causality.specs.Solvers.{told, left-made, solverOf, meets}
+use Rattle.causality.specs.Solvers.{withOrbitals, left-made, solverOf, meets}
 
 -- +0 everywhere
 abbrev nothing : Run → TwoTime
@@ -46,7 +38,7 @@ zero-finite = refl
 
 -- one argument for both: whatever G^R is, with G^< at +0
 no-lesser : (g : Run → TwoTime)
-    → ((k : ℕ) (r r' : Run) → SameTo k r (told r' (r .orbitals)) → RowsTo (r .orbitals) k (g r) (g (told r' (r .orbitals))))
+    → ((k : ℕ) (r r' : Run) → SameTo k r (withOrbitals r' (r .orbitals)) → RowsTo (r .orbitals) k (g r) (g (withOrbitals r' (r .orbitals))))
     → ((r : Run) (t u a b : ℕ) → t < u → g r t u a b ≡ czero) → Demand3 (solverOf g nothing cleared cleared)
 no-lesser g rows above =
     meets g nothing cleared cleared

@@ -1,10 +1,8 @@
 -- Two sums whose terms agree agree, and one more term of a sum. Assumes nothing.
-use mathlib.Core.Path.{_≡_, refl, _∙_}
-use Prim.Native.Nat.{ℕ, _+_, _<_}
+use Rattle.lists.specs.Prelude.{_≡_, refl, _∙_, ℕ, _+_, _<_, zero-add}
 use Rattle.lists.specs.Indexed.{fold}
-use native.Mathlib.Nat.{zero-add}
 use Rattle.lists.specs.Agreement.{fold-agree}
-use Rattle.lists.specs.Turns.{fold-more}
+use Rattle.lists.specs.Steps.{fold-more}
 use Rattle.complex.specs.declared.Complex.{Complex}
 use Rattle.complex.specs.Arithmetic.{cadd}
 use Rattle.complex.specs.Sum.{sumFrom}

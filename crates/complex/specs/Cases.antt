@@ -1,10 +1,6 @@
 -- Closed cases of the arithmetic: the expected bits are IEEE 754's, and reference/document01.py gives the same.
-use mathlib.Core.Path.{_≡_, refl}
-use mathlib.Core.Bool.{true, false}
-use mathlib.Core.List.{List, [], _∷_, map}
-use Prim.Native.Nat.{ℕ, zero, suc}
+use Rattle.lists.specs.Prelude.{_≡_, refl, true, false, List, [], _∷_, map, ℕ, zero, suc, Float, nan, inf, binary64, toBits}
 use lib.Ieee as Ieee
-use lib.Ieee.{Float, nan, inf, binary64, toBits}
 use Rattle.lists.specs.Indexed.{fold}
 use Rattle.complex.specs.declared.Complex.{Complex}
 use Rattle.complex.specs.Arithmetic.{plusZero, one, finite, size, larger, czero, cone, minusI, cadd, csub, cmul, conj, cfinite}

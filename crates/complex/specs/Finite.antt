@@ -1,10 +1,7 @@
 -- What is not finite stays so: a sum or a product is finite only where both sides are, so a test of the last result tests each step to it.
 -- Assumes nothing.
-use mathlib.Core.Path.{_≡_, refl, sym, _∙_}
-use mathlib.Core.Bool.{Bool, true, false, cond, Bool·beq}
-use lib.Dec.{eqb}
+use Rattle.lists.specs.Prelude.{_≡_, refl, sym, _∙_, Bool, true, false, cond, Bool·beq, eqb, Float, nan, inf, fin}
 use lib.Ieee as Ieee
-use lib.Ieee.{Float, nan, inf, fin}
 use Rattle.lists.specs.Agreement.{never, both}
 use Rattle.complex.specs.declared.Complex.{Complex}
 use Rattle.complex.specs.Arithmetic.{add, sub, mul, finite, cfinite, cadd, cmul}

@@ -1,8 +1,5 @@
 -- Complex numbers in a list of numbers, the real part before the imaginary (document 01, "Kept, renewed, left behind").
-use Prim.Native.Nat.{ℕ, _+_}
-use mathlib.Core.List.{List, [], _∷_}
-use lib.ListN.{getD}
-use lib.Ieee.{Float, nan}
+use Rattle.lists.specs.Prelude.{ℕ, _+_, List, [], _∷_, getD, Float, nan}
 use Rattle.complex.specs.declared.Complex.{Complex}
 
 -- the complex number whose real part stands at place i of xs

@@ -1,6 +1,5 @@
 -- Document 01, "Arithmetic under everything": "a sum starts at +0+0i and adds in index order". Every sum of the document is this one.
-use Prim.Native.Nat.{ℕ, _+_}
-use lib.Ieee.{Float}
+use Rattle.lists.specs.Prelude.{ℕ, _+_, Float}
 use Rattle.lists.specs.Indexed.{fold}
 use Rattle.complex.specs.declared.Complex.{Complex}
 use Rattle.complex.specs.Arithmetic.{cadd, czero, larger, plusZero}

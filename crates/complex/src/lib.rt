@@ -1,5 +1,7 @@
 // Complex numbers of two binary64 parts, by value (document 01, "Arithmetic under everything").
-ghost use mathlib.Core.Path.{_≡_};
+pub mod bits;
+
+ghost use Rattle.lists.specs.Prelude.{_≡_};
 ghost use Rattle.complex.specs.Arithmetic.{real, finite, size, larger, cadd, csub, cmul, conj, cfinite};
 
 pub struct Complex {

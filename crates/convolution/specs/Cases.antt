@@ -1,29 +1,25 @@
 -- Closed cases of both convolutions. Expected bits by reference/expected.py.
-use mathlib.Core.Path.{_≡_, refl}
-use mathlib.Core.List.{List, [], _∷_, map}
-use Prim.Native.Nat.{ℕ}
-use lib.ListN.{replicate}
+use Rattle.lists.specs.Prelude.{_≡_, refl, List, [], _∷_, map, ℕ, replicate, Float, nan, binary64, toBits}
 use lib.Ieee as Ieee
-use lib.Ieee.{Float, nan, binary64, toBits}
 use Rattle.lists.specs.Indexed.{fold, join, allBelow}
 use Rattle.complex.specs.Arithmetic.{plusZero, one, finite, cadd, cmul, cfinite}
 use Rattle.complex.specs.Sum.{sumFrom}
 use Rattle.refusal.specs.declared.Verdict.the-variants.{Refused}
 use Rattle.refusal.specs.Verdict.{by, ask, _then_, askAll, afterwards}
-use Rattle.refusal.specs.Lines.{largeEnough, withinLimits, fitting, finiteTimes, risingTimes, finiteWeights, finiteEntries, finiteWork}
-use Rattle.matrix.specs.Block.{layOut}
-use Rattle.matrix.specs.Operations.{product, scaled}
+use Rattle.refusal.specs.Checks.{largeEnough, withinLimits, fitting, finiteTimes, risingTimes, finiteWeights, finiteEntries, finiteWork}
+use Rattle.block.specs.Block.{layOut}
+use Rattle.block.specs.Operations.{product, scaled}
 use Rattle.grid.specs.Weights.{halfStep, fullWeight, intervalWeight}
-use Rattle.grid.specs.Calls.{timeLines}
+use Rattle.grid.specs.Calls.{gridChecks}
 use Rattle.two_time.specs.Layout.{layOutAll, everywhere}
 use Rattle.two_time.specs.WeightedSum.{productAt, termAt, partialSum, weightedSum, finiteSum}
-use Rattle.two_time.specs.Sums.{termsAt, sumsOf, sumsFinite, sumsNumbers, sumsFine}
-use Rattle.two_time.specs.Calls.{allLong, sizeLines, operandLines, inputLines}
+use Rattle.two_time.specs.Sums.{termsAt, sumsOf, sumsOfFinite, sumsNumbers, sumsFinite}
+use Rattle.two_time.specs.Calls.{allLong, sizeChecks, operandChecks, inputChecks}
 use Rattle.convolution.specs.Calls.{convolvedBy, timeConvolution, causalConvolution}
 
 -- what the cases compute with
 unfoldable computing : Unit {0}
-unfolding convolvedBy inputLines sizeLines allLong operandLines timeLines largeEnough withinLimits fitting finiteTimes risingTimes finiteWeights finiteEntries finiteWork ask askAll _then_ afterwards sumsNumbers sumsFine sumsOf sumsFinite termsAt layOutAll layOut join everywhere allBelow weightedSum partialSum termAt productAt finiteSum product scaled sumFrom fold fullWeight intervalWeight halfStep cadd cmul cfinite finite Ieee.ofBits toBits Ieee.add Ieee.sub Ieee.mul Ieee.neg Ieee.lt
+unfolding convolvedBy inputChecks sizeChecks allLong operandChecks gridChecks largeEnough withinLimits fitting finiteTimes risingTimes finiteWeights finiteEntries finiteWork ask askAll _then_ afterwards sumsNumbers sumsFinite sumsOf sumsOfFinite termsAt layOutAll layOut join everywhere allBelow weightedSum partialSum termAt productAt finiteSum product scaled sumFrom fold fullWeight intervalWeight halfStep cadd cmul cfinite finite Ieee.ofBits toBits Ieee.add Ieee.sub Ieee.mul Ieee.neg Ieee.lt
 computing = tt
 
 -- the numbers of these bit patterns, and back

@@ -1,13 +1,13 @@
 // Both convolutions over lent slices (document 01, convolutions): the meaning of each call is in specs/.
-ghost use mathlib.Core.Path.{_≡_};
+ghost use Rattle.lists.specs.Prelude.{_≡_};
 ghost use Rattle.convolution.specs.Calls.{convolvedBy, timeConvolution, causalConvolution};
-use grid::time_lines;
+use grid::check_grid;
 use refusal::Refusal;
 use refusal::Verdict;
 use sums::weighted_sums;
-use two_time::lines::has_length;
-use two_time::lines::operand;
-use two_time::lines::sizes;
+use two_time::checks::check_operand;
+use two_time::checks::check_sizes;
+use two_time::checks::has_length;
 use two_time::sums::Sums;
 
 // The convolution over all times, ∫ ds left(t,s)·right(s,t') by full weights: N³ products of blocks.
@@ -19,8 +19,8 @@ pub fn time_convolution(
     orbitals: usize,
     out: &mut [f64],
 ) -> Verdict
-    ensures { λ r. ⌜ (r ≡ timeConvolution points orbitals (now (times .entry)) (now (left .entry)) (now (right .entry)) (now (out .entry)) .answer)
-        × (now (out .exit) ≡ timeConvolution points orbitals (now (times .entry)) (now (left .entry)) (now (right .entry)) (now (out .entry)) .out) ⌝ }
+    ensures { λ r. ⌜ (let made = timeConvolution points orbitals (now (times .entry)) (now (left .entry)) (now (right .entry)) (now (out .entry)) in
+        (r ≡ made .answer) × (now (out .exit) ≡ made .out)) ⌝ }
 {
     convolve(Sums::Full, times, left, right, points, orbitals, out)
 }
@@ -34,13 +34,13 @@ pub fn causal_volterra_convolution(
     orbitals: usize,
     out: &mut [f64],
 ) -> Verdict
-    ensures { λ r. ⌜ (r ≡ causalConvolution points orbitals (now (times .entry)) (now (left .entry)) (now (right .entry)) (now (out .entry)) .answer)
-        × (now (out .exit) ≡ causalConvolution points orbitals (now (times .entry)) (now (left .entry)) (now (right .entry)) (now (out .entry)) .out) ⌝ }
+    ensures { λ r. ⌜ (let made = causalConvolution points orbitals (now (times .entry)) (now (left .entry)) (now (right .entry)) (now (out .entry)) in
+        (r ≡ made .answer) × (now (out .exit) ≡ made .out)) ⌝ }
 {
     convolve(Sums::Causal, times, left, right, points, orbitals, out)
 }
 
-// Both are one call: lines 1 to 7, then the sums at all places.
+// Both are one call: checks 1 to 7, then the sums at all places.
 fn convolve(
     sums: Sums,
     times: &[f64],
@@ -50,15 +50,15 @@ fn convolve(
     orbitals: usize,
     out: &mut [f64],
 ) -> Verdict
-    ensures { λ r. ⌜ (r ≡ convolvedBy sums points orbitals (now (times .entry)) (now (left .entry)) (now (right .entry)) (now (out .entry)) .answer)
-        × (now (out .exit) ≡ convolvedBy sums points orbitals (now (times .entry)) (now (left .entry)) (now (right .entry)) (now (out .entry)) .out) ⌝ }
+    ensures { λ r. ⌜ (let made = convolvedBy sums points orbitals (now (times .entry)) (now (left .entry)) (now (right .entry)) (now (out .entry)) in
+        (r ≡ made .answer) × (now (out .exit) ≡ made .out)) ⌝ }
 {
     let left_fits = has_length(points, orbitals, left);
     let right_fits = has_length(points, orbitals, right);
     let out_fits = has_length(points, orbitals, out);
     let fits = (times.len() == points) & (left_fits & (right_fits & out_fits));
-    let finite = operand(0, left).then(operand(1, right));
-    let verdict = sizes(points, orbitals, fits).then(time_lines(times, points).then(finite));
+    let finite = check_operand(0, left).then(check_operand(1, right));
+    let verdict = check_sizes(points, orbitals, fits).then(check_grid(times, points).then(finite));
     let Verdict::Pass = verdict else {
         return verdict;
     };

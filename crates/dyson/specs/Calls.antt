@@ -1,73 +1,77 @@
--- Document 01, Dyson: the outcome of `retarded_dyson_with_tolerance` and `retarded_dyson`.
-use Prim.Native.Nat.{ℕ}
-use mathlib.Core.Bool.{Bool, true, _&&_}
-use mathlib.Core.List.{List, [], _∷_}
-use lib.Ieee.{Float, binary64, ofBits}
+-- Document 01, Dyson: the outcome of `solve_retarded`, `retarded_dyson_with_tolerance` and `retarded_dyson`.
+use Rattle.lists.specs.Prelude.{ℕ, Bool, true, _&&_, List, [], _∷_, Float, binary64, ofBits}
 use Rattle.refusal.specs.declared.Verdict.{Verdict}
-use Rattle.refusal.specs.Verdict.{_then_, afterwards}
-use Rattle.refusal.specs.Lines.{finiteWork}
+use Rattle.refusal.specs.Verdict.{_then_, zeroed, afterwards}
+use Rattle.refusal.specs.Checks.{finiteWork}
 use Rattle.two_time.specs.Layout.{readAs}
-use Rattle.two_time.specs.Sums.{sumsNumbers, sumsFine}
+use Rattle.two_time.specs.Sums.{sumsNumbers, sumsFinite}
 use Rattle.two_time.specs.declared.sums.Sums.the-variants.{Causal}
 use Rattle.two_time.specs.declared.sums.Summed.{Summed}
-use Rattle.two_time.specs.Calls.{sizeLines, inputLines}
+use Rattle.two_time.specs.Calls.{sizeChecks, inputChecks}
 use Rattle.two_time.specs.Outcome.{summedAnswer, summedOut}
-use Rattle.dyson.specs.Retarded.{retardedNumbers, retardedFine}
+use Rattle.dyson.specs.Retarded.{retardedNumbers, retardedFinite}
 -- "Order: 8, 9 for free, 9 for self-energy"
-unfoldable pub use Rattle.two_time.specs.Calls.{supportLines}
+unfoldable pub use Rattle.support.specs.Support.{supportChecks}
 
--- the answer; the retarded function's slice and the kernel's scratch afterwards
+-- G = free + free ∘ self-energy ∘ G on the times
+pub record Equation : Type 0 where
+  pub points : ℕ
+  pub orbitals : ℕ
+  pub times : List Float
+  pub free : List Float
+  pub selfEnergy : List Float
+
+abbrev pub equationOf : ℕ → ℕ → List Float → List Float → List Float → Equation
+equationOf points orbitals times free selfEnergy = record { points = points; orbitals = orbitals; times = times; free = free; selfEnergy = selfEnergy }
+
+module _ (q : Equation) where
+  -- "K is the causal convolution of both", and G is made of it
+  abbrev pub kernelOf : List Float
+  kernelOf = sumsNumbers Causal (q .points) (q .orbitals) (q .times) (q .free) (q .selfEnergy)
+
+  abbrev pub retardedOf : List Float
+  retardedOf = retardedNumbers (q .points) (q .orbitals) (q .times) (q .free) kernelOf
+
+  -- every block of the two is finite, or 10
+  unfoldable pub solvedFinite : Bool
+  solvedFinite = sumsFinite Causal (q .points) (q .orbitals) (q .times) (q .free) (q .selfEnergy) && retardedFinite (q .points) (q .orbitals) (q .times) (q .free) kernelOf
+
+  -- checks 1 to 7, where the operands free and self-energy may be followed by others, then 8, 9 for free, 9 for self-energy
+  abbrev pub checksBefore : Float → List (List Float) → List (List Float) → Verdict
+  checksBefore tolerance operands outputs =
+      inputChecks (q .points) (q .orbitals) (q .times) (q .free ∷ q .selfEnergy ∷ operands) outputs
+      then supportChecks (q .points) (q .orbitals) tolerance (readAs (q .points) (q .orbitals) (q .free)) (readAs (q .points) (q .orbitals) (q .selfEnergy))
+
+-- `solve_retarded`, K and G alone: the answer, the retarded function's slice and the kernel's scratch afterwards
+pub record SumsSolved : Type 0 where
+  pub answer : Summed
+  pub retarded : List Float
+  pub kernel : List Float
+
+unfoldable pub solvedRetarded : Equation → List Float → List Float → SumsSolved
+solvedRetarded q retarded kernel =
+    let answer = summedAnswer (sizeChecks (q .points) (q .orbitals) true (q .free ∷ q .selfEnergy ∷ retarded ∷ kernel ∷ [])) (solvedFinite q) in
+    record { answer = answer; retarded = summedOut answer (retardedOf q) retarded; kernel = summedOut answer (kernelOf q) kernel }
+
+-- a Dyson call: the answer, the retarded function's slice and the kernel's scratch afterwards
 pub record Solved : Type 0 where
   pub answer : Verdict
   pub retarded : List Float
   pub kernel : List Float
 
--- "retarded_dyson_with_tolerance; default 1e-12 in retarded_dyson": the binary64 nearest to 1e-12
-abbrev pub defaultTolerance : Float
-defaultTolerance = ofBits binary64 0x3d71_9799_812d_ea11
-
--- "K is the causal convolution of both", G is made of it, and every block of the two is finite or 10
-module _ (points orbitals : ℕ) (times free selfEnergy : List Float) where
-  abbrev pub kernelOf : List Float
-  kernelOf = sumsNumbers Causal points orbitals times free selfEnergy
-
-  abbrev pub greenOf : List Float
-  greenOf = retardedNumbers points orbitals times free kernelOf
-
-  unfoldable pub greenFine : Bool
-  greenFine = sumsFine Causal points orbitals times free selfEnergy && retardedFine points orbitals times free kernelOf
-
--- `solve_retarded`: K and G alone
-pub record RetardedLeft : Type 0 where
-  pub answer : Summed
-  pub retarded : List Float
-  pub kernel : List Float
-
-unfoldable pub solvedRetarded : ℕ → ℕ → List Float → List Float → List Float → List Float → List Float → RetardedLeft
-solvedRetarded points orbitals times free selfEnergy retarded kernel =
-    let answer = summedAnswer (sizeLines points orbitals true (free ∷ selfEnergy ∷ retarded ∷ kernel ∷ [])) (greenFine points orbitals times free selfEnergy) in
-    record {
-      answer = answer;
-      retarded = summedOut answer (greenOf points orbitals times free selfEnergy) retarded;
-      kernel = summedOut answer (kernelOf points orbitals times free selfEnergy) kernel;
-    }
-
--- `retarded_dyson_with_tolerance`: lines 1 to 7, then 8, 9 for free, 9 for self-energy, 10
-unfoldable pub dysonVerdict : ℕ → ℕ → Float → List Float → List Float → List Float → List Float → List Float → Verdict
-dysonVerdict points orbitals tolerance times free selfEnergy retarded kernel =
-    inputLines points orbitals times (free ∷ selfEnergy ∷ []) (retarded ∷ kernel ∷ [])
-    then supportLines points orbitals tolerance (readAs points orbitals free) (readAs points orbitals selfEnergy)
-    then finiteWork (greenFine points orbitals times free selfEnergy)
+-- `retarded_dyson_with_tolerance`: checks 1 to 9, then 10
+unfoldable pub dysonVerdict : Equation → Float → List Float → List Float → Verdict
+dysonVerdict q tolerance retarded kernel = checksBefore q tolerance [] (retarded ∷ kernel ∷ []) then finiteWork (solvedFinite q)
 
 unfoldable pub dysonWithTolerance : ℕ → ℕ → Float → List Float → List Float → List Float → List Float → List Float → Solved
 dysonWithTolerance points orbitals tolerance times free selfEnergy retarded kernel =
-    let verdict = dysonVerdict points orbitals tolerance times free selfEnergy retarded kernel in
-    record {
-      answer = verdict;
-      retarded = afterwards verdict (greenOf points orbitals times free selfEnergy) retarded;
-      kernel = afterwards verdict (kernelOf points orbitals times free selfEnergy) kernel;
-    }
+    let q = equationOf points orbitals times free selfEnergy in
+    let verdict = dysonVerdict q tolerance retarded kernel in
+    record { answer = verdict; retarded = afterwards zeroed verdict (retardedOf q) retarded; kernel = afterwards zeroed verdict (kernelOf q) kernel }
 
--- `retarded_dyson`
+-- `retarded_dyson`: "default 1e-12", the binary64 nearest to it
+abbrev pub defaultTolerance : Float
+defaultTolerance = ofBits binary64 0x3d71_9799_812d_ea11
+
 unfoldable pub dyson : ℕ → ℕ → List Float → List Float → List Float → List Float → List Float → Solved
 dyson points orbitals = dysonWithTolerance points orbitals defaultTolerance

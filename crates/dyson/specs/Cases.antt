@@ -1,30 +1,21 @@
 -- Closed cases of the Dyson call: P11 of document 01, a run with two orbitals (reference/expected.py, case c), and each refusal of its own.
-use mathlib.Core.Path.{_≡_, refl}
-use mathlib.Core.List.{List, [], _∷_, _++_}
-use Prim.Native.Nat.{ℕ}
-use lib.ListN.{replicate, take}
+use Rattle.lists.specs.Prelude.{_≡_, refl, List, [], _∷_, _++_, ℕ, replicate, take, Float, binary64}
 use lib.Ieee as Ieee
-use lib.Ieee.{Float, binary64, toBits}
-use Rattle.lists.specs.Indexed.{fold, join, allBelow}
-use Rattle.complex.specs.Arithmetic.{plusZero, one, finite, larger, cadd, cmul, cfinite}
-use Rattle.complex.specs.Sum.{sumFrom, largestFrom, largestIn}
-use Rattle.norm.specs.Norm.{norm}
+use Rattle.complex.specs.Arithmetic.{plusZero, one}
+use Rattle.refusal.specs.declared.Verdict.{Verdict}
 use Rattle.refusal.specs.declared.Verdict.the-variants.{Pass, Refused}
-use Rattle.refusal.specs.Verdict.{ask, _then_, askAll, numberOf, afterwards}
-use Rattle.refusal.specs.Lines.{largeEnough, withinLimits, fitting, finiteTimes, risingTimes, finiteWeights, finiteEntries, validTolerance, retardedAt, finiteWork}
-use Rattle.matrix.specs.Block.{layOut}
-use Rattle.matrix.specs.Operations.{product, scaled, largestNorm}
-use Rattle.grid.specs.Weights.{halfStep, fullWeight, intervalWeight}
-use Rattle.grid.specs.Calls.{timeLines}
-use Rattle.two_time.specs.Layout.{layOutAll, everywhere}
-use Rattle.two_time.specs.WeightedSum.{productAt, termAt, partialSum, weightedSum, finiteSum}
-use Rattle.two_time.specs.Sums.{termsAt, sumsOf, sumsFinite, sumsNumbers, sumsFine}
-use Rattle.two_time.specs.Support.{scaleOf, residual, retarded}
-use Rattle.two_time.specs.Calls.{allLong, sizeLines, operandLines, inputLines}
-use Rattle.dyson.specs.Retarded.{solve, retardedGreen, retardedFinite, retardedNumbers, retardedFine}
-use Rattle.dyson.specs.Calls.{Solved, kernelOf, greenOf, supportLines, greenFine, dysonVerdict, dysonWithTolerance}
+use Rattle.refusal.specs.Verdict.{numberOf}
+use Rattle.support.specs.Support.{scaleOf, residual, retarded}
+use Rattle.two_time.specs.Computation.{computation}
 use Rattle.two_time.specs.Example as Example
 use Rattle.two_time.specs.Example.{floats, bits}
+use Rattle.dyson.specs.Retarded.{solve, retardedRetarded, retardedNumbers, retardedFinite}
+use Rattle.dyson.specs.Calls.{Solved, Equation, equationOf, kernelOf, retardedOf, supportChecks, solvedFinite, dysonVerdict, dysonWithTolerance}
+
+-- what cases of Dyson calls compute with
+unfoldable pub dysonComputation : Unit {0}
+unfolding computation scaleOf residual retarded supportChecks solve retardedRetarded retardedNumbers retardedFinite solvedFinite dysonVerdict dysonWithTolerance
+dysonComputation = tt
 
 abbrev half : Float
 half = Ieee.ofBits binary64 0x3fe0000000000000
@@ -42,13 +33,16 @@ p11-run = dysonWithTolerance 3 1 half (floats (0 ∷ 0x3ff0000000000000 ∷ 0x40
 p11 : (p11-run .answer ≡ Pass)
     × (bits (p11-run .retarded) ≡ 0x3ff0000000000000 ∷ 0 ∷ 0 ∷ 0 ∷ 0 ∷ 0 ∷ 0x3ff8000000000000 ∷ 0 ∷ 0x3ff0000000000000 ∷ 0 ∷ 0 ∷ 0 ∷ 0x400c000000000000 ∷ 0 ∷ 0x3ff8000000000000 ∷ 0 ∷ 0x3ff0000000000000 ∷ 0 ∷ [])
     × (bits (p11-run .kernel) ≡ 0 ∷ 0 ∷ 0 ∷ 0 ∷ 0 ∷ 0 ∷ 0x3ff0000000000000 ∷ 0 ∷ 0 ∷ 0 ∷ 0 ∷ 0 ∷ 0x4000000000000000 ∷ 0 ∷ 0x3ff0000000000000 ∷ 0 ∷ 0 ∷ 0 ∷ [])
-unfolding dysonWithTolerance dysonVerdict supportLines greenFine sumsNumbers sumsFine retardedNumbers retardedFine inputLines sizeLines allLong operandLines timeLines largeEnough withinLimits fitting finiteTimes risingTimes finiteWeights finiteEntries validTolerance finiteWork retarded retardedAt residual scaleOf ask askAll _then_ afterwards layOutAll layOut join everywhere allBelow sumsOf sumsFinite termsAt solve retardedGreen retardedFinite weightedSum partialSum termAt productAt finiteSum product scaled largestNorm largestIn largestFrom sumFrom fold fullWeight intervalWeight halfStep larger norm cadd cmul cfinite finite Ieee.ofBits toBits Ieee.add Ieee.sub Ieee.mul Ieee.neg Ieee.div Ieee.lt Ieee.ne Ieee.eq
+unfolding dysonComputation
 p11 = (refl, refl, refl)
 
 -- two orbitals
-two-orbitals : (bits (kernelOf 3 2 Example.times Example.free Example.selfEnergy) ≡ Example.kernelBits)
-    × (bits (greenOf 3 2 Example.times Example.free Example.selfEnergy) ≡ Example.retardedBits)
-unfolding dysonWithTolerance dysonVerdict supportLines greenFine sumsNumbers sumsFine retardedNumbers retardedFine inputLines sizeLines allLong operandLines timeLines largeEnough withinLimits fitting finiteTimes risingTimes finiteWeights finiteEntries validTolerance finiteWork retarded retardedAt residual scaleOf ask askAll _then_ afterwards layOutAll layOut join everywhere allBelow sumsOf sumsFinite termsAt solve retardedGreen retardedFinite weightedSum partialSum termAt productAt finiteSum product scaled largestNorm largestIn largestFrom sumFrom fold fullWeight intervalWeight halfStep larger norm cadd cmul cfinite finite Ieee.ofBits toBits Ieee.add Ieee.sub Ieee.mul Ieee.neg Ieee.div Ieee.lt Ieee.ne Ieee.eq
+abbrev example : Equation
+example = equationOf 3 2 Example.times Example.free Example.selfEnergy
+
+two-orbitals : (bits (kernelOf example) ≡ Example.kernelBits)
+    × (bits (retardedOf example) ≡ Example.retardedBits)
+unfolding dysonComputation
 two-orbitals = (refl, refl)
 
 -- ---- refusals, with two points
@@ -70,12 +64,14 @@ refused : seen plusZero (square 0 0x3ff0000000000000 0 0) (square 0 0 0 0) ∷ s
     ∷ seen half (square 0x4090000000000000 0 0x7fd0000000000000 0) (square 0x3ff0000000000000 0 0 0) ∷ []
     ≡ (8 ∷ 0x3ff0000000000000 ∷ 0x3ff0000000000000 ∷ []) ∷ (9 ∷ 0x3ff0000000000000 ∷ 0x3ff0000000000000 ∷ []) ∷ (9 ∷ 0x3ff0000000000000 ∷ 0x3ff0000000000000 ∷ [])
     ∷ (10 ∷ 0 ∷ 0 ∷ []) ∷ (10 ∷ 0 ∷ 0 ∷ []) ∷ []
-unfolding dysonWithTolerance dysonVerdict supportLines greenFine sumsNumbers sumsFine retardedNumbers retardedFine inputLines sizeLines allLong operandLines timeLines largeEnough withinLimits fitting finiteTimes risingTimes finiteWeights finiteEntries validTolerance finiteWork retarded retardedAt residual scaleOf ask askAll _then_ afterwards layOutAll layOut join everywhere allBelow sumsOf sumsFinite termsAt solve retardedGreen retardedFinite weightedSum partialSum termAt productAt finiteSum product scaled largestNorm largestIn largestFrom sumFrom fold fullWeight intervalWeight halfStep larger norm cadd cmul cfinite finite Ieee.ofBits toBits Ieee.add Ieee.sub Ieee.mul Ieee.neg Ieee.div Ieee.lt Ieee.ne Ieee.eq numberOf
+unfolding dysonComputation
 refused = refl
 
 -- operand 0 is free, operand 1 the self-energy
-operands : dysonVerdict 2 1 half (plusZero ∷ one ∷ []) (square 0 0x3ff0000000000000 0 0) (square 0 0x3ff0000000000000 0 0) (replicate 8 one) (replicate 8 one)
-    ∷ dysonVerdict 2 1 half (plusZero ∷ one ∷ []) (square 0 0 0 0) (square 0 0x3ff0000000000000 0 0) (replicate 8 one) (replicate 8 one) ∷ []
+abbrev refusal : List Float → List Float → Verdict
+refusal free selfEnergy = dysonVerdict (equationOf 2 1 (plusZero ∷ one ∷ []) free selfEnergy) half (replicate 8 one) (replicate 8 one)
+
+operands : refusal (square 0 0x3ff0000000000000 0 0) (square 0 0x3ff0000000000000 0 0) ∷ refusal (square 0 0 0 0) (square 0 0x3ff0000000000000 0 0) ∷ []
     ≡ Refused (record { number = 9; operand = 0; first = 0; second = 1; part = one }) ∷ Refused (record { number = 9; operand = 1; first = 0; second = 1; part = one }) ∷ []
-unfolding dysonWithTolerance dysonVerdict supportLines greenFine sumsNumbers sumsFine retardedNumbers retardedFine inputLines sizeLines allLong operandLines timeLines largeEnough withinLimits fitting finiteTimes risingTimes finiteWeights finiteEntries validTolerance finiteWork retarded retardedAt residual scaleOf ask askAll _then_ afterwards layOutAll layOut join everywhere allBelow sumsOf sumsFinite termsAt solve retardedGreen retardedFinite weightedSum partialSum termAt productAt finiteSum product scaled largestNorm largestIn largestFrom sumFrom fold fullWeight intervalWeight halfStep larger norm cadd cmul cfinite finite Ieee.ofBits toBits Ieee.add Ieee.sub Ieee.mul Ieee.neg Ieee.div Ieee.lt Ieee.ne Ieee.eq
+unfolding dysonComputation
 operands = refl

@@ -1,17 +1,12 @@
 -- The recursion as the document writes it: on and below the diagonal G(i,j) is the sum over G's own earlier rows. Assumes nothing.
-use mathlib.Core.Path.{_≡_, refl, sym, _∙_}
-use mathlib.Core.List.{List}
-use Prim.Native.Nat.{ℕ, zero, suc, _-_, _≤_, _<_}
-use native.Mathlib.Omega.{arith}
-use lib.Ieee.{Float}
-use borrow.Author.Tests.{le-ltb, lt-ltb}
+use Rattle.lists.specs.Prelude.{_≡_, refl, sym, _∙_, List, ℕ, zero, suc, _-_, _≤_, _<_, arith, Float, le-ltb, lt-ltb}
 use Rattle.complex.specs.Arithmetic.{czero}
-use Rattle.matrix.specs.Agreement.{Agree}
+use Rattle.block.specs.Agreement.{Agree}
 use Rattle.two_time.specs.Layout.{TwoTime}
 use Rattle.two_time.specs.WeightedSum.{weightedSum}
 use Rattle.two_time.specs.Sums.{dysonTerms}
 use Rattle.two_time.specs.Agreement.{weighted-agree}
-use Rattle.dyson.specs.Retarded.{solve, retardedGreen}
+use Rattle.dyson.specs.Retarded.{solve, retardedRetarded}
 
 module _ (n : ℕ) (times : List Float) (free k : TwoTime) where
   -- two functions that agree in the rows from j to i − 1 of column j give the same terms at (i,j)
@@ -36,19 +31,19 @@ module _ (n : ℕ) (times : List Float) (free k : TwoTime) where
   enough (suc d) (suc d') i j le l l' =
       same-terms (solve n times free k d) (solve n times free k d') i j (λ s lo hi. enough d d' s j lo (omega arith) (omega arith))
 
-  below : (i j a b : ℕ) → j ≤ i → retardedGreen n times free k i j a b ≡ solve n times free k (suc i) i j a b
-  unfolding retardedGreen
+  below : (i j a b : ℕ) → j ≤ i → retardedRetarded n times free k i j a b ≡ solve n times free k (suc i) i j a b
+  unfolding retardedRetarded
   below i j a b le = rw (le-ltb i j le)
 
   -- "G(i,j) for j ≤ i starts as free(i,j) and, for s from j to i−1, adds interval weight (s, j, i) times K(i,s)·G(s,j)."
-  pub recursion : (i j : ℕ) → j ≤ i → Agree n (retardedGreen n times free k i j) (weightedSum n (dysonTerms times free k (retardedGreen n times free k) i j))
+  pub recursion : (i j : ℕ) → j ≤ i → Agree n (retardedRetarded n times free k i j) (weightedSum n (dysonTerms times free k (retardedRetarded n times free k) i j))
   unfolding solve
   recursion i j le a b ha hb =
       below i j a b le
-      ∙ same-terms (solve n times free k i) (retardedGreen n times free k) i j
+      ∙ same-terms (solve n times free k i) (retardedRetarded n times free k) i j
       (λ s lo hi c d hc hd. enough i (suc s) s j lo (omega arith) (omega arith) c d hc hd ∙ sym (below s j c d lo)) a b ha hb
 
   -- "Above the diagonal +0."
-  pub above : (i j a b : ℕ) → i < j → retardedGreen n times free k i j a b ≡ czero
-  unfolding retardedGreen
+  pub above : (i j a b : ℕ) → i < j → retardedRetarded n times free k i j a b ≡ czero
+  unfolding retardedRetarded
   above i j a b less = rw (lt-ltb i j less)

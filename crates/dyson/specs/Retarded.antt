@@ -1,10 +1,6 @@
 -- Document 01, Dyson: "K is the causal convolution of both ... G(i,j) for j ≤ i starts as free(i,j) and, for s from j to i−1, adds interval
 -- weight (s, j, i) times K(i,s)·G(s,j). Above the diagonal +0."
-use Prim.Native.Nat.{ℕ, zero, suc}
-use mathlib.Core.Bool.{Bool, cond}
-use mathlib.Core.List.{List}
-use lib.Dec.{ltb}
-use lib.Ieee.{Float}
+use Rattle.lists.specs.Prelude.{ℕ, zero, suc, Bool, cond, List, ltb, Float}
 use Rattle.complex.specs.Arithmetic.{czero}
 use Rattle.two_time.specs.Layout.{TwoTime, readAs, layOutAll, everywhere}
 use Rattle.two_time.specs.WeightedSum.{weightedSum, finiteSum}
@@ -17,17 +13,16 @@ module _ (orbitals : ℕ) (times : List Float) (free k : TwoTime) where
   solve zero i j a b = czero
   solve (suc depth) i j a b = weightedSum orbitals (dysonTerms times free k (solve depth) i j) a b
 
-  unfoldable pub retardedGreen : TwoTime
-  retardedGreen i j a b = cond (ltb i j) czero (solve (suc i) i j a b)
+  unfoldable pub retardedRetarded : TwoTime
+  retardedRetarded i j a b = cond (ltb i j) czero (solve (suc i) i j a b)
 
-  -- every block made for G is finite: above the diagonal none is made
-  unfoldable pub retardedFinite : ℕ → Bool
-  retardedFinite points = everywhere points orbitals (λ i j a b. finiteSum orbitals (dysonTerms times free k retardedGreen i j) a b)
-
--- G over lent numbers, K read as it stands in its scratch: laid out, and whether every block made for it is finite
+-- G of slices, with K read as it stands in its scratch: laid out, and whether every block made for it is finite (above the diagonal none is made)
 module _ (points orbitals : ℕ) (times free kernel : List Float) where
-  unfoldable pub retardedNumbers : List Float
-  retardedNumbers = layOutAll points orbitals (retardedGreen orbitals times (readAs points orbitals free) (readAs points orbitals kernel))
+  abbrev pub retardedFrom : TwoTime
+  retardedFrom = retardedRetarded orbitals times (readAs points orbitals free) (readAs points orbitals kernel)
 
-  unfoldable pub retardedFine : Bool
-  retardedFine = retardedFinite orbitals times (readAs points orbitals free) (readAs points orbitals kernel) points
+  unfoldable pub retardedNumbers : List Float
+  retardedNumbers = layOutAll points orbitals retardedFrom
+
+  unfoldable pub retardedFinite : Bool
+  retardedFinite = everywhere points orbitals (λ i j. finiteSum orbitals (dysonTerms times (readAs points orbitals free) (readAs points orbitals kernel) retardedFrom i j))

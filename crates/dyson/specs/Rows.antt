@@ -1,14 +1,6 @@
 -- Row t of G from the rows before it, as they stand in a list: where these are G's, so is row t. Assumes nothing.
-use mathlib.Core.Path.{_≡_, refl, sym, ap, _∙_}
-use mathlib.Core.Bool.{Bool, true, false, cond, _||_}
-use mathlib.Core.List.{List}
-use Prim.Native.Nat.{ℕ, _+_, _-_, _*_, _≤_, _<_}
-use native.Mathlib.Nat.{mul-le-mul-right, add-mul, one-mul}
-use native.Mathlib.Omega.{arith}
-use lib.Dec.{ltb, eqb}
-use lib.ListN.{length, getD, drop, List·getD-append}
-use lib.Ieee.{Float, nan}
-use borrow.Author.Tests.{ltb-true, ltb-false}
+use Rattle.lists.specs.Prelude.{_≡_, refl, sym, ap, _∙_, Bool, true, false, cond, _||_, List, ℕ, _+_, _-_, _*_, _≤_, _<_, mul-le-mul-right, add-mul, one-mul, arith, ltb}
+use Rattle.lists.specs.Prelude.{eqb, length, getD, drop, List·getD-append, Float, nan, ltb-true, ltb-false}
 use Rattle.lists.specs.Indexed.{allBelow, allIn, join}
 use Rattle.lists.specs.Agreement.{all-agree, join-agree}
 use Rattle.lists.specs.Reading.{length-join, getD-join}
@@ -17,43 +9,64 @@ use Rattle.refusal.specs.Search.{all-no}
 use Rattle.complex.specs.declared.Complex.{Complex}
 use Rattle.complex.specs.Arithmetic.{czero, cfinite}
 use Rattle.complex.specs.Numbers.{pair}
-use Rattle.matrix.specs.Block.{layOut}
+use Rattle.block.specs.Block.{layOut}
 use Rattle.two_time.specs.Layout.{TwoTime, place, readAs, lengthOf, layOutAll, everywhere}
 use Rattle.two_time.specs.WeightedSum.{Terms, weightedSum, finiteSum}
 use Rattle.two_time.specs.Sums.{dysonTerms}
 use Rattle.two_time.specs.OneTest.{one-test}
-use Rattle.two_time.specs.Filling.{length-block, whole-length}
-use Rattle.two_time.specs.Reading.{read-back}
-use Rattle.groups.specs.Forward.{forwardSum, forwardEntry, forwardBlock, forwardFine, rowAt}
+use Rattle.block.specs.Length.{length-block}
+use Rattle.two_time.specs.Parts.{whole-length}
+use Rattle.two_time.specs.ReadBack.{read-back}
+use Rattle.groups.specs.Forward.{forwardSum, forwardEntry, forwardBlock, forwardFinite, rowAt}
 use Rattle.sums.specs.Forward.{row-is as row-begins, earlier}
-use Rattle.dyson.specs.Retarded.{retardedGreen, retardedNumbers, retardedFine, retardedFinite}
+use Rattle.dyson.specs.Retarded.{retardedFrom, retardedNumbers, retardedFinite}
 use Rattle.dyson.specs.Recursion.{same-terms, recursion, above}
 
-module _ (points n : ℕ) (times free kernel : List Float) where
-  abbrev pub green : TwoTime
-  green = retardedGreen n times (readAs points n free) (readAs points n kernel)
+-- what forward substitution is given
+pub record Substitution : Type 0 where
+  pub points : ℕ
+  pub orbitals : ℕ
+  pub times : List Float
+  pub free : List Float
+  pub kernel : List Float
+
+module _ (f : Substitution) where
+  abbrev points : ℕ
+  points = f .points
+
+  abbrev n : ℕ
+  n = f .orbitals
+
+  abbrev free : TwoTime
+  free = readAs points n (f .free)
+
+  abbrev kernel : TwoTime
+  kernel = readAs points n (f .kernel)
+
+  abbrev pub retarded : TwoTime
+  retarded = retardedFrom points n (f .times) (f .free) (f .kernel)
 
   abbrev terms : ℕ → ℕ → Terms
-  terms t u = dysonTerms times (readAs points n free) (readAs points n kernel) green t u
+  terms t u = dysonTerms (f .times) free kernel retarded t u
 
   abbrev pub rowOf : ℕ → List Float
-  rowOf t = join points (λ u. layOut n n (green t u))
+  rowOf t = join points (λ u. layOut n n (retarded t u))
 
-  abbrev pub rowFine : ℕ → Bool
-  rowFine t = allBelow points (λ u. allIn n n (λ a b. finiteSum n (terms t u) a b))
+  abbrev pub rowFinite : ℕ → Bool
+  rowFinite t = allBelow points (λ u. allIn n n (λ a b. finiteSum n (terms t u) a b))
 
   pub length-row : (t : ℕ) → length (rowOf t) ≡ points * (2 * (n * n))
-  length-row t = length-join points (2 * (n * n)) _ (λ u h. length-block n (green t u))
+  length-row t = length-join points (2 * (n * n)) _ (λ u h. length-block n (retarded t u))
 
   pub length-rows : (k : ℕ) → length (join k rowOf) ≡ k * (points * (2 * (n * n)))
   length-rows k = length-join k (points * (2 * (n * n))) rowOf (λ t h. length-row t)
 
   -- rows that are written are read as G's
-  pub rows-read : (d : List Float) (t : ℕ) → t ≤ points → (s u c e : ℕ) → s < t → u < points → c < n → e < n → readAs points n (over d (join t rowOf)) s u c e ≡ green s u c e
+  pub rows-read : (d : List Float) (t : ℕ) → t ≤ points → (s u c e : ℕ) → s < t → u < points → c < n → e < n → readAs points n (over d (join t rowOf)) s u c e ≡ retarded s u c e
   unfolding over layOutAll
   rows-read d t ht s u c e hs hu hc he =
       (λ i. record { re = number at (omega (arith, inside)) (omega (arith, begins)) i; im = number (at + 1) (omega (arith, inside)) (omega (arith, begins)) i })
-      ∙ read-back n points green s u c e (omega arith) hu hc he
+      ∙ read-back n points retarded s u c e (omega arith) hu hc he
     where
       w : ℕ
       w = points * (2 * (n * n))
@@ -70,7 +83,7 @@ module _ (points n : ℕ) (times free kernel : List Float) where
           let second : s * points * n * n ≤ ((s * points + u) * n + c) * n = mul-le-mul-right n (let h : s * points * n ≤ (s * points + u) * n + c = omega arith in h) in
           omega (arith, row-begins points n s)
 
-      number : (i : ℕ) → i < (s + 1) * w → s * w ≤ i → getD (over d (join t rowOf)) i nan ≡ getD (layOutAll points n green) i nan
+      number : (i : ℕ) → i < (s + 1) * w → s * w ≤ i → getD (over d (join t rowOf)) i nan ≡ getD (layOutAll points n retarded) i nan
       number i h l =
           let j : ℕ = i - s * w in
           let e : i ≡ s * w + j = omega arith in
@@ -83,37 +96,34 @@ module _ (points n : ℕ) (times free kernel : List Float) where
           ∙ sym (ap (λ (k : ℕ). getD (join points rowOf) k nan) e)
 
   -- row t
-  module _ (t : ℕ) (out : List Float) (rows : (s u c e : ℕ) → s < t → u < points → c < n → e < n → readAs points n out s u c e ≡ green s u c e) where
+  module _ (t : ℕ) (out : List Float) (rows : (s u c e : ℕ) → s < t → u < points → c < n → e < n → readAs points n out s u c e ≡ retarded s u c e) where
     module _ (u : ℕ) (hu : u < points) (a b : ℕ) (ha : a < n) (hb : b < n) where
-      sum-is : weightedSum n (forwardSum points n times free kernel out t u) a b ≡ weightedSum n (terms t u) a b
+      sum-is : weightedSum n (forwardSum points n (f .times) (f .free) (f .kernel) out t u) a b ≡ weightedSum n (terms t u) a b
       sum-is =
-          same-terms n times (readAs points n free) (readAs points n kernel) (readAs points n out) green t u (λ s lo hi c e hc he. rows s u c e hi hu hc he) a b ha hb
+          same-terms n (f .times) free kernel (readAs points n out) retarded t u (λ s lo hi c e hc he. rows s u c e hi hu hc he) a b ha hb
 
-      fine-is : finiteSum n (forwardSum points n times free kernel out t u) a b ≡ finiteSum n (terms t u) a b
-      fine-is = one-test n (forwardSum points n times free kernel out t u) a b ∙ ap (λ (z : Complex). eqb (t - u) 0 || cfinite z) sum-is ∙ sym (one-test n (terms t u) a b)
+      finite-is : finiteSum n (forwardSum points n (f .times) (f .free) (f .kernel) out t u) a b ≡ finiteSum n (terms t u) a b
+      finite-is = one-test n (forwardSum points n (f .times) (f .free) (f .kernel) out t u) a b ∙ ap (λ (z : Complex). eqb (t - u) 0 || cfinite z) sum-is ∙ sym (one-test n (terms t u) a b)
 
-      entry-is : (f : Bool) → ltb t u ≡ f → cond f czero (weightedSum n (forwardSum points n times free kernel out t u) a b) ≡ green t u a b
-      entry-is true e = sym (above n times (readAs points n free) (readAs points n kernel) t u a b (ltb-true _ _ e))
-      entry-is false e = sum-is ∙ sym (recursion n times (readAs points n free) (readAs points n kernel) t u (ltb-false _ _ e) a b ha hb)
+      entry-is : (flag : Bool) → ltb t u ≡ flag → cond flag czero (weightedSum n (forwardSum points n (f .times) (f .free) (f .kernel) out t u) a b) ≡ retarded t u a b
+      entry-is true e = sym (above n (f .times) free kernel t u a b (ltb-true _ _ e))
+      entry-is false e = sum-is ∙ sym (recursion n (f .times) free kernel t u (ltb-false _ _ e) a b ha hb)
 
-    pub row-fine-is : allBelow points (forwardFine points n times free kernel out t) ≡ rowFine t
-    unfolding forwardFine
-    row-fine-is = all-agree points _ _ (λ u hu. all-agree n _ _ (λ a ha. all-agree n _ _ (λ b hb. fine-is u hu a b ha hb)))
+    pub row-finite-is : allBelow points (forwardFinite points n (f .times) (f .free) (f .kernel) out t) ≡ rowFinite t
+    unfolding forwardFinite
+    row-finite-is = all-agree points _ _ (λ u hu. all-agree n _ _ (λ a ha. all-agree n _ _ (λ b hb. finite-is u hu a b ha hb)))
 
-    pub row-is : join points (forwardBlock points n times free kernel out t) ≡ rowOf t
+    pub row-is : join points (forwardBlock points n (f .times) (f .free) (f .kernel) out t) ≡ rowOf t
     unfolding forwardEntry layOut
     row-is = join-agree points _ _ (λ u hu. join-agree n _ _ (λ a ha. join-agree n _ _ (λ b hb. ap pair (entry-is u hu a b ha hb (ltb t u) refl))))
 
-  -- all rows are G laid out
-  pub all-rows : (d out : List Float) (k : ℕ) → k ≡ points → length d ≡ lengthOf points n → out ≡ over d (join k rowOf) → out ≡ retardedNumbers points n times free kernel
-  unfolding retardedNumbers layOutAll
-  all-rows d out k e long h =
-      h ∙ ap (λ (m : ℕ). over d (join m rowOf)) e ∙ over-all d (join points rowOf) (length-rows points ∙ whole-length points n ∙ sym long)
+  -- after all rows; or one that is not finite
+  pub all-rows : (before : List Float) {out : List Float} {k : ℕ} → k ≡ points → length before ≡ lengthOf points n → out ≡ over before (join k rowOf) → allBelow k rowFinite ≡ true
+      → (true ≡ retardedFinite points n (f .times) (f .free) (f .kernel)) × (out ≡ retardedNumbers points n (f .times) (f .free) (f .kernel))
+  unfolding retardedNumbers layOutAll retardedFinite everywhere
+  all-rows before e long h finite =
+      (sym (ap (λ (m : ℕ). allBelow m rowFinite) (sym e) ∙ finite), h ∙ ap (λ (m : ℕ). over before (join m rowOf)) e ∙ over-all before (join points rowOf) (length-rows points ∙ whole-length points n ∙ sym long))
 
-  pub all-fine : (k : ℕ) → k ≡ points → allBelow k rowFine ≡ true → retardedFine points n times free kernel ≡ true
-  unfolding retardedFine retardedFinite everywhere
-  all-fine k e h = ap (λ (m : ℕ). allBelow m rowFine) (sym e) ∙ h
-
-  pub one-lost : (t : ℕ) → t < points → rowFine t ≡ false → retardedFine points n times free kernel ≡ false
-  unfolding retardedFine retardedFinite everywhere
-  one-lost t ht h = all-no rowFine points t ht h
+  pub one-lost : (t : ℕ) → t < points → rowFinite t ≡ false → false ≡ retardedFinite points n (f .times) (f .free) (f .kernel)
+  unfolding retardedFinite everywhere
+  one-lost t ht h = sym (all-no rowFinite points t ht h)

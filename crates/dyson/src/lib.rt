@@ -1,20 +1,20 @@
 // The retarded Dyson equation on a time grid (document 01, Dyson): the meaning of each call is in specs/.
 mod forward;
 
-ghost use mathlib.Core.Path.{_≡_};
-ghost use Rattle.dyson.specs.Calls.{dyson, dysonWithTolerance, solvedRetarded};
+ghost use Rattle.lists.specs.Prelude.{_≡_};
+ghost use Rattle.dyson.specs.Calls.{dyson, dysonWithTolerance, equationOf, solvedRetarded};
 use forward::forward;
-use grid::time_lines;
+use grid::check_grid;
 use refusal::Refusal;
 use refusal::Verdict;
 use sums::weighted_sums;
+use support::check_retarded_inputs;
+use two_time::checks::all_fit;
+use two_time::checks::check_operand;
+use two_time::checks::check_sizes;
 use two_time::layout::clear;
-use two_time::lines::has_length;
-use two_time::lines::operand;
-use two_time::lines::sizes;
 use two_time::sums::Summed;
 use two_time::sums::Sums;
-use two_time::support::check_retarded_inputs;
 
 // K, the causal convolution of free and self-energy, in the scratch, and then G in the output: both +0 throughout where something is not
 // finite, and as they were where nothing is summed.
@@ -24,19 +24,14 @@ pub fn solve_retarded(
     self_energy: &[f64],
     points: usize,
     orbitals: usize,
-    green: &mut [f64],
+    retarded: &mut [f64],
     kernel: &mut [f64],
 ) -> Summed
-    ensures { λ r. ⌜ (r ≡ solvedRetarded points orbitals (now (times .entry)) (now (free .entry)) (now («self_energy» .entry)) (now (green .entry)) (now (kernel .entry)) .answer)
-        × (now (green .exit) ≡ solvedRetarded points orbitals (now (times .entry)) (now (free .entry)) (now («self_energy» .entry)) (now (green .entry)) (now (kernel .entry)) .retarded)
-        × (now (kernel .exit) ≡ solvedRetarded points orbitals (now (times .entry)) (now (free .entry)) (now («self_energy» .entry)) (now (green .entry)) (now (kernel .entry)) .kernel) ⌝ }
+    ensures { λ r. ⌜ (let solved = solvedRetarded (equationOf points orbitals (now (times .entry)) (now (free .entry)) (now («self_energy» .entry))) (now (retarded .entry)) (now (kernel .entry)) in
+        (r ≡ solved .answer) × (now (retarded .exit) ≡ solved .retarded) × (now (kernel .exit) ≡ solved .kernel)) ⌝ }
 {
-    let free_fits = has_length(points, orbitals, free);
-    let self_energy_fits = has_length(points, orbitals, self_energy);
-    let green_fits = has_length(points, orbitals, green);
-    let kernel_fits = has_length(points, orbitals, kernel);
-    let fits = free_fits & (self_energy_fits & (green_fits & kernel_fits));
-    let Verdict::Pass = sizes(points, orbitals, fits) else {
+    let fits = all_fit(free, self_energy, retarded, kernel, points, orbitals);
+    let Verdict::Pass = check_sizes(points, orbitals, fits) else {
         return Summed::Unfit;
     };
     let convolved = weighted_sums(
@@ -49,18 +44,18 @@ pub fn solve_retarded(
         kernel,
     );
     if !convolved.is_finite() {
-        clear(green);
+        clear(retarded);
         return Summed::Overflow;
     }
-    if forward(times, free, kernel, points, orbitals, green) {
+    if forward(times, free, kernel, points, orbitals, retarded) {
         return Summed::Finite;
     }
-    clear(green);
+    clear(retarded);
     clear(kernel);
     Summed::Overflow
 }
 
-// Solves G = free + free ∘ self-energy ∘ G: lines 1 to 7, then 8, 9 for free, 9 for the self-energy, 10. N(N+1)(N+2)/6 products
+// Solves G = free + free ∘ self-energy ∘ G: checks 1 to 7, then 8, 9 for free, 9 for the self-energy, 10. N(N+1)(N+2)/6 products
 // of blocks for K, which stays in the scratch, and (N−1)N(N+1)/6 for G.
 pub fn retarded_dyson_with_tolerance(
     times: &[f64],
@@ -69,20 +64,15 @@ pub fn retarded_dyson_with_tolerance(
     points: usize,
     orbitals: usize,
     tolerance: f64,
-    green: &mut [f64],
+    retarded: &mut [f64],
     kernel: &mut [f64],
 ) -> Verdict
-    ensures { λ r. ⌜ (r ≡ dysonWithTolerance points orbitals tolerance (now (times .entry)) (now (free .entry)) (now («self_energy» .entry)) (now (green .entry)) (now (kernel .entry)) .answer)
-        × (now (green .exit) ≡ dysonWithTolerance points orbitals tolerance (now (times .entry)) (now (free .entry)) (now («self_energy» .entry)) (now (green .entry)) (now (kernel .entry)) .retarded)
-        × (now (kernel .exit) ≡ dysonWithTolerance points orbitals tolerance (now (times .entry)) (now (free .entry)) (now («self_energy» .entry)) (now (green .entry)) (now (kernel .entry)) .kernel) ⌝ }
+    ensures { λ r. ⌜ (let solved = dysonWithTolerance points orbitals tolerance (now (times .entry)) (now (free .entry)) (now («self_energy» .entry)) (now (retarded .entry)) (now (kernel .entry)) in
+        (r ≡ solved .answer) × (now (retarded .exit) ≡ solved .retarded) × (now (kernel .exit) ≡ solved .kernel)) ⌝ }
 {
-    let free_fits = has_length(points, orbitals, free);
-    let self_energy_fits = has_length(points, orbitals, self_energy);
-    let green_fits = has_length(points, orbitals, green);
-    let kernel_fits = has_length(points, orbitals, kernel);
-    let long = free_fits & (self_energy_fits & (green_fits & kernel_fits));
-    let entries = operand(0, free).then(operand(1, self_energy));
-    let inputs = sizes(points, orbitals, (times.len() == points) & long).then(time_lines(
+    let fits = all_fit(free, self_energy, retarded, kernel, points, orbitals);
+    let entries = check_operand(0, free).then(check_operand(1, self_energy));
+    let inputs = check_sizes(points, orbitals, (times.len() == points) & fits).then(check_grid(
         times,
         points,
     ).then(entries));
@@ -91,7 +81,7 @@ pub fn retarded_dyson_with_tolerance(
     let Verdict::Pass = verdict else {
         return verdict;
     };
-    let solved = solve_retarded(times, free, self_energy, points, orbitals, green, kernel);
+    let solved = solve_retarded(times, free, self_energy, points, orbitals, retarded, kernel);
     if solved.is_finite() {
         return Verdict::Pass;
     }
@@ -105,12 +95,11 @@ pub fn retarded_dyson(
     self_energy: &[f64],
     points: usize,
     orbitals: usize,
-    green: &mut [f64],
+    retarded: &mut [f64],
     kernel: &mut [f64],
 ) -> Verdict
-    ensures { λ r. ⌜ (r ≡ dyson points orbitals (now (times .entry)) (now (free .entry)) (now («self_energy» .entry)) (now (green .entry)) (now (kernel .entry)) .answer)
-        × (now (green .exit) ≡ dyson points orbitals (now (times .entry)) (now (free .entry)) (now («self_energy» .entry)) (now (green .entry)) (now (kernel .entry)) .retarded)
-        × (now (kernel .exit) ≡ dyson points orbitals (now (times .entry)) (now (free .entry)) (now («self_energy» .entry)) (now (green .entry)) (now (kernel .entry)) .kernel) ⌝ }
+    ensures { λ r. ⌜ (let solved = dyson points orbitals (now (times .entry)) (now (free .entry)) (now («self_energy» .entry)) (now (retarded .entry)) (now (kernel .entry)) in
+        (r ≡ solved .answer) × (now (retarded .exit) ≡ solved .retarded) × (now (kernel .exit) ≡ solved .kernel)) ⌝ }
 {
     retarded_dyson_with_tolerance(
         times,
@@ -119,7 +108,7 @@ pub fn retarded_dyson(
         points,
         orbitals,
         f64::from_bits(0x3d71_9799_812d_ea11),
-        green,
+        retarded,
         kernel,
     )
 }

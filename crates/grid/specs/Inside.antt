@@ -1,12 +1,6 @@
 -- Inside an interval a weight is half one step: from the point before, at least the start, to the point after, at most the end. Assumes nothing.
-use mathlib.Core.Path.{_≡_, refl, sym}
-use mathlib.Core.Bool.{Bool, true, false, cond, _||_}
-use mathlib.Core.List.{List}
-use Prim.Native.Nat.{ℕ, _+_, _-_, _≤_, _<_, min, max}
-use native.Mathlib.Omega.{arith}
-use lib.Dec.{leb, ltb, eqb}
-use lib.Ieee.{Float}
-use borrow.Author.Tests.{leb-false, ltb-false, eqb-true, eqb-false}
+use Rattle.lists.specs.Prelude.{_≡_, refl, sym, Bool, true, false, cond, _||_, List, ℕ, _+_, _-_, _≤_, _<_, min, max, arith, leb, ltb, eqb, Float, leb-false, ltb-false}
+use Rattle.lists.specs.Prelude.{eqb-true, eqb-false}
 use Rattle.lists.specs.Agreement.{never}
 use Rattle.grid.specs.Weights.{halfStep, intervalWeight}
 

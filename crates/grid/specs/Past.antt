@@ -1,14 +1,6 @@
 -- A time past the end is a NaN, and so is a weight that reads it. Assumes nothing.
-use mathlib.Core.Path.{_≡_, refl}
-use mathlib.Core.Bool.{false}
-use mathlib.Core.List.{List}
-use Prim.Native.Nat.{ℕ, _+_, _-_, _≤_, _<_}
-use native.Mathlib.Omega.{arith}
-use lib.Dec.{eqb}
-use lib.ListN.{length, List·getD-eq-default}
+use Rattle.lists.specs.Prelude.{_≡_, refl, false, List, ℕ, _+_, _-_, _≤_, _<_, arith, eqb, length, List·getD-eq-default, Float, nan, eqb-true}
 use lib.Ieee as Ieee
-use lib.Ieee.{Float, nan}
-use borrow.Author.Tests.{eqb-true}
 use Rattle.lists.specs.Indexed.{allBelow}
 use Rattle.complex.specs.Arithmetic.{finite, mul, sub, div, plusZero}
 use Rattle.refusal.specs.Search.{all-no}

@@ -1,10 +1,5 @@
 -- Document 01, grid: the weights of the composite trapezoid rule.
-use Prim.Native.Nat.{ℕ, _+_, _-_}
-use mathlib.Core.Bool.{cond, _||_}
-use mathlib.Core.List.{List}
-use lib.Dec.{leb, ltb, eqb}
-use lib.ListN.{getD}
-use lib.Ieee.{Float, nan, binary64, ofBits}
+use Rattle.lists.specs.Prelude.{ℕ, _+_, _-_, cond, _||_, List, leb, ltb, eqb, getD, Float, nan, binary64, ofBits}
 use Rattle.complex.specs.Arithmetic.{sub, mul, plusZero}
 
 -- half the time from point j to point i: 0.5·(times[i] − times[j])

@@ -2,16 +2,12 @@
 // is a NaN to them.
 use refusal::Measured;
 use refusal::Verdict;
-use refusal::lines;
-ghost use mathlib.Core.Path.{_≡_};
-ghost use mathlib.Core.List.{[], _∷_};
-ghost use Prim.Native.Nat.{_+_, _-_, min, max};
-ghost use lib.ListN.{length, getD};
-ghost use lib.Ieee.{nan};
+use refusal::checks;
+ghost use Rattle.lists.specs.Prelude.{_≡_, [], _∷_, _+_, _-_, min, max, length, getD, nan};
 ghost use Rattle.lists.specs.Indexed.{join};
-ghost use Rattle.refusal.specs.Lines.{finiteWeights};
+ghost use Rattle.refusal.specs.Checks.{finiteWeights};
 ghost use Rattle.grid.specs.Weights.{halfStep, fullWeight, intervalWeight};
-ghost use Rattle.grid.specs.Calls.{timeLines, gridLines, checkTimes, fullWeights, intervalWeightOf};
+ghost use Rattle.grid.specs.Calls.{gridChecks, gridCallChecks, checkTimes, fullWeights, checkedIntervalWeight};
 
 // The time of a point.
 fn time_at(times: &[f64], i: usize) -> f64
@@ -60,7 +56,7 @@ fn previous(point: usize, start: usize) -> usize
 
 // The weight of a point in the trapezoid rule from start to end: 0 if start ≥ end or the point lies outside, half the
 // adjoining step at an end, half of next minus previous inside.
-pub fn trapezoid_weight(times: &[f64], point: usize, start: usize, end: usize) -> f64
+pub fn interval_weight(times: &[f64], point: usize, start: usize, end: usize) -> f64
     ensures { λ r. ⌜ r ≡ intervalWeight (now (times .entry)) point start end ⌝ }
 {
     if (end <= start) | ((point < start) | (end < point)) {
@@ -79,37 +75,37 @@ fn finite_weights(times: &[f64], points: usize) -> Verdict
     ensures { λ r. ⌜ r ≡ finiteWeights points (fullWeight points (now (times .entry))) ⌝ }
 {
     if times.len() < points {
-        return lines::numbered(false, 6);
+        return checks::numbered(false, 6);
     }
     let mut all = true;
     for i in 0..points {
         all = all & complex::is_finite(full_weight(times, points, i));
     }
-    lines::numbered(all, 6)
+    checks::numbered(all, 6)
 }
 
-// The lines 4, 5 and 6.
-pub fn time_lines(times: &[f64], points: usize) -> Verdict
-    ensures { λ r. ⌜ r ≡ timeLines points (now (times .entry)) ⌝ }
+// The checks 4, 5 and 6.
+pub fn check_grid(times: &[f64], points: usize) -> Verdict
+    ensures { λ r. ⌜ r ≡ gridChecks points (now (times .entry)) ⌝ }
 {
-    let rise = lines::rising_times(points, times);
-    lines::finite_times(points, times).then(rise.then(finite_weights(times, points)))
+    let rise = checks::rising_times(points, times);
+    checks::finite_times(points, times).then(rise.then(finite_weights(times, points)))
 }
 
-// The lines 1 to 6 of a call that is lent the times, with its own question of other lengths.
-fn grid_lines(times: &[f64], points: usize, fits: bool) -> Verdict
-    ensures { λ r. ⌜ r ≡ gridLines points (now (times .entry)) fits ⌝ }
+// The checks 1 to 6 of a call that is lent the times, with its own question of other lengths.
+fn check_grid_call(times: &[f64], points: usize, fits: bool) -> Verdict
+    ensures { λ r. ⌜ r ≡ gridCallChecks points (now (times .entry)) fits ⌝ }
 {
-    let limits = lines::within_limits(points, 1);
-    let fitting = lines::fitting((times.len() == points) & fits);
-    lines::large_enough(points, 1).then(limits.then(fitting.then(time_lines(times, points))))
+    let limits = checks::within_limits(points, 1);
+    let fitting = checks::fitting((times.len() == points) & fits);
+    checks::large_enough(points, 1).then(limits.then(fitting.then(check_grid(times, points))))
 }
 
 // Whether the times are a grid of N points.
 pub fn check_times(times: &[f64], points: usize) -> Verdict
     ensures { λ r. ⌜ r ≡ checkTimes points (now (times .entry)) ⌝ }
 {
-    grid_lines(times, points, true)
+    check_grid_call(times, points, true)
 }
 
 // Writes each point's full weight.
@@ -123,9 +119,9 @@ fn fill(times: &[f64], points: usize, weights: &mut [f64])
 
 // The full weights of N points, in the slice lent for them. A refused call leaves the slice as it was.
 pub fn full_weights(times: &[f64], points: usize, weights: &mut [f64]) -> Verdict
-    ensures { λ r. ⌜ (r ≡ fullWeights points (now (times .entry)) (now (weights .entry)) .answer) × (now (weights .exit) ≡ fullWeights points (now (times .entry)) (now (weights .entry)) .weights) ⌝ }
+    ensures { λ r. let made = fullWeights points (now (times .entry)) (now (weights .entry)) in ⌜ (r ≡ made .answer) × (now (weights .exit) ≡ made .weights) ⌝ }
 {
-    let verdict = grid_lines(times, points, weights.len() == points);
+    let verdict = check_grid_call(times, points, weights.len() == points);
     match verdict {
         Verdict::Pass => {
             fill(times, points, weights);
@@ -136,19 +132,19 @@ pub fn full_weights(times: &[f64], points: usize, weights: &mut [f64]) -> Verdic
 }
 
 // The weight of a point from start to end. An end of N or more gives 11 before that.
-pub fn interval_weight(
+pub fn checked_interval_weight(
     times: &[f64],
     points: usize,
     point: usize,
     start: usize,
     end: usize,
 ) -> Measured
-    ensures { λ r. ⌜ r ≡ intervalWeightOf points (now (times .entry)) point start end ⌝ }
+    ensures { λ r. ⌜ r ≡ checkedIntervalWeight points (now (times .entry)) point start end ⌝ }
 {
-    let below = lines::time_below(end, points);
+    let below = checks::time_below(end, points);
     let verdict = check_times(times, points).then(below);
     match verdict {
-        Verdict::Pass => Measured::Of(trapezoid_weight(times, point, start, end)),
+        Verdict::Pass => Measured::Of(interval_weight(times, point, start, end)),
         Verdict::Refused(r) => Measured::Refused(r),
     }
 }

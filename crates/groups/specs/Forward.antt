@@ -1,31 +1,24 @@
 -- Row t of G from K and the rows of G before it, as they stand in a list; what a loop over groups has written of it. Assumes nothing.
-use mathlib.Core.Path.{_≡_, sym, ap, ap₂, _∙_}
-use mathlib.Core.Bool.{Bool, false, cond, not, _||_}
-use mathlib.Core.List.{List}
-use Prim.Native.Nat.{ℕ, _+_, _-_, _*_, _≤_, _<_}
-use native.Mathlib.Decide.{decLt}
-use native.Mathlib.Omega.{arith}
-use lib.Dec.{ltb, eqb}
-use lib.Ieee.{Float}
-use borrow.Author.Tests.{lt-ltb, le-ltb, ne-eqb, eq-eqb}
+use Rattle.lists.specs.Prelude.{_≡_, sym, ap, ap₂, _∙_, Bool, false, cond, not, _||_, List, ℕ, _+_, _-_, _*_, _≤_, _<_, decLt, arith, ltb, eqb, Float, lt-ltb, le-ltb}
+use Rattle.lists.specs.Prelude.{ne-eqb, eq-eqb}
 use Rattle.lists.specs.Indexed.{allBelow, allIn, join}
 use Rattle.lists.specs.Agreement.{all-agree, join-agree}
 use Rattle.complex.specs.declared.Complex.{Complex}
 use Rattle.complex.specs.Arithmetic.{czero, cfinite}
 use Rattle.complex.specs.Numbers.{pair}
-use Rattle.matrix.specs.Block.{layOut}
+use Rattle.block.specs.Block.{layOut}
 use Rattle.two_time.specs.Layout.{place, readAs, lengthOf}
 use Rattle.two_time.specs.Sums.{dysonTerms}
 use Rattle.two_time.specs.WeightedSum.{Terms, weightedSum, finiteSum}
 use Rattle.two_time.specs.OneTest.{one-test}
 use Rattle.two_time.specs.Places.{product-most, sized}
-use Rattle.two_time.specs.Filling.{whole-length, part-within}
+use Rattle.two_time.specs.Parts.{whole-length, part-within}
 use Rattle.lanes.specs.Lanes.{laneAt}
 
-module _ (points n : ℕ) (times free kernel green : List Float) (t : ℕ) where
+module _ (points n : ℕ) (times free kernel retarded : List Float) (t : ℕ) where
   -- the sum at u, and its entries
   abbrev pub forwardSum : ℕ → Terms
-  forwardSum u = dysonTerms times (readAs points n free) (readAs points n kernel) (readAs points n green) t u
+  forwardSum u = dysonTerms times (readAs points n free) (readAs points n kernel) (readAs points n retarded) t u
 
   -- "Above the diagonal +0"
   unfoldable pub forwardEntry : ℕ → ℕ → ℕ → Complex
@@ -35,16 +28,16 @@ module _ (points n : ℕ) (times free kernel green : List Float) (t : ℕ) where
   forwardBlock u = layOut n n (forwardEntry u)
 
   -- all that is made for the block at u is finite
-  unfoldable pub forwardFine : ℕ → Bool
-  forwardFine u = allIn n n (finiteSum n (forwardSum u))
+  unfoldable pub forwardFinite : ℕ → Bool
+  forwardFinite u = allIn n n (finiteSum n (forwardSum u))
 
 -- where row t begins, in numbers
 abbrev pub rowAt : ℕ → ℕ → ℕ → ℕ
 rowAt points n t = t * (points * (2 * (n * n)))
 
 -- a group's lanes
-module _ (points n : ℕ) (times free kernel green : List Float) (t u places : ℕ) (totals : List Float) (fit : u + places ≤ t + 1)
-    (made : (a p b : ℕ) → a < n → p < places → b < n → laneAt totals a (p * n + b) ≡ weightedSum n (forwardSum points n times free kernel green t (u + p)) a b) where
+module _ (points n : ℕ) (times free kernel retarded : List Float) (t u places : ℕ) (totals : List Float) (fit : u + places ≤ t + 1)
+    (made : (a p b : ℕ) → a < n → p < places → b < n → laneAt totals a (p * n + b) ≡ weightedSum n (forwardSum points n times free kernel retarded t (u + p)) a b) where
   -- a place on or below the diagonal has a sum
   asked-by : (p : ℕ) → p < places → not (ltb p (t - u)) ≡ eqb (t - (u + p)) 0
   asked-by p hp =
@@ -56,18 +49,18 @@ module _ (points n : ℕ) (times free kernel green : List Float) (t u places : �
   below : (p : ℕ) → p < places → ltb t (u + p) ≡ false
   below p hp = le-ltb t (u + p) (omega arith)
 
-  pub group-fine : allBelow places (λ p. allIn n n (λ a b. not (ltb p (t - u)) || cfinite (laneAt totals a (p * n + b)))) ≡ allBelow places (λ p. forwardFine points n times free kernel green t (u + p))
-  unfolding forwardFine
-  group-fine =
+  pub group-finite : allBelow places (λ p. allIn n n (λ a b. not (ltb p (t - u)) || cfinite (laneAt totals a (p * n + b)))) ≡ allBelow places (λ p. forwardFinite points n times free kernel retarded t (u + p))
+  unfolding forwardFinite
+  group-finite =
       all-agree places _ _ (λ p hp. all-agree n _ _ (λ a ha. all-agree n _ _ (λ b hb.
       ap₂ (λ (f : Bool) (z : Complex). f || cfinite z) (asked-by p hp) (made a p b ha hp hb)
-      ∙ sym (one-test n (forwardSum points n times free kernel green t (u + p)) a b))))
+      ∙ sym (one-test n (forwardSum points n times free kernel retarded t (u + p)) a b))))
 
-  pub group-laid : join places (λ p. layOut n n (λ a b. laneAt totals a (p * n + b))) ≡ join places (λ p. forwardBlock points n times free kernel green t (u + p))
+  pub group-laid : join places (λ p. layOut n n (λ a b. laneAt totals a (p * n + b))) ≡ join places (λ p. forwardBlock points n times free kernel retarded t (u + p))
   unfolding forwardEntry layOut
   group-laid =
       join-agree places _ _ (λ p hp. join-agree n _ _ (λ a ha. join-agree n _ _ (λ b hb.
-      ap pair (made a p b ha hp hb ∙ sym (ap (λ (f : Bool). cond f czero (weightedSum n (forwardSum points n times free kernel green t (u + p)) a b)) (below p hp))))))
+      ap pair (made a p b ha hp hb ∙ sym (ap (λ (f : Bool). cond f czero (weightedSum n (forwardSum points n times free kernel retarded t (u + p)) a b)) (below p hp))))))
 
 -- sizes on the way
 pub record Sizes (points n t len : ℕ) : Type 0 where

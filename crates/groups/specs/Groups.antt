@@ -1,31 +1,22 @@
 -- The sums at a group of neighbouring places of a row: the outcome of each call.
-use mathlib.Core.Path.{_≡_, refl, sym, ap, _∙_}
-use mathlib.Core.Bool.{Bool, true, false, cond, _&&_}
-use mathlib.Core.List.{List, [], _∷_}
-use Prim.Native.Nat.{ℕ, _+_, _*_, _≤_, _<_}
-use native.Mathlib.Omega.{arith}
-use lib.Dec.{leb, ltb, eqb}
-use lib.ListN.{length, drop, length-drop}
-use lib.Seq.{length-take-le}
-use lib.Ieee.{Float}
-use borrow.Author.Tests.{leb-true, ltb-true, le-leb, lt-ltb, eq-eqb}
-use borrow.Rule.Slice.PartMut.{midOf, putMid, put-same}
+use Rattle.lists.specs.Prelude.{_≡_, refl, sym, ap, _∙_, Bool, true, false, cond, _&&_, List, [], _∷_, ℕ, _+_, _*_, _≤_, _<_, arith, leb, ltb, eqb, length, drop}
+use Rattle.lists.specs.Prelude.{length-drop, length-take-le, Float, leb-true, ltb-true, le-leb, lt-ltb, eq-eqb, midOf, putMid, put-same}
 use Rattle.lists.specs.Indexed.{allBelow, join}
 use Rattle.lists.specs.Agreement.{both}
-use Rattle.matrix.specs.Block.{layOut}
+use Rattle.block.specs.Block.{layOut}
 use Rattle.refusal.specs.declared.Refusal.{Refusal}
 use Rattle.refusal.specs.declared.Verdict.{Verdict}
 use Rattle.refusal.specs.declared.Verdict.the-variants.{Pass, Refused}
 use Rattle.two_time.specs.declared.sums.Sums.{Sums}
 use Rattle.two_time.specs.declared.sums.Summed.{Summed}
 use Rattle.two_time.specs.declared.sums.Summed.the-variants.{Finite, Overflow, Unfit}
-use Rattle.two_time.specs.Calls.{sizeLines}
-use Rattle.two_time.specs.Outcome.{SumsLeft, summedAnswer, summedOut, allSummed, left-finite, left-overflow}
-use Rattle.lanes.specs.Lanes.{laidLanes, lanesFine, written}
-use Rattle.groups.specs.PlaceSums.{sumAt, blockFine}
-use Rattle.groups.specs.Forward.{forwardBlock, forwardFine, rowAt}
+use Rattle.two_time.specs.Calls.{sizeChecks}
+use Rattle.two_time.specs.Outcome.{SumsOutcome, summedAnswer, summedOut, allSummed, outcome-finite, outcome-overflow}
+use Rattle.lanes.specs.Lanes.{laidLanes, lanesFinite, written}
+use Rattle.groups.specs.PlaceSums.{sumAt, blockFinite}
+use Rattle.groups.specs.Forward.{forwardBlock, forwardFinite, rowAt}
 
--- within the limits of line 2, (t, u), .., (t, u + places − 1) are places, and their blocks have at most 16 columns
+-- within the limits of check 2, (t, u), .., (t, u + places − 1) are places, and their blocks have at most 16 columns
 unfoldable pub isGroup : ℕ → ℕ → ℕ → ℕ → ℕ → Bool
 isGroup points n t u places =
     ((leb points 256 && leb n 16) && ((ltb t points && ltb u points) && (ltb 0 places && leb places 16))) && (leb (u + places) points && leb (places * n) 16)
@@ -36,31 +27,31 @@ isBelow points n t u places = isGroup points n t u places && leb (u + places) (t
 
 -- `group`: the sums there, laid out in a slice of their length
 module _ (sums : Sums) (points n : ℕ) (times left right : List Float) (t u places : ℕ) (out : List Float) where
-  abbrev pub groupFine : Bool
-  groupFine = allBelow places (λ p. blockFine sums points n times left right t (u + p))
+  abbrev pub groupFinite : Bool
+  groupFinite = allBelow places (λ p. blockFinite sums points n times left right t (u + p))
 
   abbrev pub groupNumbers : List Float
   groupNumbers = join places (λ p. layOut n n (sumAt sums points n times left right t (u + p)))
 
-  unfoldable pub groupSums : SumsLeft
+  unfoldable pub groupSums : SumsOutcome
   groupSums =
-      let answer = cond (eqb (length out) (places * (2 * (n * n)))) (summedAnswer (sizeLines points n (isGroup points n t u places) (left ∷ right ∷ [])) groupFine) Unfit in
+      let answer = cond (eqb (length out) (places * (2 * (n * n)))) (summedAnswer (sizeChecks points n (isGroup points n t u places) (left ∷ right ∷ [])) groupFinite) Unfit in
       record { answer = answer; out = summedOut answer groupNumbers out }
 
 -- `forward_group`: Dyson's sums there, in their places of the slice that the rows before are read from
-module _ (points n : ℕ) (times free kernel green : List Float) (t u places : ℕ) where
-  abbrev pub forwardGroupFine : Bool
-  forwardGroupFine = allBelow places (λ p. forwardFine points n times free kernel green t (u + p))
+module _ (points n : ℕ) (times free kernel retarded : List Float) (t u places : ℕ) where
+  abbrev pub forwardGroupFinite : Bool
+  forwardGroupFinite = allBelow places (λ p. forwardFinite points n times free kernel retarded t (u + p))
 
   abbrev pub forwardNumbers : List Float
-  forwardNumbers = join places (λ p. forwardBlock points n times free kernel green t (u + p))
+  forwardNumbers = join places (λ p. forwardBlock points n times free kernel retarded t (u + p))
 
-  unfoldable pub forwardGroup : SumsLeft
+  unfoldable pub forwardGroup : SumsOutcome
   forwardGroup =
-      let answer = summedAnswer (sizeLines points n (isBelow points n t u places) (free ∷ kernel ∷ green ∷ [])) forwardGroupFine in
+      let answer = summedAnswer (sizeChecks points n (isBelow points n t u places) (free ∷ kernel ∷ retarded ∷ [])) forwardGroupFinite in
       let at = rowAt points n t + u * (2 * (n * n)) in
       let count = places * (2 * (n * n)) in
-      record { answer = answer; out = putMid at count green (summedOut answer forwardNumbers (midOf at count green)) }
+      record { answer = answer; out = putMid at count retarded (summedOut answer forwardNumbers (midOf at count retarded)) }
 
 -- ---- laws
 
@@ -110,8 +101,8 @@ group-is g =
       le-leb _ _ (g .few),
     )
 
--- the answer once lines 1 to 3 pass
-answer-passed : (v : Verdict) (fine : Bool) → v ≡ Pass → summedAnswer v fine ≡ cond fine Finite Overflow
+-- the answer once checks 1 to 3 pass
+answer-passed : (v : Verdict) (finite : Bool) → v ≡ Pass → summedAnswer v finite ≡ cond finite Finite Overflow
 unfolding summedAnswer
 answer-passed v true e = rw e
 answer-passed v false e = rw e
@@ -122,52 +113,52 @@ unfit-also false x e = refl
 
 -- lanes that hold the sums are written as an outcome says
 module _ {points n t u places : ℕ} (g : Grouped points n t u places) (totals : List Float) (until : ℕ) (out : List Float) (long : length totals ≡ 512)
-    (fine : Bool) (made : List Float) (is-fine : lanesFine totals n places until ≡ fine) (is-made : laidLanes totals n places ≡ made) where
+    (finite : Bool) (made : List Float) (is-finite : lanesFinite totals n places until ≡ finite) (is-made : laidLanes totals n places ≡ made) where
   abbrev answer : Summed
-  answer = cond (eqb (length out) (places * (2 * (n * n)))) (cond fine Finite Overflow) Unfit
+  answer = cond (eqb (length out) (places * (2 * (n * n)))) (cond finite Finite Overflow) Unfit
 
   written-is : written totals n places until out ≡ record { answer = answer; out = summedOut answer made out }
   unfolding written
-  written-is = rw (le-leb _ _ (g .orbitals-most), le-leb _ _ (g .most), le-leb _ _ (g .few), eq-eqb _ _ long, is-fine, is-made)
+  written-is = rw (le-leb _ _ (g .orbitals-most), le-leb _ _ (g .most), le-leb _ _ (g .few), eq-eqb _ _ long, is-finite, is-made)
 
 module _ (sums : Sums) (points n : ℕ) (times left right : List Float) (t u places : ℕ) (out : List Float) where
-  abbrev outcome : SumsLeft
+  abbrev outcome : SumsOutcome
   outcome = groupSums sums points n times left right t u places out
 
-  abbrev lines : Verdict
-  lines = sizeLines points n (isGroup points n t u places) (left ∷ right ∷ [])
+  abbrev checks : Verdict
+  checks = sizeChecks points n (isGroup points n t u places) (left ∷ right ∷ [])
 
-  abbrev fine : Bool
-  fine = groupFine sums points n times left right t u places out
+  abbrev finite : Bool
+  finite = groupFinite sums points n times left right t u places out
 
   abbrev long : Bool
   long = eqb (length out) (places * (2 * (n * n)))
 
-  pub group-unfit : (r : Refusal) → lines ≡ Refused r → (Unfit ≡ outcome .answer) × (out ≡ outcome .out)
+  pub group-unfit : (r : Refusal) → checks ≡ Refused r → (Unfit ≡ outcome .answer) × (out ≡ outcome .out)
   unfolding groupSums summedAnswer summedOut
   group-unfit r e =
-      let a : cond long (summedAnswer lines fine) Unfit ≡ Unfit = unfit-also long (summedAnswer lines fine) (rw e) in
+      let a : cond long (summedAnswer checks finite) Unfit ≡ Unfit = unfit-also long (summedAnswer checks finite) (rw e) in
       (sym a, sym (ap (λ (y : Summed). summedOut y (groupNumbers sums points n times left right t u places out) out) a))
 
-  pub group-zero : Grouped points n t u places → lines ≡ Pass → long ≡ true → fine ≡ true → (zeros : List Float) → zeros ≡ groupNumbers sums points n times left right t u places out
+  pub group-zero : Grouped points n t u places → checks ≡ Pass → long ≡ true → finite ≡ true → (zeros : List Float) → zeros ≡ groupNumbers sums points n times left right t u places out
       → (Finite ≡ outcome .answer) × (zeros ≡ outcome .out)
   unfolding groupSums summedAnswer summedOut
   group-zero g e l f zeros h = (rw (l, e, f), rw (l, e, f) h)
 
-  pub group-written : Grouped points n t u places → lines ≡ Pass → (totals : List Float) → length totals ≡ 512
-      → lanesFine totals n places places ≡ fine → laidLanes totals n places ≡ groupNumbers sums points n times left right t u places out
+  pub group-written : Grouped points n t u places → checks ≡ Pass → (totals : List Float) → length totals ≡ 512
+      → lanesFinite totals n places places ≡ finite → laidLanes totals n places ≡ groupNumbers sums points n times left right t u places out
       → written totals n places places out ≡ outcome
   unfolding groupSums
   group-written g e totals h f m =
-      written-is g totals places out h fine (groupNumbers sums points n times left right t u places out) f m
-      ∙ ap (λ (y : Summed). record { answer = cond long y Unfit; out = summedOut (cond long y Unfit) (groupNumbers sums points n times left right t u places out) out }) (sym (answer-passed lines fine e))
+      written-is g totals places out h finite (groupNumbers sums points n times left right t u places out) f m
+      ∙ ap (λ (y : Summed). record { answer = cond long y Unfit; out = summedOut (cond long y Unfit) (groupNumbers sums points n times left right t u places out) out }) (sym (answer-passed checks finite e))
 
-module _ (points n : ℕ) (times free kernel green : List Float) (t u places : ℕ) where
-  abbrev forward : SumsLeft
-  forward = forwardGroup points n times free kernel green t u places
+module _ (points n : ℕ) (times free kernel retarded : List Float) (t u places : ℕ) where
+  abbrev forward : SumsOutcome
+  forward = forwardGroup points n times free kernel retarded t u places
 
   abbrev below : Verdict
-  below = sizeLines points n (isBelow points n t u places) (free ∷ kernel ∷ green ∷ [])
+  below = sizeChecks points n (isBelow points n t u places) (free ∷ kernel ∷ retarded ∷ [])
 
   abbrev at : ℕ
   at = rowAt points n t + u * (2 * (n * n))
@@ -175,70 +166,70 @@ module _ (points n : ℕ) (times free kernel green : List Float) (t u places : �
   abbrev count : ℕ
   count = places * (2 * (n * n))
 
-  abbrev forwardIsFine : Bool
-  forwardIsFine = forwardGroupFine points n times free kernel green t u places
+  abbrev forwardIsFinite : Bool
+  forwardIsFinite = forwardGroupFinite points n times free kernel retarded t u places
 
-  pub forward-unfit : (r : Refusal) → below ≡ Refused r → (Unfit ≡ forward .answer) × (green ≡ forward .out)
+  pub forward-unfit : (r : Refusal) → below ≡ Refused r → (Unfit ≡ forward .answer) × (retarded ≡ forward .out)
   unfolding forwardGroup summedAnswer summedOut
-  forward-unfit r e = (rw e, rw e (sym (put-same at count green)))
+  forward-unfit r e = (rw e, rw e (sym (put-same at count retarded)))
 
-  pub forward-written : Grouped points n t u places → below ≡ Pass → (totals : List Float) (until : ℕ) → length totals ≡ 512 → at + count ≤ length green
-      → lanesFine totals n places until ≡ forwardIsFine → laidLanes totals n places ≡ forwardNumbers points n times free kernel green t u places
-      → (width : ℕ) → width ≡ count → let w = written totals n places until (midOf at width green) in
-      (w .answer ≡ forward .answer) × (putMid at width green (w .out) ≡ forward .out)
+  pub forward-written : Grouped points n t u places → below ≡ Pass → (totals : List Float) (until : ℕ) → length totals ≡ 512 → at + count ≤ length retarded
+      → lanesFinite totals n places until ≡ forwardIsFinite → laidLanes totals n places ≡ forwardNumbers points n times free kernel retarded t u places
+      → (width : ℕ) → width ≡ count → let w = written totals n places until (midOf at width retarded) in
+      (w .answer ≡ forward .answer) × (putMid at width retarded (w .out) ≡ forward .out)
   unfolding forwardGroup
   forward-written g e totals until h room f m width same =
-      let made = forwardNumbers points n times free kernel green t u places in
-      let part : List Float = midOf at count green in
-      let whole : length part ≡ count = length-take-le count (drop at green) (omega (arith, length-drop at green)) in
-      let is : written totals n places until part ≡ record { answer = summedAnswer below forwardIsFine; out = summedOut (summedAnswer below forwardIsFine) made part } =
-      written-is g totals until part h forwardIsFine made f m
-      ∙ ap (λ (y : Summed). record { answer = y; out = summedOut y made part }) (ap (λ (b : Bool). cond b (cond forwardIsFine Finite Overflow) Unfit) (eq-eqb _ _ whole) ∙ sym (answer-passed below forwardIsFine e)) in (
-        ap (λ (k : ℕ). written totals n places until (midOf at k green) .answer) same ∙ ap (λ (o : SumsLeft). o .answer) is,
-        ap (λ (k : ℕ). putMid at k green (written totals n places until (midOf at k green) .out)) same ∙ ap (λ (o : SumsLeft). putMid at count green (o .out)) is,
+      let made = forwardNumbers points n times free kernel retarded t u places in
+      let part : List Float = midOf at count retarded in
+      let whole : length part ≡ count = length-take-le count (drop at retarded) (omega (arith, length-drop at retarded)) in
+      let is : written totals n places until part ≡ record { answer = summedAnswer below forwardIsFinite; out = summedOut (summedAnswer below forwardIsFinite) made part } =
+      written-is g totals until part h forwardIsFinite made f m
+      ∙ ap (λ (y : Summed). record { answer = y; out = summedOut y made part }) (ap (λ (b : Bool). cond b (cond forwardIsFinite Finite Overflow) Unfit) (eq-eqb _ _ whole) ∙ sym (answer-passed below forwardIsFinite e)) in (
+        ap (λ (k : ℕ). written totals n places until (midOf at k retarded) .answer) same ∙ ap (λ (o : SumsOutcome). o .answer) is,
+        ap (λ (k : ℕ). putMid at k retarded (written totals n places until (midOf at k retarded) .out)) same ∙ ap (λ (o : SumsOutcome). putMid at count retarded (o .out)) is,
       )
 
 -- ---- what an outcome says of a group that is there
 
-passed-there : (points n : ℕ) (there : Bool) (slices : List (List Float)) → there ≡ true → sizeLines points n true slices ≡ Pass → sizeLines points n there slices ≡ Pass
-passed-there points n there slices e h = ap (λ (f : Bool). sizeLines points n f slices) e ∙ h
+passed-there : (points n : ℕ) (there : Bool) (slices : List (List Float)) → there ≡ true → sizeChecks points n true slices ≡ Pass → sizeChecks points n there slices ≡ Pass
+passed-there points n there slices e h = ap (λ (f : Bool). sizeChecks points n f slices) e ∙ h
 
 module _ (sums : Sums) (points n : ℕ) (times left right : List Float) (t u places : ℕ) (out : List Float)
-    (g : Grouped points n t u places) (passed : sizeLines points n true (left ∷ right ∷ []) ≡ Pass) (long : length out ≡ places * (2 * (n * n)))
+    (g : Grouped points n t u places) (passed : sizeChecks points n true (left ∷ right ∷ []) ≡ Pass) (long : length out ≡ places * (2 * (n * n)))
     (answer : Summed) (after : List Float)
     (answered : answer ≡ groupSums sums points n times left right t u places out .answer) (holds : after ≡ groupSums sums points n times left right t u places out .out) where
   abbrev told : Summed
-  told = summedAnswer (sizeLines points n (isGroup points n t u places) (left ∷ right ∷ [])) (groupFine sums points n times left right t u places out)
+  told = summedAnswer (sizeChecks points n (isGroup points n t u places) (left ∷ right ∷ [])) (groupFinite sums points n times left right t u places out)
 
   is-told : answer ≡ told
   unfolding groupSums
   is-told = answered ∙ ap (λ (b : Bool). cond b told Unfit) (eq-eqb _ _ long)
 
-  pub group-finite : allSummed answer ≡ true → (groupFine sums points n times left right t u places out ≡ true) × (after ≡ groupNumbers sums points n times left right t u places out)
+  pub group-finite : allSummed answer ≡ true → (groupFinite sums points n times left right t u places out ≡ true) × (after ≡ groupNumbers sums points n times left right t u places out)
   unfolding groupSums
   group-finite h =
-      let l = left-finite _ _ (passed-there points n (isGroup points n t u places) (left ∷ right ∷ []) (group-is g) passed) answer is-told h in
+      let l = outcome-finite _ _ (passed-there points n (isGroup points n t u places) (left ∷ right ∷ []) (group-is g) passed) answer is-told h in
       (l .0, l .1 (groupNumbers sums points n times left right t u places out) out after (holds ∙ ap (λ (b : Bool). summedOut (cond b told Unfit) (groupNumbers sums points n times left right t u places out) out) (eq-eqb _ _ long)))
 
-  pub group-overflow : allSummed answer ≡ false → groupFine sums points n times left right t u places out ≡ false
-  group-overflow h = left-overflow _ _ (passed-there points n (isGroup points n t u places) (left ∷ right ∷ []) (group-is g) passed) answer is-told h .0
+  pub group-overflow : allSummed answer ≡ false → groupFinite sums points n times left right t u places out ≡ false
+  group-overflow h = outcome-overflow _ _ (passed-there points n (isGroup points n t u places) (left ∷ right ∷ []) (group-is g) passed) answer is-told h .0
 
-module _ (points n : ℕ) (times free kernel green : List Float) (t u places : ℕ)
-    (g : Grouped points n t u places) (under : u + places ≤ t + 1) (passed : sizeLines points n true (free ∷ kernel ∷ green ∷ []) ≡ Pass)
+module _ (points n : ℕ) (times free kernel retarded : List Float) (t u places : ℕ)
+    (g : Grouped points n t u places) (under : u + places ≤ t + 1) (passed : sizeChecks points n true (free ∷ kernel ∷ retarded ∷ []) ≡ Pass)
     (answer : Summed) (after : List Float)
-    (answered : answer ≡ forwardGroup points n times free kernel green t u places .answer) (holds : after ≡ forwardGroup points n times free kernel green t u places .out) where
+    (answered : answer ≡ forwardGroup points n times free kernel retarded t u places .answer) (holds : after ≡ forwardGroup points n times free kernel retarded t u places .out) where
   stands : isBelow points n t u places ≡ true
   stands = rw (group-is g, le-leb _ _ under)
 
-  pub forward-finite : allSummed answer ≡ true → (forwardGroupFine points n times free kernel green t u places ≡ true)
-      × (after ≡ putMid (rowAt points n t + u * (2 * (n * n))) (places * (2 * (n * n))) green (forwardNumbers points n times free kernel green t u places))
+  pub forward-finite : allSummed answer ≡ true → (forwardGroupFinite points n times free kernel retarded t u places ≡ true)
+      × (after ≡ putMid (rowAt points n t + u * (2 * (n * n))) (places * (2 * (n * n))) retarded (forwardNumbers points n times free kernel retarded t u places))
   unfolding forwardGroup
   forward-finite h =
       let at = rowAt points n t + u * (2 * (n * n)) in
       let count = places * (2 * (n * n)) in
-      let l = left-finite _ _ (passed-there points n (isBelow points n t u places) (free ∷ kernel ∷ green ∷ []) stands passed) answer answered h in
-      (l .0, holds ∙ ap (λ (ys : List Float). putMid at count green ys) (l .1 (forwardNumbers points n times free kernel green t u places) (midOf at count green) _ refl))
+      let l = outcome-finite _ _ (passed-there points n (isBelow points n t u places) (free ∷ kernel ∷ retarded ∷ []) stands passed) answer answered h in
+      (l .0, holds ∙ ap (λ (ys : List Float). putMid at count retarded ys) (l .1 (forwardNumbers points n times free kernel retarded t u places) (midOf at count retarded) _ refl))
 
-  pub forward-overflow : allSummed answer ≡ false → forwardGroupFine points n times free kernel green t u places ≡ false
+  pub forward-overflow : allSummed answer ≡ false → forwardGroupFinite points n times free kernel retarded t u places ≡ false
   unfolding forwardGroup
-  forward-overflow h = left-overflow _ _ (passed-there points n (isBelow points n t u places) (free ∷ kernel ∷ green ∷ []) stands passed) answer answered h .0
+  forward-overflow h = outcome-overflow _ _ (passed-there points n (isBelow points n t u places) (free ∷ kernel ∷ retarded ∷ []) stands passed) answer answered h .0

@@ -1,16 +1,11 @@
 -- At one orbital lanes are neighbouring places, whose right numbers are read where they stand. Assumes nothing.
-use mathlib.Core.Path.{_≡_, refl, sym, ap, subst, _∙_}
-use mathlib.Core.List.{List}
-use Prim.Native.Nat.{ℕ, _+_, _*_, _≤_, _<_}
-use native.Mathlib.Nat.{add-mul, mul-left-comm}
-use native.Mathlib.Omega.{arith}
-use lib.Ieee.{Float}
+use Rattle.lists.specs.Prelude.{_≡_, refl, sym, ap, subst, _∙_, List, ℕ, _+_, _*_, _≤_, _<_, add-mul, mul-left-comm, arith, Float}
 use Rattle.lists.specs.Indexed.{fold}
 use Rattle.complex.specs.declared.Complex.{Complex}
 use Rattle.complex.specs.Arithmetic.{czero, cadd, cmul}
 use Rattle.complex.specs.Numbers.{entryAt}
 use Rattle.complex.specs.Sum.{sumFrom}
-use Rattle.matrix.specs.Operations.{product}
+use Rattle.block.specs.Operations.{product}
 use Rattle.two_time.specs.declared.sums.Sums.{Sums}
 use Rattle.two_time.specs.Layout.{place, readAs, lengthOf}
 use Rattle.two_time.specs.Places.{Placed}
@@ -20,7 +15,7 @@ use Rattle.terms.specs.declared.Factor.the-variants.{Stored, Adjoint}
 use Rattle.terms.specs.Kinds.{rightBy, factorOf}
 use Rattle.terms.specs.Held.{product-is}
 use Rattle.groups.specs.Right.{rightPlace, rightNumber, right-inside, right-read}
-use Rattle.groups.specs.Turns.{termsOf}
+use Rattle.groups.specs.PartialSums.{termsOf}
 
 -- how far the number of lane c + 1 stands from that of lane c
 unfoldable pub laneBeside : Factor → ℕ → ℕ

@@ -1,10 +1,12 @@
 -- The sums at neighbouring places of a row, side by side.
+-- Behind the contracts: a group's sums and Dyson's, and what each call leaves; the sum at a place.
 pub mod Groups
-pub mod Forward
+pub mod PlaceSums
+-- What the functions on the way there hold: the right factor's numbers, packed or where they stand; the partial sums.
 pub mod Right
 pub mod Packed
-pub mod Turns
-pub mod Step
 pub mod InPlace
-pub mod PlaceSums
+pub mod PartialSums
+-- Laws: Dyson's sums from rows as they stand; places with no term.
+pub mod Forward
 pub mod Zero

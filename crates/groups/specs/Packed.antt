@@ -1,12 +1,5 @@
--- A row of lanes that is written from one lane on, one a turn. Assumes nothing.
-use mathlib.Core.Path.{_≡_, refl, sym, subst, _∙_}
-use mathlib.Core.List.{List}
-use mathlib.Core.Logic.{⊎-elim}
-use Prim.Native.Nat.{ℕ, _+_, _≤_, _<_}
-use native.Mathlib.Nat.{eq-or-lt-of-le, le-antisymm}
-use native.Mathlib.Omega.{arith}
-use lib.ListN.{length, length-set}
-use lib.Ieee.{Float}
+-- A row of lanes that is written from one lane on, one a step. Assumes nothing.
+use Rattle.lists.specs.Prelude.{_≡_, refl, sym, subst, _∙_, List, ⊎-elim, ℕ, _+_, _≤_, _<_, eq-or-lt-of-le, le-antisymm, arith, length, length-set, Float}
 use Rattle.complex.specs.declared.Complex.{Complex}
 use Rattle.rows.specs.Numbers.{numberAt, withNumber, number-same, number-other}
 

@@ -1,12 +1,5 @@
 -- The sum at a place: its lanes hold it, it is tested by its last value, and Dyson's is the causal one up to the term before t. Assumes nothing.
-use mathlib.Core.Path.{_≡_, refl, sym, ap, _∙_}
-use mathlib.Core.Bool.{Bool, true, false, not, _||_}
-use mathlib.Core.List.{List}
-use Prim.Native.Nat.{ℕ, suc, _+_, _-_, _*_, _≤_, _<_, min}
-use native.Mathlib.Omega.{arith}
-use lib.Dec.{eqb}
-use lib.Ieee.{Float}
-use borrow.Author.Tests.{eqb-true}
+use Rattle.lists.specs.Prelude.{_≡_, refl, sym, ap, _∙_, Bool, true, false, not, _||_, List, ℕ, suc, _+_, _-_, _*_, _≤_, _<_, min, arith, eqb, Float, eqb-true}
 use Rattle.lists.specs.Indexed.{allIn}
 use Rattle.lists.specs.Agreement.{all-agree, join-agree}
 use Rattle.complex.specs.declared.Complex.{Complex}
@@ -14,14 +7,14 @@ use Rattle.complex.specs.Arithmetic.{czero, finite, cfinite}
 use Rattle.complex.specs.Numbers.{pair}
 use lib.Ieee as Ieee
 use Rattle.two_time.specs.declared.sums.Sums.{Sums}
-use Rattle.two_time.specs.declared.sums.Sums.the-variants.{Full, Causal, Mixed, Lesser, Advanced}
+use Rattle.two_time.specs.declared.sums.Sums.the-variants.{Full, Causal, LesserAdvanced, Lesser, AntiCausal}
 use Rattle.two_time.specs.WeightedSum.{Terms, productAt, termAt, partialSum, weightedSum, finiteSum}
 use Rattle.two_time.specs.Layout.{TwoTime, readAs}
 use Rattle.two_time.specs.Sums.{termsAt, dysonTerms, sumsOf}
 use Rattle.two_time.specs.OneTest.{partial-none, one-test}
-use Rattle.matrix.specs.Block.{Entries, layOut}
+use Rattle.block.specs.Block.{Entries, layOut}
 use Rattle.lanes.specs.Lanes.{laneAt}
-use Rattle.groups.specs.Turns.{begun, termsOf, partialAt}
+use Rattle.groups.specs.PartialSums.{begun, termsOf, partialAt}
 use Rattle.terms.specs.Kinds.{Reaches}
 
 -- a sum that starts at +0 is tested by its last value
@@ -42,9 +35,9 @@ pub zero-start : (sums : Sums) (points : ℕ) (times : List Float) (x y : TwoTim
 unfolding termsAt
 zero-start Full points times x y t u a b = refl
 zero-start Causal points times x y t u a b = refl
-zero-start Mixed points times x y t u a b = refl
+zero-start LesserAdvanced points times x y t u a b = refl
 zero-start Lesser points times x y t u a b = refl
-zero-start Advanced points times x y t u a b = refl
+zero-start AntiCausal points times x y t u a b = refl
 
 module _ (sums : Sums) (points n : ℕ) (times left right : List Float) (t u : ℕ) where
   abbrev terms : Terms
@@ -54,8 +47,8 @@ module _ (sums : Sums) (points n : ℕ) (times left right : List Float) (t u : �
   abbrev pub sumAt : Entries
   sumAt = sumsOf sums points n times (readAs points n left) (readAs points n right) t u
 
-  unfoldable pub blockFine : Bool
-  blockFine = allIn n n (finiteSum n terms)
+  unfoldable pub blockFinite : Bool
+  blockFinite = allIn n n (finiteSum n terms)
 
   -- so the sum that begins at +0 is the kind's own
   pub begins : (a b : ℕ) → weightedSum n (termsOf sums points points n times left right t u czero) a b ≡ sumAt a b
@@ -65,8 +58,8 @@ module _ (sums : Sums) (points n : ℕ) (times left right : List Float) (t u : �
 -- lanes that hold the sums of a place
 module _ (sums : Sums) (points n : ℕ) (times left right : List Float) (t u : ℕ) (row : List Float) (p : ℕ)
     (made : (a b : ℕ) → a < n → b < n → laneAt row a (p * n + b) ≡ sumAt sums points n times left right t (u + p) a b) where
-  pub place-finite : (asked : Bool) → asked ≡ true → allIn n n (λ a b. not asked || cfinite (laneAt row a (p * n + b))) ≡ blockFine sums points n times left right t (u + p)
-  unfolding blockFine sumsOf
+  pub place-finite : (asked : Bool) → asked ≡ true → allIn n n (λ a b. not asked || cfinite (laneAt row a (p * n + b))) ≡ blockFinite sums points n times left right t (u + p)
+  unfolding blockFinite sumsOf
   place-finite asked e =
       all-agree n _ _ (λ a ha. all-agree n _ _ (λ b hb. ap (λ (f : Bool). not f || cfinite (laneAt row a (p * n + b))) e ∙ ap cfinite (made a b ha hb)
       ∙ end-test n (termsAt sums points times (readAs points n left) (readAs points n right) t (u + p)) a b (zero-start sums points times (readAs points n left) (readAs points n right) t (u + p) a b)))
@@ -76,12 +69,12 @@ module _ (sums : Sums) (points n : ℕ) (times left right : List Float) (t u : �
   place-laid = join-agree n _ _ (λ a ha. join-agree n _ _ (λ b hb. ap pair (made a b ha hb)))
 
 -- Dyson's sum is the causal one up to the term before t, from free(t, u)
-module _ (points n : ℕ) (times free kernel green : List Float) (t u a b : ℕ) where
+module _ (points n : ℕ) (times free kernel retarded : List Float) (t u a b : ℕ) where
   abbrev causal : Terms
-  causal = termsOf Causal points points n times kernel green t u (readAs points n free t u a b)
+  causal = termsOf Causal points points n times kernel retarded t u (readAs points n free t u a b)
 
   abbrev dyson : Terms
-  dyson = dysonTerms times (readAs points n free) (readAs points n kernel) (readAs points n green) t u
+  dyson = dysonTerms times (readAs points n free) (readAs points n kernel) (readAs points n retarded) t u
 
   same-partial : (k : ℕ) → partialSum n causal k a b ≡ partialSum n dyson k a b
   unfolding partialSum termAt productAt termsAt

@@ -1,14 +1,9 @@
 -- Where the right factor of a term stands, as it is stored or as the adjoint of what is stored. Assumes nothing.
-use mathlib.Core.Path.{_≡_, refl, ap, _∙_}
-use mathlib.Core.List.{List}
-use Prim.Native.Nat.{ℕ, _+_, _*_, _<_}
-use native.Mathlib.Nat.{add-mul, add-zero, mul-left-comm}
-use native.Mathlib.Omega.{arith}
-use lib.Ieee.{Float}
+use Rattle.lists.specs.Prelude.{_≡_, refl, ap, _∙_, List, ℕ, _+_, _*_, _<_, add-mul, add-zero, mul-left-comm, arith, Float}
 use Rattle.complex.specs.declared.Complex.{Complex}
 use Rattle.complex.specs.Arithmetic.{conj}
 use Rattle.complex.specs.Numbers.{entryAt}
-use Rattle.matrix.specs.Operations.{adjoint}
+use Rattle.block.specs.Operations.{adjoint}
 use Rattle.two_time.specs.Layout.{place, readAs, lengthOf}
 use Rattle.two_time.specs.Places.{Placed, entry-placed, within}
 use Rattle.terms.specs.declared.Factor.{Factor}
@@ -52,9 +47,9 @@ right-inside Adjoint p =
     within (record { first = p .second; second = p .first; row = p .column; column = p .row; stride-most = p .stride-most; orbitals-most = p .orbitals-most }) .inside
 
 -- a row of the right factor, from its first column
-module _ (factor : Factor) {stride n s u a : ℕ} (q : Placed stride n s u a 0) (k j : ℕ) (turn : k < n) (ej : j ≡ rightPlace factor stride n s u k 0) (b : ℕ) where
+module _ (factor : Factor) {stride n s u a : ℕ} (q : Placed stride n s u a 0) (k j : ℕ) (step : k < n) (ej : j ≡ rightPlace factor stride n s u k 0) (b : ℕ) where
   pub row-inside : b < n → j + b * rightBeside factor n + 1 < lengthOf stride n
-  row-inside h = omega (arith, beside-place factor stride n s u k b, right-inside factor (entry-placed k b q turn h))
+  row-inside h = omega (arith, beside-place factor stride n s u k b, right-inside factor (entry-placed k b q step h))
 
   pub row-read : (xs : List Float) → rightNumber factor (entryAt xs (j + b * rightBeside factor n)) ≡ rightBy factor (readAs stride n xs) s u k b
   row-read xs =

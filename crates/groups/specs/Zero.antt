@@ -1,21 +1,13 @@
 -- Places that no term goes to hold +0, and a list of +0 is their blocks. Assumes nothing.
-use mathlib.Core.Path.{_≡_, sym, ap, _∙_}
-use mathlib.Core.Bool.{true}
-use mathlib.Core.List.{List}
-use Prim.Native.Nat.{ℕ, _+_, _-_, _*_, _<_}
-use native.Mathlib.Nat.{mul-assoc, mul-comm}
-use native.Mathlib.Omega.{arith}
-use lib.ListN.{replicate, length-replicate, getD-replicate}
-use lib.Seq.{ext-getD}
-use lib.Ieee.{Float}
-use borrow.Author.Tests.{eq-eqb}
+use Rattle.lists.specs.Prelude.{_≡_, sym, ap, _∙_, true, List, ℕ, _+_, _-_, _*_, _<_, mul-assoc, mul-comm, arith, replicate, length-replicate, getD-replicate, ext-getD}
+use Rattle.lists.specs.Prelude.{Float, eq-eqb}
 use Rattle.lists.specs.Indexed.{join}
 use Rattle.lists.specs.Agreement.{join-agree, each-all}
 use Rattle.lists.specs.Reading.{length-join, each-in-join}
 use Rattle.complex.specs.declared.Complex.{Complex}
 use Rattle.complex.specs.Arithmetic.{plusZero, czero}
 use Rattle.complex.specs.Numbers.{pair}
-use Rattle.matrix.specs.Block.{layOut}
+use Rattle.block.specs.Block.{layOut}
 use Rattle.two_time.specs.declared.sums.Sums.{Sums}
 use Rattle.two_time.specs.Layout.{readAs}
 use Rattle.two_time.specs.WeightedSum.{Terms, partialSum, weightedSum}
@@ -23,8 +15,8 @@ use Rattle.two_time.specs.Sums.{termsAt, sumsOf}
 use Rattle.two_time.specs.OneTest.{partial-none, one-test}
 use Rattle.terms.specs.declared.Span.{Span}
 use Rattle.terms.specs.Spans.{Spanned}
-use Rattle.groups.specs.PlaceSums.{sumAt, blockFine, zero-start}
-use Rattle.groups.specs.Groups.{groupFine, groupNumbers}
+use Rattle.groups.specs.PlaceSums.{sumAt, blockFinite, zero-start}
+use Rattle.groups.specs.Groups.{groupFinite, groupNumbers}
 
 pub join-replicate : (k w : ℕ) (z : Float) → join k (λ _. replicate w z) ≡ replicate (k * w) z
 join-replicate k w z =
@@ -50,9 +42,9 @@ module _ (sums : Sums) (points n : ℕ) (times left right : List Float) (t u pla
   unfolding sumsOf weightedSum
   zero-sum p a b h = ap (λ (k : ℕ). partialSum n (at p) k a b) (no-terms p h) ∙ partial-none n (at p) a b ∙ zero-start sums points times (readAs points n left) (readAs points n right) t (u + p) a b
 
-  pub none-fine : groupFine sums points n times left right t u places out ≡ true
-  unfolding blockFine
-  none-fine = each-all places _ (λ p hp. each-all n _ (λ a ha. each-all n _ (λ b hb. one-test n (at p) a b ∙ rw (eq-eqb (at p .count) 0 (no-terms p hp)))))
+  pub none-finite : groupFinite sums points n times left right t u places out ≡ true
+  unfolding blockFinite
+  none-finite = each-all places _ (λ p hp. each-all n _ (λ a ha. each-all n _ (λ b hb. one-test n (at p) a b ∙ rw (eq-eqb (at p .count) 0 (no-terms p hp)))))
 
   pub none-numbers : (len : ℕ) → len ≡ places * (2 * (n * n)) → replicate len plusZero ≡ groupNumbers sums points n times left right t u places out
   none-numbers len e =

@@ -1,7 +1,5 @@
 // A term goes to all lanes of a group, and so do all terms, one after another.
-ghost use mathlib.Core.Path.{_≡_};
-ghost use Prim.Native.Nat.{ℕ, _+_, _*_, _<_, _≤_};
-ghost use lib.ListN.{length};
+ghost use Rattle.lists.specs.Prelude.{_≡_, ℕ, _+_, _*_, _<_, _≤_, length};
 ghost use Rattle.complex.specs.Arithmetic.{czero, real, cadd, cmul};
 ghost use Rattle.two_time.specs.Layout.{readAs, lengthOf};
 ghost use Rattle.two_time.specs.Sums.{termsAt};
@@ -10,7 +8,7 @@ ghost use Rattle.rows.specs.Rows.{stepped};
 ghost use Rattle.rows.specs.Numbers.{Mapped};
 ghost use Rattle.rows.specs.Ranges.{onlyFrom, Ranged};
 ghost use Rattle.groups.specs.InPlace.{laneBeside, inPlace};
-ghost use Rattle.groups.specs.Turns.{termsOf, turned, partialAt};
+ghost use Rattle.groups.specs.PartialSums.{termsOf, added, partialAt};
 ghost use Rattle.lanes.specs.Lanes.{laneAt};
 use crate::packing::pack;
 use crate::packing::place;
@@ -121,7 +119,7 @@ pub(crate) fn add_term(
     requires { ⌜ (length (now rows) ≡ 512) × (length (now totals) ≡ 512) ⌝ }
     ensures { λ _. ⌜ (length (now (rows .exit)) ≡ 512) × (length (now (totals .exit)) ≡ 512)
         × ((a p b : ℕ) → a < orbitals → p < places → b < orbitals → laneAt (now (totals .exit)) a (p * orbitals + b)
-        ≡ turned orbitals (termsOf sums points stride orbitals (now (times .entry)) (now (left .entry)) (now (right .entry)) t (u + p) czero) s a b (laneAt (now (totals .entry)) a (p * orbitals + b))) ⌝ }
+        ≡ added orbitals (termsOf sums points stride orbitals (now (times .entry)) (now (left .entry)) (now (right .entry)) t (u + p) czero) s a b (laneAt (now (totals .entry)) a (p * orbitals + b))) ⌝ }
 {
     let factor = factor_of(sums);
     let term = term_of(sums, times, points, orbitals, t, s, u, places);

@@ -3,9 +3,7 @@
 mod adding;
 mod packing;
 
-ghost use mathlib.Core.Path.{_≡_};
-ghost use Prim.Native.Nat.{ℕ, _+_, _*_, _<_, _≤_};
-ghost use lib.ListN.{length, replicate};
+ghost use Rattle.lists.specs.Prelude.{_≡_, ℕ, _+_, _*_, _<_, _≤_, length, replicate};
 ghost use Rattle.complex.specs.Arithmetic.{plusZero};
 ghost use Rattle.two_time.specs.Layout.{readAs, lengthOf};
 ghost use Rattle.two_time.specs.Sums.{dysonTerms};
@@ -19,9 +17,9 @@ use lanes::write_group;
 use refusal::Verdict;
 use terms::Factor;
 use terms::span_of;
+use two_time::checks::check_sizes;
+use two_time::checks::has_length;
 use two_time::layout::clear;
-use two_time::lines::has_length;
-use two_time::lines::sizes;
 use two_time::sums::Summed;
 use two_time::sums::Sums;
 
@@ -98,13 +96,12 @@ pub fn group(
     places: usize,
     out: &mut [f64],
 ) -> Summed
-    ensures { λ r. ⌜ (r ≡ groupSums sums points orbitals (now (times .entry)) (now (left .entry)) (now (right .entry)) t u places (now (out .entry)) .answer)
-        × (now (out .exit) ≡ groupSums sums points orbitals (now (times .entry)) (now (left .entry)) (now (right .entry)) t u places (now (out .entry)) .out) ⌝ }
+    ensures { λ r. ⌜ (let made = groupSums sums points orbitals (now (times .entry)) (now (left .entry)) (now (right .entry)) t u places (now (out .entry)) in (r ≡ made .answer) × (now (out .exit) ≡ made .out)) ⌝ }
 {
     let there = is_group(points, orbitals, t, u, places);
     let left_fits = has_length(points, orbitals, left);
     let right_fits = has_length(points, orbitals, right);
-    let verdict = sizes(points, orbitals, there & (left_fits & right_fits));
+    let verdict = check_sizes(points, orbitals, there & (left_fits & right_fits));
     let Verdict::Pass = verdict else {
         return Summed::Unfit;
     };
@@ -135,7 +132,7 @@ fn forward_totals(
     times: &[f64],
     free: &[f64],
     kernel: &[f64],
-    green: &[f64],
+    retarded: &[f64],
     points: usize,
     orbitals: usize,
     t: usize,
@@ -144,10 +141,10 @@ fn forward_totals(
     totals: &mut [f64],
 )
     requires { ⌜ (t < points) × (points ≤ 256) × (0 < orbitals) × (orbitals ≤ 16) × (0 < places) × (u + places ≤ t + 1) × (places * orbitals ≤ 16) ⌝ }
-    requires { ⌜ (lengthOf points orbitals ≤ length (now free)) × (lengthOf points orbitals ≤ length (now kernel)) × (lengthOf points orbitals ≤ length (now green)) × (length (now kernel) ≤ 33554432) ⌝ }
+    requires { ⌜ (lengthOf points orbitals ≤ length (now free)) × (lengthOf points orbitals ≤ length (now kernel)) × (lengthOf points orbitals ≤ length (now retarded)) × (length (now kernel) ≤ 33554432) ⌝ }
     requires { ⌜ length (now totals) ≡ 512 ⌝ }
     ensures { λ _. ⌜ (length (now (totals .exit)) ≡ 512) × ((a p b : ℕ) → a < orbitals → p < places → b < orbitals → laneAt (now (totals .exit)) a (p * orbitals + b)
-        ≡ weightedSum orbitals (dysonTerms (now (times .entry)) (readAs points orbitals (now (free .entry))) (readAs points orbitals (now (kernel .entry))) (readAs points orbitals (now (green .entry))) t (u + p)) a b) ⌝ }
+        ≡ weightedSum orbitals (dysonTerms (now (times .entry)) (readAs points orbitals (now (free .entry))) (readAs points orbitals (now (kernel .entry))) (readAs points orbitals (now (retarded .entry))) t (u + p)) a b) ⌝ }
 {
     pack(Factor::Stored, free, points, orbitals, t, u, places, totals);
     let first = u;
@@ -156,7 +153,7 @@ fn forward_totals(
         Sums::Causal,
         times,
         kernel,
-        green,
+        retarded,
         points,
         points,
         orbitals,
@@ -180,17 +177,16 @@ pub fn forward_group(
     t: usize,
     u: usize,
     places: usize,
-    green: &mut [f64],
+    retarded: &mut [f64],
 ) -> Summed
-    ensures { λ r. ⌜ (r ≡ forwardGroup points orbitals (now (times .entry)) (now (free .entry)) (now (kernel .entry)) (now (green .entry)) t u places .answer)
-        × (now (green .exit) ≡ forwardGroup points orbitals (now (times .entry)) (now (free .entry)) (now (kernel .entry)) (now (green .entry)) t u places .out) ⌝ }
+    ensures { λ r. ⌜ (let made = forwardGroup points orbitals (now (times .entry)) (now (free .entry)) (now (kernel .entry)) (now (retarded .entry)) t u places in (r ≡ made .answer) × (now (retarded .exit) ≡ made .out)) ⌝ }
 {
     let below = is_below(points, orbitals, t, u, places);
     let free_fits = has_length(points, orbitals, free);
     let kernel_fits = has_length(points, orbitals, kernel);
-    let green_fits = has_length(points, orbitals, green);
-    let fits = free_fits & (kernel_fits & green_fits);
-    let verdict = sizes(points, orbitals, below & fits);
+    let retarded_fits = has_length(points, orbitals, retarded);
+    let fits = free_fits & (kernel_fits & retarded_fits);
+    let verdict = check_sizes(points, orbitals, below & fits);
     let Verdict::Pass = verdict else {
         return Summed::Unfit;
     };
@@ -202,7 +198,7 @@ pub fn forward_group(
         times,
         free,
         kernel,
-        green,
+        retarded,
         points,
         orbitals,
         t,
@@ -210,5 +206,5 @@ pub fn forward_group(
         places,
         &mut totals,
     );
-    write_group(&totals, orbitals, places, t - u, &mut green[start..end])
+    write_group(&totals, orbitals, places, t - u, &mut retarded[start..end])
 }

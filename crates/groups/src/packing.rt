@@ -1,7 +1,5 @@
 // The right factor of a term, packed: the rows of the blocks of neighbouring places, each a row of lanes.
-ghost use mathlib.Core.Path.{_≡_};
-ghost use Prim.Native.Nat.{ℕ, _+_, _*_, _<_, _≤_};
-ghost use lib.ListN.{length};
+ghost use Rattle.lists.specs.Prelude.{_≡_, ℕ, _+_, _*_, _<_, _≤_, length};
 ghost use Rattle.complex.specs.Numbers.{entryAt};
 ghost use Rattle.two_time.specs.Layout.{place, readAs, lengthOf};
 ghost use Rattle.two_time.specs.Places.{Placed};

@@ -1,14 +1,6 @@
 -- A list of 512 numbers is its lanes. Assumes nothing.
-use mathlib.Core.Path.{_≡_, refl, sym, ap, _∙_}
-use mathlib.Core.List.{List, [], _∷_, _++_}
-use Prim.Native.Nat.{ℕ, _+_, _-_, _*_, _/_, _%_, _≤_, _<_}
-use native.Mathlib.Nat.{div-add-mod', mod-lt}
-use native.Mathlib.Decide.{decLt}
-use native.Mathlib.Omega.{arith}
-use lib.ListN.{length, getD, length-append, List·getD-append}
-use lib.Seq.{ext-getD, getD-append-add}
-use lib.Ieee.{Float, nan}
-use borrow.Author.Tests.{lt-ltb, le-ltb}
+use Rattle.lists.specs.Prelude.{_≡_, refl, sym, ap, _∙_, List, [], _∷_, _++_, ℕ, _+_, _-_, _*_, _/_, _%_, _≤_, _<_, div-add-mod', mod-lt, decLt, arith, length, getD}
+use Rattle.lists.specs.Prelude.{length-append, List·getD-append, ext-getD, getD-append-add, Float, nan, lt-ltb, le-ltb}
 use Rattle.lists.specs.Indexed.{join}
 use Rattle.lists.specs.Reading.{length-join, getD-join}
 use Rattle.complex.specs.declared.Complex.{Complex}

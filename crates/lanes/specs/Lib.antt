@@ -2,3 +2,4 @@
 pub mod Lanes
 pub mod Laws
 pub mod Writing
+pub mod Filled

@@ -1,19 +1,12 @@
 -- Entries that are checked and written. Assumes nothing.
-use mathlib.Core.Path.{_≡_, refl, sym, ap, _∙_}
-use mathlib.Core.Bool.{Bool, true, false, cond, not, _||_}
-use mathlib.Core.List.{List}
-use Prim.Native.Nat.{ℕ, _*_}
-use native.Mathlib.Nat.{mul-left-comm}
-use native.Mathlib.Omega.{arith}
-use lib.ListN.{length}
-use lib.Ieee.{Float}
+use Rattle.lists.specs.Prelude.{_≡_, refl, sym, ap, _∙_, Bool, true, false, cond, not, _||_, List, ℕ, _*_, mul-left-comm, arith, length, Float}
 use Rattle.lists.specs.Indexed.{join}
 use Rattle.lists.specs.Filling.{over}
 use Rattle.complex.specs.declared.Complex.{Complex}
 use Rattle.complex.specs.Arithmetic.{cfinite}
 use Rattle.complex.specs.Filling.{cells, length-cells}
-use Rattle.matrix.specs.Block.{Entries, layOut}
-use Rattle.two_time.specs.Filling.{parts-laid}
+use Rattle.block.specs.Block.{Entries, layOut}
+use Rattle.two_time.specs.Parts.{parts-laid}
 use Rattle.lanes.specs.declared.CheckedEntry.{CheckedEntry}
 use Rattle.lanes.specs.declared.CheckedEntry.the-variants.{Finite, Overflow}
 
@@ -53,10 +46,3 @@ module _ (asked : Bool) (z : Complex) where
 module _ (n : ℕ) (f : Entries) where
   abbrev pub rowOf : ℕ → List Float
   rowOf a = cells n (f a)
-
-  length-row : (a : ℕ) → length (rowOf a) ≡ 2 * n
-  length-row a = length-cells n (f a)
-
-  pub rows-laid : (d out : List Float) (k : ℕ) → k ≡ n → length d ≡ 2 * (n * n) → out ≡ over d (join k rowOf) → out ≡ layOut n n f
-  unfolding layOut
-  rows-laid d out k e long h = parts-laid (2 * n) rowOf length-row n d out k e (long ∙ sym (mul-left-comm n 2 n)) h

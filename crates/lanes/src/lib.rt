@@ -1,15 +1,12 @@
 // Lanes of a group: the sums at neighbouring places of a row stand side by side. Lane p·n + b is column b of the group's place p; a row of lanes is 32
 // numbers, real parts first and imaginary parts 16 later, so that a loop over lanes works on more than one at a time; sixteen rows, one for each row of
 // a block, are 512 numbers. Here they are written out as blocks.
-ghost use mathlib.Core.Path.{_≡_};
-ghost use mathlib.Core.Bool.{true, not, _||_};
-ghost use Prim.Native.Nat.{_+_, _*_, _<_, _≤_};
-ghost use lib.ListN.{length, set};
+ghost use Rattle.lists.specs.Prelude.{_≡_, true, not, _||_, _+_, _*_, _<_, _≤_, length, set};
 ghost use Rattle.lists.specs.Indexed.{allBelow, allIn};
 ghost use Rattle.complex.specs.Arithmetic.{cfinite};
 ghost use Rattle.complex.specs.Filling.{cells};
-ghost use Rattle.matrix.specs.Block.{layOut};
-ghost use Rattle.lanes.specs.Lanes.{laneAt, laidLanes, lanesFine, written};
+ghost use Rattle.block.specs.Block.{layOut};
+ghost use Rattle.lanes.specs.Lanes.{laneAt, laidLanes, lanesFinite, written};
 ghost use Rattle.lanes.specs.Writing.{checkedEntry};
 use complex::Complex;
 use two_time::layout::clear;
@@ -98,21 +95,21 @@ fn write_blocks(
     out: &mut [f64],
 ) -> bool
     requires { ⌜ (orbitals ≤ 16) × (places * orbitals ≤ 16) × (length (now totals) ≡ 512) × (length (now out) ≡ places * (2 * (orbitals * orbitals))) ⌝ }
-    ensures { λ r. ⌜ (r ≡ lanesFine (now (totals .entry)) orbitals places until)
+    ensures { λ r. ⌜ (r ≡ lanesFinite (now (totals .entry)) orbitals places until)
         × (r ≡ true → now (out .exit) ≡ laidLanes (now (totals .entry)) orbitals places) ⌝ }
 {
     let width = 2 * (orbitals * orbitals);
     for p in 0..places {
         let start = p * width;
         let end = start + width;
-        let fine = write_block(
+        let finite = write_block(
             totals,
             p * orbitals,
             orbitals,
             p < until,
             &mut out[start..end],
         );
-        if !fine {
+        if !finite {
             return false;
         }
     }
@@ -127,8 +124,7 @@ pub fn write_group(
     until: usize,
     out: &mut [f64],
 ) -> Summed
-    ensures { λ r. ⌜ (r ≡ written (now (totals .entry)) orbitals places until (now (out .entry)) .answer)
-        × (now (out .exit) ≡ written (now (totals .entry)) orbitals places until (now (out .entry)) .out) ⌝ }
+    ensures { λ r. ⌜ (let made = written (now (totals .entry)) orbitals places until (now (out .entry)) in (r ≡ made .answer) × (now (out .exit) ≡ made .out)) ⌝ }
 {
     if !((orbitals <= 16) & (places <= 16)) {
         return Summed::Unfit;

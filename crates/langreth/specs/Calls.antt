@@ -1,15 +1,29 @@
--- Document 01, Langreth: the outcome of `langreth_product`.
-use Prim.Native.Nat.{ℕ}
-use mathlib.Core.Bool.{Bool, _&&_}
-use mathlib.Core.List.{List, [], _∷_, _++_}
-use lib.Ieee.{Float}
+-- Document 01, Langreth: the components of a product, and the outcome of `langreth_product`. "retarded causal, advanced sums s from t to t' with
+-- weights (s, t, t') where t ≤ t' and is +0 elsewhere" are sums of their own; "lesser is left retarded with right lesser plus left lesser with
+-- right advanced, greater alike, by `time_convolution`, in that order."
+use Rattle.lists.specs.Prelude.{ℕ, Bool, _&&_, List, [], _∷_, _++_, Float}
+use Rattle.complex.specs.Arithmetic.{cfinite}
 use Rattle.refusal.specs.declared.Verdict.{Verdict}
-use Rattle.refusal.specs.Verdict.{_then_, afterwards}
-use Rattle.refusal.specs.Lines.{finiteWork}
-use Rattle.two_time.specs.declared.sums.Sums.the-variants.{Causal, Advanced}
-use Rattle.two_time.specs.Sums.{sumsNumbers, sumsFine}
-use Rattle.two_time.specs.Calls.{inputLines}
-use Rattle.langreth.specs.Product.{correlationNumbers, correlationFine}
+use Rattle.refusal.specs.Verdict.{_then_, zeroed, afterwards}
+use Rattle.refusal.specs.Checks.{finiteWork}
+use Rattle.block.specs.Operations.{added}
+use Rattle.two_time.specs.declared.sums.Sums.the-variants.{Full, Causal, AntiCausal}
+use Rattle.two_time.specs.Layout.{TwoTime, readAs, layOutAll, everywhere}
+use Rattle.two_time.specs.Sums.{sumsOf, sumsNumbers, sumsFinite}
+use Rattle.two_time.specs.Calls.{inputChecks}
+
+-- a with b, plus c with d, and whether every block made for it is finite
+module _ (points orbitals : ℕ) (times a b c d : List Float) where
+  unfoldable pub correlation : TwoTime
+  correlation t u =
+      added (sumsOf Full points orbitals times (readAs points orbitals a) (readAs points orbitals b) t u) (sumsOf Full points orbitals times (readAs points orbitals c) (readAs points orbitals d) t u)
+
+  abbrev pub correlationNumbers : List Float
+  correlationNumbers = layOutAll points orbitals correlation
+
+  unfoldable pub correlationFinite : Bool
+  correlationFinite =
+      sumsFinite Full points orbitals times a b && (sumsFinite Full points orbitals times c d && everywhere points orbitals (λ t u i j. cfinite (correlation t u i j)))
 
 -- four components: of an operand, or of what the outputs hold
 pub record Components : Type 0 where
@@ -32,32 +46,27 @@ pub record Multiplied : Type 0 where
   pub out : Components
 
 module _ (points orbitals : ℕ) (times : List Float) (left right : Components) where
-  -- lesser or greater, of the two operands' components
-  abbrev pub correlationOf : List Float → List Float → List Float
-  correlationOf x y = correlationNumbers points orbitals times (left .retarded) y x (right .advanced)
+  -- the components of the product; lesser and greater, of the operands' x and y
+  abbrev pub productOf : Components
+  productOf =
+      let correlations : List Float → List Float → List Float = λ x y. correlationNumbers points orbitals times (left .retarded) y x (right .advanced) in
+      componentsOf (sumsNumbers Causal points orbitals times (left .retarded) (right .retarded)) (sumsNumbers AntiCausal points orbitals times (left .advanced) (right .advanced))
+      (correlations (left .lesser) (right .lesser)) (correlations (left .greater) (right .greater))
 
-  abbrev pub correlationFineOf : List Float → List Float → Bool
-  correlationFineOf x y = correlationFine points orbitals times (left .retarded) y x (right .advanced)
+  unfoldable pub productFinite : Bool
+  productFinite =
+      let finite : List Float → List Float → Bool = λ x y. correlationFinite points orbitals times (left .retarded) y x (right .advanced) in
+      sumsFinite Causal points orbitals times (left .retarded) (right .retarded)
+      && (sumsFinite AntiCausal points orbitals times (left .advanced) (right .advanced) && (finite (left .lesser) (right .lesser) && finite (left .greater) (right .greater)))
 
-  unfoldable pub productFine : Bool
-  productFine =
-      sumsFine Causal points orbitals times (left .retarded) (right .retarded)
-      && (sumsFine Advanced points orbitals times (left .advanced) (right .advanced)
-      && (correlationFineOf (left .lesser) (right .lesser) && correlationFineOf (left .greater) (right .greater)))
-
-  -- operands the left four, then the right four: lines 1 to 7, then 10
+  -- operands the left four, then the right four: checks 1 to 7, then 10
   unfoldable pub productVerdict : Components → Verdict
-  productVerdict out =
-      inputLines points orbitals times (listed left ++ listed right) (listed out) then finiteWork productFine
+  productVerdict out = inputChecks points orbitals times (listed left ++ listed right) (listed out) then finiteWork productFinite
 
   unfoldable pub langrethProduct : Components → Multiplied
   langrethProduct out =
+      let holds : List Float → List Float → List Float = afterwards zeroed (productVerdict out) in
       record {
         answer = productVerdict out;
-        out = record {
-          retarded = afterwards (productVerdict out) (sumsNumbers Causal points orbitals times (left .retarded) (right .retarded)) (out .retarded);
-          advanced = afterwards (productVerdict out) (sumsNumbers Advanced points orbitals times (left .advanced) (right .advanced)) (out .advanced);
-          lesser = afterwards (productVerdict out) (correlationOf (left .lesser) (right .lesser)) (out .lesser);
-          greater = afterwards (productVerdict out) (correlationOf (left .greater) (right .greater)) (out .greater);
-        };
+        out = componentsOf (holds (productOf .retarded) (out .retarded)) (holds (productOf .advanced) (out .advanced)) (holds (productOf .lesser) (out .lesser)) (holds (productOf .greater) (out .greater));
       }

@@ -1,34 +1,17 @@
 -- Closed cases of the Langreth product (reference/expected.py, case e), 10 and another refusal.
-use mathlib.Core.Path.{_≡_, refl}
-use mathlib.Core.List.{List, [], _∷_, map}
-use Prim.Native.Nat.{ℕ}
-use lib.ListN.{replicate}
-use lib.Ieee as Ieee
-use lib.Ieee.{Float, nan, binary64, toBits}
-use Rattle.lists.specs.Indexed.{fold, join, allBelow}
-use Rattle.complex.specs.Arithmetic.{plusZero, one, finite, cadd, cmul, cfinite}
-use Rattle.complex.specs.Sum.{sumFrom}
+use Rattle.lists.specs.Prelude.{_≡_, refl, List, [], _∷_, map, ℕ, replicate, Float, nan}
+use Rattle.complex.specs.Arithmetic.{plusZero, one}
 use Rattle.refusal.specs.declared.Verdict.the-variants.{Refused}
-use Rattle.refusal.specs.Verdict.{by, ask, _then_, askAll, afterwards}
-use Rattle.refusal.specs.Lines.{largeEnough, withinLimits, fitting, finiteTimes, risingTimes, finiteWeights, finiteEntries, finiteWork}
-use Rattle.matrix.specs.Block.{layOut}
-use Rattle.matrix.specs.Operations.{product, scaled, added}
-use Rattle.grid.specs.Weights.{halfStep, fullWeight, intervalWeight}
-use Rattle.grid.specs.Calls.{timeLines}
-use Rattle.two_time.specs.Layout.{layOutAll, everywhere}
-use Rattle.two_time.specs.WeightedSum.{productAt, termAt, partialSum, weightedSum, finiteSum}
-use Rattle.two_time.specs.Sums.{termsAt, sumsOf, sumsFinite, sumsNumbers, sumsFine}
-use Rattle.two_time.specs.Calls.{allLong, sizeLines, operandLines, inputLines}
-use Rattle.langreth.specs.Product.{correlation, correlationFinite}
-use Rattle.langreth.specs.Calls.{Components, listed, productFine, productVerdict, langrethProduct}
+use Rattle.refusal.specs.Verdict.{by}
+use Rattle.two_time.specs.Computation.{computation}
+use Rattle.two_time.specs.Example.{floats}
+use Rattle.two_time.specs.Example as Example
+use Rattle.langreth.specs.Calls.{Components, componentsOf, listed, correlation, correlationFinite, productFinite, productVerdict, langrethProduct}
 
 -- what the cases compute with
-unfoldable computing : Unit {0}
-unfolding langrethProduct productVerdict productFine inputLines sizeLines allLong operandLines timeLines largeEnough withinLimits fitting finiteTimes risingTimes finiteWeights finiteEntries finiteWork ask askAll _then_ afterwards correlation correlationFinite sumsNumbers sumsFine sumsOf sumsFinite termsAt layOutAll layOut join everywhere allBelow weightedSum partialSum termAt productAt finiteSum product scaled added sumFrom fold intervalWeight fullWeight halfStep cadd cmul cfinite finite Ieee.ofBits toBits Ieee.add Ieee.sub Ieee.mul Ieee.neg Ieee.lt
-computing = tt
-
-abbrev floats : List ℕ → List Float
-floats = map (Ieee.ofBits binary64)
+unfoldable langrethComputation : Unit {0}
+unfolding computation correlation correlationFinite productFinite productVerdict langrethProduct
+langrethComputation = tt
 
 -- 0, 0.1
 abbrev times : List Float
@@ -38,35 +21,27 @@ times = floats (0 ∷ 0x3fb999999999999a ∷ [])
 abbrev left : Components
 left =
     record {
-      retarded = floats (
-          0x3ff0000000000000 ∷ 0 ∷ 0x3ff0000000000000 ∷ 0x3ff0000000000000 ∷ 0x4000000000000000 ∷ 0 ∷ 0x4000000000000000 ∷ 0x3ff0000000000000 ∷ []);
-      advanced = floats (
-          0x3fd3333333333333 ∷ 0 ∷ 0xbfe6666666666666 ∷ 0 ∷ 0x3fd3333333333333 ∷ 0x3ff0000000000000 ∷ 0xbfe6666666666666 ∷ 0x3ff0000000000000 ∷ []);
-      lesser = floats (
-          0x3fb999999999999a ∷ 0x3fe6666666666666 ∷ 0x3fb999999999999a ∷ 0x3fe6666666666666 ∷ 0x3fc999999999999a ∷ 0x3fe6666666666666 ∷ 0x3fc999999999999a ∷ 0x3fe6666666666666 ∷ []);
-      greater = floats (
-          0 ∷ 0xbfc999999999999a ∷ 0xbff0000000000000 ∷ 0xbfc999999999999a ∷ 0x3ff0000000000000 ∷ 0xbfc999999999999a ∷ 0 ∷ 0xbfc999999999999a ∷ []);
+      retarded = floats (0x3ff0000000000000 ∷ 0 ∷ 0x3ff0000000000000 ∷ 0x3ff0000000000000 ∷ 0x4000000000000000 ∷ 0 ∷ 0x4000000000000000 ∷ 0x3ff0000000000000 ∷ []);
+      advanced = floats (0x3fd3333333333333 ∷ 0 ∷ 0xbfe6666666666666 ∷ 0 ∷ 0x3fd3333333333333 ∷ 0x3ff0000000000000 ∷ 0xbfe6666666666666 ∷ 0x3ff0000000000000 ∷ []);
+      lesser = floats (0x3fb999999999999a ∷ 0x3fe6666666666666 ∷ 0x3fb999999999999a ∷ 0x3fe6666666666666 ∷ 0x3fc999999999999a ∷ 0x3fe6666666666666 ∷ 0x3fc999999999999a ∷ 0x3fe6666666666666 ∷ []);
+      greater = floats (0 ∷ 0xbfc999999999999a ∷ 0xbff0000000000000 ∷ 0xbfc999999999999a ∷ 0x3ff0000000000000 ∷ 0xbfc999999999999a ∷ 0 ∷ 0xbfc999999999999a ∷ []);
     }
 
 -- R = 0.5 + (t + u)i, A = (1 + t·u) − i, lesser u + 0.9i, greater 0.6 − ti
 abbrev right : Components
 right =
     record {
-      retarded = floats (
-          0x3fe0000000000000 ∷ 0 ∷ 0x3fe0000000000000 ∷ 0x3ff0000000000000 ∷ 0x3fe0000000000000 ∷ 0x3ff0000000000000 ∷ 0x3fe0000000000000 ∷ 0x4000000000000000 ∷ []);
-      advanced = floats (
-          0x3ff0000000000000 ∷ 0xbff0000000000000 ∷ 0x3ff0000000000000 ∷ 0xbff0000000000000 ∷ 0x3ff0000000000000 ∷ 0xbff0000000000000 ∷ 0x4000000000000000 ∷ 0xbff0000000000000 ∷ []);
-      lesser = floats (
-          0 ∷ 0x3feccccccccccccd ∷ 0x3ff0000000000000 ∷ 0x3feccccccccccccd ∷ 0 ∷ 0x3feccccccccccccd ∷ 0x3ff0000000000000 ∷ 0x3feccccccccccccd ∷ []);
-      greater = floats (
-          0x3fe3333333333333 ∷ 0x8000000000000000 ∷ 0x3fe3333333333333 ∷ 0x8000000000000000 ∷ 0x3fe3333333333333 ∷ 0xbff0000000000000 ∷ 0x3fe3333333333333 ∷ 0xbff0000000000000 ∷ []);
+      retarded = floats (0x3fe0000000000000 ∷ 0 ∷ 0x3fe0000000000000 ∷ 0x3ff0000000000000 ∷ 0x3fe0000000000000 ∷ 0x3ff0000000000000 ∷ 0x3fe0000000000000 ∷ 0x4000000000000000 ∷ []);
+      advanced = floats (0x3ff0000000000000 ∷ 0xbff0000000000000 ∷ 0x3ff0000000000000 ∷ 0xbff0000000000000 ∷ 0x3ff0000000000000 ∷ 0xbff0000000000000 ∷ 0x4000000000000000 ∷ 0xbff0000000000000 ∷ []);
+      lesser = floats (0 ∷ 0x3feccccccccccccd ∷ 0x3ff0000000000000 ∷ 0x3feccccccccccccd ∷ 0 ∷ 0x3feccccccccccccd ∷ 0x3ff0000000000000 ∷ 0x3feccccccccccccd ∷ []);
+      greater = floats (0x3fe3333333333333 ∷ 0x8000000000000000 ∷ 0x3fe3333333333333 ∷ 0x8000000000000000 ∷ 0x3fe3333333333333 ∷ 0xbff0000000000000 ∷ 0x3fe3333333333333 ∷ 0xbff0000000000000 ∷ []);
     }
 
 abbrev ones : Components
-ones = record { retarded = replicate 8 one; advanced = replicate 8 one; lesser = replicate 8 one; greater = replicate 8 one }
+ones = let each = replicate 8 one in componentsOf each each each each
 
 abbrev bits : Components → List (List ℕ)
-bits x = map (map (toBits binary64)) (listed x)
+bits x = map Example.bits (listed x)
 
 components : bits (langrethProduct 2 1 times left right ones .out) ≡
     (
@@ -78,7 +53,7 @@ components : bits (langrethProduct 2 1 times left right ones .out) ≡
     ∷ (
     0x3fa47ae147ae147c ∷ 0x3f847ae147ae147c ∷ 0xbf847ae147ae1480 ∷ 0xbc60000000000000 ∷ 0x3fc999999999999a ∷ 0xbfc1eb851eb851ec ∷ 0x3fc999999999999a ∷ 0xbfc3333333333333 ∷ [])
     ∷ []
-unfolding computing
+unfolding langrethComputation
 components = refl
 
 -- 10 by the product of the advanced components at (1,1), where the weight is 0: each output +0. And 7 of operand 7, the right greater function
@@ -86,11 +61,11 @@ abbrev most : List Float
 most = floats (0 ∷ 0 ∷ 0 ∷ 0 ∷ 0 ∷ 0 ∷ 0x7fe0000000000000 ∷ 0 ∷ [])
 
 abbrev zero-but-advanced : List Float → Components
-zero-but-advanced x = record { retarded = replicate 8 plusZero; advanced = x; lesser = replicate 8 plusZero; greater = replicate 8 plusZero }
+zero-but-advanced x = let zeros = replicate 8 plusZero in componentsOf zeros x zeros zeros
 
 refused : langrethProduct 2 1 times (zero-but-advanced most) (zero-but-advanced most) ones
-    ∷ langrethProduct 2 1 times ones (record { retarded = replicate 8 one; advanced = replicate 8 one; lesser = replicate 8 one; greater = nan ∷ replicate 7 one }) ones ∷ []
+    ∷ langrethProduct 2 1 times ones (componentsOf (ones .retarded) (ones .advanced) (ones .lesser) (nan ∷ replicate 7 one)) ones ∷ []
     ≡ record { answer = Refused (by 10); out = zero-but-advanced (replicate 8 plusZero) }
     ∷ record { answer = Refused (record { number = 7; operand = 7; first = 0; second = 0; part = plusZero }); out = ones } ∷ []
-unfolding computing
+unfolding langrethComputation
 refused = refl

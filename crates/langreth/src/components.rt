@@ -1,14 +1,9 @@
 // The four components of a Langreth product, each by the sums at all places (document 01, Langreth).
-ghost use mathlib.Core.Path.{_≡_};
-ghost use mathlib.Core.Bool.{true};
-ghost use mathlib.Core.List.{[], _∷_, _++_};
-ghost use lib.ListN.{length};
-ghost use Rattle.two_time.specs.Sums.{sumsNumbers, sumsFine};
-ghost use Rattle.two_time.specs.SizeLines.{SizesPassed};
-ghost use Rattle.langreth.specs.Product.{correlationNumbers, correlationFine};
-ghost use Rattle.langreth.specs.Calls.{componentsOf, listed, productFine};
-ghost use Rattle.langreth.specs.Adding.{plus, numbersFinite};
-ghost use Rattle.langreth.specs.Work.{Made};
+ghost use Rattle.lists.specs.Prelude.{_≡_, true, [], _∷_, _++_, length};
+ghost use Rattle.two_time.specs.Sums.{sumsNumbers, sumsFinite};
+ghost use Rattle.two_time.specs.SizeChecks.{SizesPassed};
+ghost use Rattle.langreth.specs.Calls.{correlationNumbers, correlationFinite, componentsOf, listed, productOf, productFinite};
+ghost use Rattle.langreth.specs.Added.{plus, numbersFinite};
 use complex::is_finite;
 use sums::weighted_sums;
 use two_time::sums::Sums;
@@ -24,7 +19,7 @@ fn convolve(
     out: &mut [f64],
 ) -> bool
     requires { ⌜ SizesPassed points orbitals true (now left ∷ now right ∷ now out ∷ []) ⌝ }
-    ensures { λ r. ⌜ (r ≡ sumsFine sums points orbitals (now (times .entry)) (now (left .entry)) (now (right .entry)))
+    ensures { λ r. ⌜ (r ≡ sumsFinite sums points orbitals (now (times .entry)) (now (left .entry)) (now (right .entry)))
         × (r ≡ true → now (out .exit) ≡ sumsNumbers sums points orbitals (now (times .entry)) (now (left .entry)) (now (right .entry))) ⌝ }
 {
     weighted_sums(sums, times, left, right, points, orbitals, out).is_finite()
@@ -59,7 +54,7 @@ fn correlation(
     scratch: &mut [f64],
 ) -> bool
     requires { ⌜ SizesPassed points orbitals true (now «left_retarded» ∷ now right ∷ now left ∷ now «right_advanced» ∷ now out ∷ now scratch ∷ []) ⌝ }
-    ensures { λ r. ⌜ (r ≡ correlationFine points orbitals (now (times .entry)) (now («left_retarded» .entry)) (now (right .entry)) (now (left .entry)) (now («right_advanced» .entry)))
+    ensures { λ r. ⌜ (r ≡ correlationFinite points orbitals (now (times .entry)) (now («left_retarded» .entry)) (now (right .entry)) (now (left .entry)) (now («right_advanced» .entry)))
         × (r ≡ true → now (out .exit) ≡ correlationNumbers points orbitals (now (times .entry)) (now («left_retarded» .entry)) (now (right .entry)) (now (left .entry)) (now («right_advanced» .entry))) ⌝ }
 {
     if !convolve(
@@ -110,13 +105,10 @@ pub(crate) fn work(
         (listed (componentsOf (now «left_retarded») (now «left_advanced») (now «left_lesser») (now «left_greater»))
         ++ listed (componentsOf (now «right_retarded») (now «right_advanced») (now «right_lesser») (now «right_greater»))
         ++ listed (componentsOf (now retarded) (now advanced) (now lesser) (now greater))) ⌝ }
-    ensures { λ r. ⌜ (r ≡ productFine points orbitals (now (times .entry))
-        (componentsOf (now («left_retarded» .entry)) (now («left_advanced» .entry)) (now («left_lesser» .entry)) (now («left_greater» .entry)))
-        (componentsOf (now («right_retarded» .entry)) (now («right_advanced» .entry)) (now («right_lesser» .entry)) (now («right_greater» .entry))))
-        × (r ≡ true → Made points orbitals (now (times .entry))
-        (componentsOf (now («left_retarded» .entry)) (now («left_advanced» .entry)) (now («left_lesser» .entry)) (now («left_greater» .entry)))
-        (componentsOf (now («right_retarded» .entry)) (now («right_advanced» .entry)) (now («right_lesser» .entry)) (now («right_greater» .entry)))
-        (componentsOf (now (retarded .exit)) (now (advanced .exit)) (now (lesser .exit)) (now (greater .exit)))) ⌝ }
+    ensures { λ r. ⌜ (let a = componentsOf (now («left_retarded» .entry)) (now («left_advanced» .entry)) (now («left_lesser» .entry)) (now («left_greater» .entry)) in
+        let b = componentsOf (now («right_retarded» .entry)) (now («right_advanced» .entry)) (now («right_lesser» .entry)) (now («right_greater» .entry)) in
+        (r ≡ productFinite points orbitals (now (times .entry)) a b)
+        × (r ≡ true → componentsOf (now (retarded .exit)) (now (advanced .exit)) (now (lesser .exit)) (now (greater .exit)) ≡ productOf points orbitals (now (times .entry)) a b)) ⌝ }
 {
     if !correlation(
         times,
@@ -156,7 +148,7 @@ pub(crate) fn work(
         return false;
     }
     convolve(
-        Sums::Advanced,
+        Sums::AntiCausal,
         times,
         left_advanced,
         right_advanced,

@@ -1,15 +1,15 @@
 // The real-time Langreth rules of a contour product (document 01, Langreth): the meaning of the call is in specs/.
+mod checks;
 mod components;
-mod lines;
 
-ghost use mathlib.Core.Path.{_≡_};
+ghost use Rattle.lists.specs.Prelude.{_≡_};
 ghost use Rattle.langreth.specs.Calls.{componentsOf, langrethProduct};
 use refusal::Refusal;
 use refusal::Verdict;
+use two_time::checks::all_fit;
 use two_time::layout::clear;
-use two_time::lines::all_fit;
 
-// The Langreth product of two functions by their components: C^R = A^R∘B^R, C^A = A^A∘B^A, C^< = A^R∘B^< + A^<∘B^A, C^> alike. Lines 1
+// The Langreth product of two functions by their components: C^R = A^R∘B^R, C^A = A^A∘B^A, C^< = A^R∘B^< + A^<∘B^A, C^> alike. Checks 1
 // to 7, then 10. At most 4·N³ + N(N+1)(N+2)/3 products of blocks.
 pub fn langreth_product(
     times: &[f64],
@@ -38,8 +38,8 @@ pub fn langreth_product(
         × (now (lesser .exit) ≡ product .out .lesser)
         × (now (greater .exit) ≡ product .out .greater)) ⌝ }
 {
-    let lent = all_fit(retarded, advanced, lesser, greater, points, orbitals);
-    let verdict = lines::input_lines(
+    let outputs_fit = all_fit(retarded, advanced, lesser, greater, points, orbitals);
+    let verdict = checks::check_inputs(
         times,
         left_retarded,
         left_advanced,
@@ -51,7 +51,7 @@ pub fn langreth_product(
         right_greater,
         points,
         orbitals,
-        lent,
+        outputs_fit,
     );
     let Verdict::Pass = verdict else {
         return verdict;

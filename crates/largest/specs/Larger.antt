@@ -1,11 +1,6 @@
 -- The larger of two values (`f64::max`) does not depend on how three are grouped, and of a NaN and another it is the other. So a maximum
 -- may begin at what was the largest before. Assumes nothing.
-use mathlib.Core.Path.{_≡_, refl, sym, ap, _∙_, subst}
-use mathlib.Core.Logic.{⊎-elim}
-use mathlib.Core.Bool.{Bool, true, false, cond, _||_}
-use Prim.Native.Nat.{ℕ, zero, suc}
-use lib.Dec.{T}
-use lib.Ieee.{Float, nan, lt, ne, ofBits}
+use Rattle.lists.specs.Prelude.{_≡_, refl, sym, ap, _∙_, subst, ⊎-elim, Bool, true, false, cond, _||_, ℕ, zero, suc, T, Float, nan, lt, ne, ofBits}
 use lib.Ieee.Compare.{differs-from-itself}
 use Rattle.lists.specs.Agreement.{never}
 use Rattle.lists.specs.Indexed.{fold}
@@ -132,8 +127,3 @@ module _ (m : Float) (h : FromZero m) (rows columns : ℕ) (f : ℕ → ℕ → 
   pub rows-onward : fold rows (λ a l. largestFrom l columns (f a)) m ≡ larger m (largestIn rows columns f)
   unfolding largestIn
   rows-onward = ap (λ (x : Float). fold rows (λ a l. largestFrom l columns (f a)) x) (sym h) ∙ rows-from-larger m plusZero rows columns f
-
--- the largest of all from +0 itself
-pub from-zero : (rows columns : ℕ) (f : ℕ → ℕ → Float) → larger plusZero (largestIn rows columns f) ≡ largestIn rows columns f
-unfolding largestIn
-from-zero rows columns f = sym (rows-onward plusZero zero-itself rows columns f)

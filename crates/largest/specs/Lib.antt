@@ -1,8 +1,5 @@
--- When a norm need not be made to know a maximum, and how a maximum goes on from one that is known.
+-- First what the contracts cite: the digits of parts at one exponent, a root below a middle, half a number.
+pub mod Digits
+-- The order of all values, and the larger of two: how a maximum goes on from one that is known.
 pub mod Order
 pub mod Larger
-pub mod Bound
-pub mod Halves
-pub mod Unsigned
-pub mod Middle
-pub mod Digits

@@ -1,18 +1,11 @@
 -- The order of all binary64 values: none is both below another and at least it, and where one is below another any number is above the
 -- first or below the second. Assumes nothing.
-use mathlib.Core.Path.{_≡_, refl, sym, ap, _∙_, subst}
-use mathlib.Core.Logic.{_⊎_, inl, inr, ⊎-elim, ⊎-map}
-use mathlib.Core.Bool.{Bool, true, false, _||_}
-use Prim.Native.Nat.{ℕ, _+_, _*_, _≤_, _<_, zero-le}
-use native.Mathlib.Nat.{lt-of-le-of-lt, lt-of-not-le, not-le-of-lt, eq-zero-or-pos, mul-pos, zero-mul}
-use native.Mathlib.Decide.{decLe}
-use native.Mathlib.Omega.{arith}
-use lib.Dec.{T, eqb, ltb→lt, eqb→eq}
-use lib.Ieee.{Float, nan, inf, fin, up, down, lt, le, eq, ne, below, level}
+use Rattle.lists.specs.Prelude.{_≡_, refl, sym, ap, _∙_, subst, _⊎_, inl, inr, ⊎-elim, ⊎-map, Bool, true, false, _||_, ℕ, _+_, _*_, _≤_, _<_, zero-le, lt-of-le-of-lt}
+use Rattle.lists.specs.Prelude.{lt-of-not-le, not-le-of-lt, eq-zero-or-pos, mul-pos, zero-mul, decLe, arith, T, eqb, ltb→lt, eqb→eq, Float, nan, inf, fin, up, down, lt}
+use Rattle.lists.specs.Prelude.{le, eq, ne, below, level, ltb-true, lt-ltb}
 use lib.Ieee.Compare.{differs-from-itself}
 use lib.Ieee.Fits.{down-pos, and-l, and-r}
 use lib.Ieee.Positive.{first-pos, through}
-use borrow.Author.Tests.{ltb-true, lt-ltb}
 use Rattle.lists.specs.Agreement.{never}
 
 -- ---- never below and at least

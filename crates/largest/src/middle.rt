@@ -1,9 +1,6 @@
 // Whether the middle of a step is above a root, by the bits of the numbers.
-ghost use mathlib.Core.Bool.{true};
-ghost use mathlib.Core.Path.{_≡_};
-ghost use Prim.Native.Nat.{_+_, _*_, _^_, _≤_, _<_};
-ghost use Rattle.largest.specs.Digits.{tenMore, over};
-ghost use Rattle.largest.specs.Middle.{BelowMiddle};
+ghost use Rattle.lists.specs.Prelude.{true, _≡_, _+_, _*_, _^_, _≤_, _<_};
+ghost use Rattle.largest.specs.Digits.{tenMore, over, BelowMiddle};
 
 // The significand of the bits a, and ten digits behind it. A subnormal number is given a leading digit too, which makes it too large.
 fn digits(a: u64) -> u64

@@ -1,11 +1,5 @@
 -- Two values, lists or tests that are built by steps which agree below n are equal, and a test of all is a test of each. Assumes nothing.
-use mathlib.Core.Path.{_≡_, refl, sym}
-use mathlib.Core.Bool.{Bool, true, false, cond, _&&_, _||_}
-use mathlib.Core.List.{List}
-use Prim.Native.Nat.{ℕ, zero, suc, _<_}
-use mathlib.Core.Logic.{⊎-elim}
-use native.Mathlib.Nat.{le-refl, le-of-suc-le-suc, eq-or-lt-of-le}
-use native.Mathlib.Omega.{arith}
+use Rattle.lists.specs.Prelude.{_≡_, refl, sym, Bool, true, false, cond, _&&_, _||_, List, ℕ, zero, suc, _<_, ⊎-elim, le-refl, le-of-suc-le-suc, eq-or-lt-of-le, arith}
 use Rattle.lists.specs.Indexed.{fold, join, allBelow}
 
 pub never : {P : Type 0} → false ≡ true → P

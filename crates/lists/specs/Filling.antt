@@ -1,13 +1,7 @@
--- A slice that a loop writes over from its start: what it holds after k turns, and at the end. Assumes nothing.
-use mathlib.Core.Path.{_≡_, refl, sym, ap, _∙_}
-use mathlib.Core.List.{List, [], _∷_, _++_, append-assoc, append-nil}
-use Prim.Native.Nat.{ℕ, zero, suc, _+_, _-_, _<_}
-use native.Mathlib.Nat.{le-refl, not-suc-le-zero, le-of-suc-le-suc, sub-zero, suc-sub-suc, zero-sub, le-of-lt, min-eq-left}
-use native.Mathlib.Omega.{arith}
-use native.Mathlib.Numerals.{add-one}
-use lib.ListN.{length, getD, take, drop, set, replicate, length-append, length-take, drop-of-length-le}
-use lib.Seq.{take-suc, take-at, drop-at, drop-drop}
-use borrow.Rule.Slice.PartMut.{putMid}
+-- A slice that a loop writes over from its start: what it holds after k steps, and at the end. Assumes nothing.
+use Rattle.lists.specs.Prelude.{_≡_, refl, sym, ap, _∙_, List, [], _∷_, _++_, append-assoc, append-nil, ℕ, zero, suc, _+_, _-_, _<_, le-refl, not-suc-le-zero}
+use Rattle.lists.specs.Prelude.{le-of-suc-le-suc, sub-zero, suc-sub-suc, zero-sub, le-of-lt, min-eq-left, arith, add-one, length, getD, take, drop, set, replicate}
+use Rattle.lists.specs.Prelude.{length-append, length-take, drop-of-length-le, take-suc, take-at, drop-at, drop-drop, putMid}
 
 module _ {A : Type 0} where
   -- d with xs written over its start

@@ -1,7 +1,5 @@
 -- Values, lists and tests that are built by an index which goes up from 0. Each adds its last step last, as a loop does.
-use Prim.Native.Nat.{ℕ, zero, suc}
-use mathlib.Core.Bool.{Bool, true, _&&_}
-use mathlib.Core.List.{List, [], _++_}
+use Rattle.lists.specs.Prelude.{ℕ, zero, suc, Bool, true, _&&_, List, [], _++_}
 
 module _ {A : Type 0} where
   -- the value after the steps f 0, f 1, .., f (n - 1) from x

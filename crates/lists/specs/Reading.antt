@@ -1,14 +1,6 @@
 -- A list that is joined of parts of one width, read by the part and the place in it. Assumes nothing.
-use mathlib.Core.Path.{_≡_, sym, ap, subst, _∙_}
-use mathlib.Core.Logic.{⊎-elim}
-use mathlib.Core.List.{List, _++_}
-use Prim.Native.Nat.{ℕ, zero, suc, _+_, _-_, _*_, _≤_, _<_}
-use native.Mathlib.Nat.{le-refl, le-of-suc-le-suc, eq-or-lt-of-le, zero-mul, suc-mul}
-use native.Mathlib.Decide.{decLt}
-use native.Mathlib.Omega.{arith}
-use lib.Arith.{digits-lt}
-use lib.ListN.{length, getD, length-append, List·getD-append}
-use lib.Seq.{getD-append-add}
+use Rattle.lists.specs.Prelude.{_≡_, sym, ap, subst, _∙_, ⊎-elim, List, _++_, ℕ, zero, suc, _+_, _-_, _*_, _≤_, _<_, le-refl, le-of-suc-le-suc, eq-or-lt-of-le}
+use Rattle.lists.specs.Prelude.{zero-mul, suc-mul, decLt, arith, digits-lt, length, getD, length-append, List·getD-append, getD-append-add}
 use Rattle.lists.specs.Indexed.{join}
 
 module _ {A : Type 0} where

@@ -1,13 +1,9 @@
--- A slice that a loop writes over with one element a turn. Assumes nothing.
-use mathlib.Core.Path.{_≡_, refl, sym, _∙_}
-use mathlib.Core.List.{List, [], _∷_}
-use Prim.Native.Nat.{ℕ, zero, suc, _+_, _≤_, _<_}
-use native.Mathlib.Nat.{mul-one, le-antisymm}
-use native.Mathlib.Numerals.{add-one}
-use lib.ListN.{length, set, replicate, replicate-append-replicate}
+-- A slice that a loop writes over with one element a step. Assumes nothing.
+use Rattle.lists.specs.Prelude.{_≡_, refl, sym, _∙_, List, [], _∷_, ℕ, zero, suc, _+_, _≤_, _<_, mul-one, le-antisymm, add-one, length, set, replicate}
+use Rattle.lists.specs.Prelude.{replicate-append-replicate}
 use Rattle.lists.specs.Indexed.{join}
 use Rattle.lists.specs.Reading.{length-join}
-use Rattle.lists.specs.Turns.{join-more}
+use Rattle.lists.specs.Steps.{join-more}
 use Rattle.lists.specs.Filling.{over, over-none, over-one, over-all}
 
 module _ {A : Type 0} where
@@ -23,8 +19,8 @@ module _ {A : Type 0} where
     unfolding join
     singles-none = sym (over-none d)
 
-    pub singles-turn : (i : ℕ) → i < length d → set (over d (singles i f)) i (f i) ≡ over d (singles (i + 1) f)
-    singles-turn i h = rw (over-one d (singles i f) i (f i) (length-singles i f) h, join-more)
+    pub singles-step : (i : ℕ) → i < length d → set (over d (singles i f)) i (f i) ≡ over d (singles (i + 1) f)
+    singles-step i h = rw (over-one d (singles i f) i (f i) (length-singles i f) h, join-more)
 
     pub singles-end : {out : List A} (i : ℕ) → i ≤ length d → length d ≤ i → out ≡ over d (singles i f) → out ≡ singles (length d) f
     singles-end i le ge e =

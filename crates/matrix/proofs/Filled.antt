@@ -1,26 +1,15 @@
 -- A block that is written row by row: one more row, and the end. Assumes nothing.
-use mathlib.Core.Path.{_≡_, sym, ap, _∙_}
-use mathlib.Core.Bool.{_&&_}
-use mathlib.Core.List.{List}
-use Prim.Native.Nat.{ℕ, _+_, _-_, _*_}
-use native.Mathlib.Nat.{mul-left-comm}
-use native.Mathlib.Omega.{arith}
-use lib.ListN.{length, replicate}
-use lib.Ieee.{Float}
-use borrow.Rule.Slice.PartMut.{putMid}
+use Rattle.lists.specs.Prelude.{_≡_, sym, ap, _∙_, _&&_, List, ℕ, _+_, _-_, _*_, mul-left-comm, arith, replicate, Float, putMid}
 use Rattle.lists.specs.Indexed.{allBelow}
-use Rattle.lists.specs.Turns.{all-more, join-more}
-use Rattle.lists.specs.Reading.{length-join}
+use Rattle.lists.specs.Steps.{all-more, join-more}
 use Rattle.lists.specs.Filling.{over, over-part, over-replicate}
 use Rattle.complex.specs.Arithmetic.{plusZero, cfinite}
 use Rattle.complex.specs.Filling.{cells, length-cells}
 use Rattle.matrix.specs.declared.DenseMatrix.{DenseMatrix}
-use Rattle.matrix.specs.Block.{Entries, layOut, blockOf}
-use Rattle.matrix.specs.Operations.{allFinite}
-
-length-rows : (rows columns : ℕ) (f : Entries) → length (layOut rows columns f) ≡ rows * (2 * columns)
-unfolding layOut
-length-rows rows columns f = length-join rows (2 * columns) (λ a. cells columns (f a)) (λ a ha. length-cells columns (f a))
+use Rattle.block.specs.Block.{Entries, layOut}
+use Rattle.matrix.specs.Dense.{blockOf}
+use Rattle.block.specs.Length.{length-rows}
+use Rattle.block.specs.Operations.{allFinite}
 
 -- row i is tested, and written over the part of a slice that follows the rows before it
 module _ (i columns : ℕ) (f : Entries) where

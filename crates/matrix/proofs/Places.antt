@@ -1,7 +1,5 @@
 -- Where an entry of a block of at most 16 by 16 stands: within 512 numbers. Assumes nothing.
-use Prim.Native.Nat.{ℕ, _+_, _*_, _≤_, _<_}
-use native.Mathlib.Nat.{le-trans, mul-le-mul-left, mul-le-mul-right, mul-left-comm, le-of-suc-le-suc}
-use native.Mathlib.Omega.{arith}
+use Rattle.lists.specs.Prelude.{ℕ, _+_, _*_, _≤_, _<_, le-trans, mul-le-mul-left, mul-le-mul-right, mul-left-comm, le-of-suc-le-suc, arith}
 
 -- the rows before row i
 pub rows-before : (i columns : ℕ) → i < 16 → columns ≤ 16 → i * columns ≤ 240

@@ -1,58 +1,66 @@
 -- How a call's answer follows from the verdict on what it was given, and the block that was made. Assumes nothing.
-use mathlib.Core.Path.{_≡_, refl, sym, ap, ap₂, _∙_}
-use mathlib.Core.Bool.{Bool, false}
-use Prim.Native.Nat.{ℕ}
-use lib.Dec.{eqb}
-use borrow.Author.Tests.{eqb-true}
-use Rattle.lists.specs.Agreement.{both}
+use Rattle.lists.specs.Prelude.{_≡_, refl, sym, ap, Bool, true, false, not, _||_, ℕ, Float}
+use Rattle.complex.specs.declared.Complex.{Complex}
 use Rattle.refusal.specs.declared.Refusal.{Refusal}
+use Rattle.refusal.specs.declared.Measured.the-variants.{Of as Measure}
 use Rattle.refusal.specs.declared.Verdict.{Verdict}
 use Rattle.refusal.specs.declared.Verdict.the-variants.{Pass, Refused}
-use Rattle.refusal.specs.Verdict.{by, ask, _then_}
-use Rattle.refusal.specs.Agreement.{then-after, then-refused}
-use Rattle.refusal.specs.Lines.{finiteWork}
+use Rattle.refusal.specs.Verdict.{by, ask, _then_, measured}
+use Rattle.refusal.specs.Agreement.{then-end}
+use Rattle.refusal.specs.Checks.{finiteWork}
+use Rattle.block.specs.Block.{Entries}
+use Rattle.block.specs.Operations.{allFinite}
 use Rattle.matrix.specs.declared.DenseMatrix.{DenseMatrix}
 use Rattle.matrix.specs.declared.Checked.{Checked}
-use Rattle.matrix.specs.Block.{Entries, blockOf, noBlock, checked}
-use Rattle.matrix.specs.Operations.{allFinite}
-use Rattle.matrix.specs.Calls.{finiteBlock, pairLines, sameShape}
-use Rattle.matrix.proofs.Shapes.{pair-fits}
-
--- a block that no question is asked of
-pub accepted-is : (v : Verdict) (made block : DenseMatrix) → v ≡ Pass → block ≡ made → checked Pass block ≡ checked v made
-accepted-is v made block p e = ap₂ checked (sym p) e
+use Rattle.matrix.specs.declared.Value.the-variants.{Of, Refused as NoValue}
+use Rattle.matrix.specs.Dense.{blockOf, noBlock, checked}
+use Rattle.matrix.specs.Calls.{pairChecks, sameShape, valued}
+use Rattle.matrix.specs.Made.{answerOf}
+use Rattle.matrix.proofs.Shapes.{same-columns}
 
 pub refused-is : (v : Verdict) (made : DenseMatrix) (r : Refusal) → v ≡ Refused r → _≡_ {A = Checked} (record { verdict = Refused r; block = noBlock }) (checked v made)
 unfolding checked
 refused-is v made r p = rw p
 
--- a block that line 10 is asked of
-module _ (v : Verdict) (rows columns : ℕ) (f : Entries) where
-  pub finite-is : (fine : Bool) (block : DenseMatrix) → v ≡ Pass → fine ≡ allFinite rows columns f → block ≡ blockOf rows columns f
-      → checked (finiteWork fine) block ≡ finiteBlock v rows columns f
-  unfolding finiteBlock
-  finite-is fine block p e b = ap₂ checked (ap finiteWork e ∙ sym (then-after v (finiteWork (allFinite rows columns f)) p)) b
+module _ (v : Verdict) (tested : Bool) (rows columns : ℕ) (f : Entries) where
+  pub answer-refused : (r : Refusal) → v ≡ Refused r → _≡_ {A = Checked} (record { verdict = Refused r; block = noBlock }) (answerOf v tested rows columns f)
+  unfolding answerOf checked _then_
+  answer-refused r p = rw p
 
-  pub not-finite-is : (r : Refusal) → v ≡ Refused r → _≡_ {A = Checked} (record { verdict = Refused r; block = noBlock }) (finiteBlock v rows columns f)
-  unfolding finiteBlock
-  not-finite-is r p = refused-is (v then finiteWork (allFinite rows columns f)) (blockOf rows columns f) r (then-refused v (finiteWork (allFinite rows columns f)) r p)
+  -- what check 10 says of the block that is made
+  module _ (finite : Bool) (p : v ≡ Pass) (e : finite ≡ allFinite rows columns f) where
+    pub answer-finite : (block : DenseMatrix) → block ≡ blockOf rows columns f → not tested || finite ≡ true → _≡_ {A = Checked} (record { verdict = Pass; block = block }) (answerOf v tested rows columns f)
+    unfolding answerOf checked _then_ finiteWork ask
+    answer-finite block b h = rw (p, ← e, h, b)
 
--- 10 where it is not
-pub overflow-is : (fine : Bool) (block : DenseMatrix) → fine ≡ false → _≡_ {A = Checked} (record { verdict = Refused (by 10); block = noBlock }) (checked (finiteWork fine) block)
-unfolding finiteWork ask checked
-overflow-is fine block e = rw e
+    pub answer-overflow : not tested || finite ≡ false → _≡_ {A = Checked} (record { verdict = Refused (by 10); block = noBlock }) (answerOf v tested rows columns f)
+    unfolding answerOf checked _then_ finiteWork ask
+    answer-overflow h = rw (p, ← e, h)
+
+-- a block that check 10 is not asked of
+pub untested : (v : Verdict) (rows columns : ℕ) (f : Entries) → answerOf v false rows columns f ≡ checked v (blockOf rows columns f)
+unfolding answerOf finiteWork ask
+untested v rows columns f = ap (λ (w : Verdict). checked w (blockOf rows columns f)) (then-end v)
 
 -- where two blocks of one shape pass, either's columns are the block's
-by-columns : (v : Verdict) (rows columns columns' : ℕ) (f : Entries) → (v ≡ Pass → columns ≡ columns') → finiteBlock v rows columns f ≡ finiteBlock v rows columns' f
-unfolding finiteBlock _then_ checked
-by-columns Pass rows columns columns' f h = ap (λ (m : ℕ). finiteBlock Pass rows m f) (h refl)
-by-columns (Refused r) rows columns columns' f h = refl
+pub either-columns : (x y : DenseMatrix) (f : Entries) → let v = pairChecks (sameShape x y) x y in answerOf v true (x .rows) (y .columns) f ≡ answerOf v true (x .rows) (x .columns) f
+unfolding answerOf checked _then_
+either-columns x y f = by-verdict (pairChecks (sameShape x y) x y) (same-columns x y)
+  where
+    by-verdict : (v : Verdict) → (v ≡ Pass → x .columns ≡ y .columns) → answerOf v true (x .rows) (y .columns) f ≡ answerOf v true (x .rows) (x .columns) f
+    by-verdict Pass h = ap (λ (m : ℕ). answerOf Pass true (x .rows) m f) (sym (h refl))
+    by-verdict (Refused r) h = refl
 
-pub same-columns : (x y : DenseMatrix) (f : Entries) → finiteBlock (pairLines (sameShape x y) x y) (x .rows) (y .columns) f ≡ finiteBlock (pairLines (sameShape x y) x y) (x .rows) (x .columns) f
-same-columns x y f =
-    by-columns (pairLines (sameShape x y) x y) (x .rows) (y .columns) (x .columns) f
-    (λ p. sym (eqb-true (x .columns) (y .columns) (both (eqb (x .rows) (y .rows)) (eqb (x .columns) (y .columns)) (pair-fits (sameShape x y) x y p) .1)))
+-- one complex number, and one measured
+module _ (v : Verdict) where
+  pub value-is : (z : Complex) {y : Complex} → v ≡ Pass → y ≡ z → Of y ≡ valued v z
+  unfolding valued
+  value-is z p e = rw (p, e)
 
--- questions that passed before the last ones
-pub checked-after : (v w : Verdict) (block : DenseMatrix) → v ≡ Pass → checked w block ≡ checked (v then w) block
-checked-after v w block p = ap (λ (u : Verdict). checked u block) (sym (then-after v w p))
+  pub value-refused : (z : Complex) (r : Refusal) → v ≡ Refused r → NoValue r ≡ valued v z
+  unfolding valued
+  value-refused z r p = rw p
+
+  pub measure-is : (x : Float) {y : Float} → v ≡ Pass → y ≡ x → Measure y ≡ measured v x
+  unfolding measured
+  measure-is x p e = rw (p, e)

@@ -1,7 +1,5 @@
--- Document 01, matrix: a block's entries, the operations on entries, and each call's outcome, with closed cases.
-pub mod Block
-pub mod Operations
+-- Document 01, matrix: what a call's block holds and each call's outcome, with closed cases; then what each operation makes of its operands' entries.
+pub mod Dense
 pub mod Calls
 pub mod Cases
 pub mod Made
-pub mod Agreement

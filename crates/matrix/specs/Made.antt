@@ -1,15 +1,16 @@
 -- What each operation makes of its operands' entries; the code goes by these cases, and the calls of specs/Calls by their own names.
-use Prim.Native.Nat.{ℕ}
-use mathlib.Core.Bool.{Bool}
-use mathlib.Core.List.{List}
-use lib.Ieee.{Float}
+use Rattle.lists.specs.Prelude.{ℕ, Bool, true, not, _||_, List, Float}
+use Rattle.refusal.specs.declared.Verdict.{Verdict}
+use Rattle.refusal.specs.Verdict.{_then_}
+use Rattle.refusal.specs.Checks.{finiteWork}
 use Rattle.matrix.specs.declared.fill.Operation.{Operation}
 use Rattle.matrix.specs.declared.fill.Operation.the-variants.{Zero, Identity, Adjoint, Product, Scale, Add, Subtract}
 use Rattle.matrix.specs.declared.DenseMatrix.{DenseMatrix}
 use Rattle.matrix.specs.declared.Checked.{Checked}
-use Rattle.matrix.specs.Block.{Entries, entriesIn, entriesOf}
-use Rattle.matrix.specs.Calls.{pairLines, finiteBlock}
-use Rattle.matrix.specs.Operations.{product, scaled, added, subtracted, adjoint, identity, zeros}
+use Rattle.block.specs.Block.{Entries, entriesIn}
+use Rattle.matrix.specs.Dense.{entriesOf, blockOf, checked}
+use Rattle.matrix.specs.Calls.{pairChecks, sameShape}
+use Rattle.block.specs.Operations.{product, scaled, added, subtracted, adjoint, identity, zeros, allFinite}
 
 -- x has `inner` columns
 unfoldable pub madeBy : Operation → ℕ → Entries → Entries → Entries
@@ -25,6 +26,14 @@ madeBy Subtract inner x y = subtracted x y
 abbrev pub madeIn : Operation → ℕ → ℕ → List Float → List Float → Entries
 madeIn op inner columns a b = madeBy op inner (entriesIn inner a) (entriesIn columns b)
 
+-- what a call answers that makes a block, once its checks are asked: 10 where the block is tested and not finite
+unfoldable pub answerOf : Verdict → Bool → ℕ → ℕ → Entries → Checked
+answerOf verdict tested rows columns f = checked (verdict then finiteWork (not tested || allFinite rows columns f)) (blockOf rows columns f)
+
 -- what an operation on two blocks answers
 unfoldable pub combinedOf : Operation → Bool → DenseMatrix → DenseMatrix → Checked
-combinedOf op fits x y = finiteBlock (pairLines fits x y) (x .rows) (y .columns) (madeBy op (x .columns) (entriesOf x) (entriesOf y))
+combinedOf op fits x y = answerOf (pairChecks fits x y) true (x .rows) (y .columns) (madeBy op (x .columns) (entriesOf x) (entriesOf y))
+
+-- and on two of one shape
+unfoldable pub alikeOf : Operation → DenseMatrix → DenseMatrix → Checked
+alikeOf op x y = answerOf (pairChecks (sameShape x y) x y) true (x .rows) (x .columns) (madeBy op (x .columns) (entriesOf x) (entriesOf y))

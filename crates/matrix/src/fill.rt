@@ -1,13 +1,12 @@
 // The entries of a block that an operation makes, over the numbers of its operands: one loop serves every operation.
-ghost use mathlib.Core.Path.{_≡_};
-ghost use Prim.Native.Nat.{_*_, _≤_, _<_};
-ghost use lib.ListN.{length};
+ghost use Rattle.lists.specs.Prelude.{_≡_, _+_, _*_, _≤_, _<_, length};
 ghost use Rattle.lists.specs.Indexed.{allBelow};
 ghost use Rattle.lists.specs.Filling.{over};
 ghost use Rattle.complex.specs.Arithmetic.{cfinite};
+ghost use Rattle.complex.specs.Numbers.{entryAt};
 ghost use Rattle.complex.specs.Filling.{cells};
-ghost use Rattle.matrix.specs.Block.{entriesIn, layOut};
-ghost use Rattle.matrix.specs.Operations.{product, allFinite};
+ghost use Rattle.block.specs.Block.{entriesIn, layOut};
+ghost use Rattle.block.specs.Operations.{product, allFinite};
 ghost use Rattle.matrix.specs.Made.{madeIn};
 use complex::Complex;
 
@@ -22,13 +21,20 @@ pub enum Operation {
     Subtract,
 }
 
+// The p-th complex number.
+pub(crate) fn number(xs: &[f64], p: usize) -> Complex
+    requires { ⌜ 2 * p + 1 < length (now xs) ⌝ }
+    ensures { λ r. ⌜ r ≡ entryAt (now (xs .entry)) (2 * p) ⌝ }
+{
+    Complex::new(xs[2 * p], xs[2 * p + 1])
+}
+
 // Entry (i, j) of a block with that many columns.
 pub(crate) fn entry(xs: &[f64], columns: usize, i: usize, j: usize) -> Complex
     requires { ⌜ (i < 16) × (j < 16) × (columns ≤ 16) × (512 ≤ length (now xs)) ⌝ }
     ensures { λ r. ⌜ r ≡ entriesIn columns (now (xs .entry)) i j ⌝ }
 {
-    let place = 2 * (i * columns + j);
-    Complex::new(xs[place], xs[place + 1])
+    number(xs, i * columns + j)
 }
 
 // Entry (i, j) of the product of a, with `inner` columns, and b, with `columns`.

@@ -1,30 +1,23 @@
 // Dense complex matrices of at most 16 by 16 entries, by value (document 01, matrix).
+mod checks;
 mod fill;
-mod lines;
 mod measure;
 
-ghost use mathlib.Core.Path.{_≡_};
-ghost use mathlib.Core.Bool.{true};
-ghost use mathlib.Core.List.{_++_};
-ghost use Prim.Native.Nat.{_-_, _≤_};
-ghost use lib.ListN.{length, replicate};
+ghost use Rattle.lists.specs.Prelude.{_≡_, true, false, _++_, _-_, _≤_, length, replicate};
 ghost use Rattle.complex.specs.Arithmetic.{plusZero};
 ghost use Rattle.refusal.specs.Verdict.{decide};
-ghost use Rattle.refusal.specs.Lines.{finiteEntries, finiteWork};
-ghost use Rattle.matrix.specs.Block.{blockOf, checked, noBlock};
-ghost use Rattle.matrix.specs.Operations.{allFinite};
-ghost use Rattle.matrix.specs.Made.{madeIn, combinedOf};
-ghost use Rattle.matrix.specs.Calls.{shapeOf, fromNumbers, fromScalar, zeroOf, identityOf, adjointOf, productOf, scaleOf, addOf, subtractOf};
-ghost use Rattle.matrix.specs.Calls.{traceOf, entryOf, maxDifferenceOf, isHermitian};
+ghost use Rattle.matrix.specs.Dense.{noBlock};
+ghost use Rattle.matrix.specs.Made.{madeIn, answerOf, combinedOf, alikeOf};
+ghost use Rattle.matrix.specs.Calls.{shapeOf, fromNumbers, fromScalar, zeroOf, identityOf, adjointOf, productOf, scaleOf, addOf, subtractOf, traceOf, entryOf, maxDifferenceOf, isHermitian};
 use complex::Complex;
 use fill::Operation;
 use refusal::Decision;
 use refusal::Measured;
 use refusal::Refusal;
 use refusal::Verdict;
-use refusal::lines::finite_entries;
-use refusal::lines::orbital_below;
-use refusal::lines::valid_tolerance;
+use refusal::checks::finite_entries;
+use refusal::checks::orbital_below;
+use refusal::checks::valid_tolerance;
 
 // rows·columns entries by rows, the real part before the imaginary. What stands beyond them changes nothing.
 pub struct DenseMatrix {
@@ -45,12 +38,6 @@ pub enum Value {
     Refused(Refusal),
 }
 
-// A block, and whether all its entries are finite.
-struct Made {
-    finite: bool,
-    block: DenseMatrix,
-}
-
 fn refused(refusal: Refusal) -> Checked
     ensures { λ r. ⌜ r ≡ record { verdict = Verdict.Refused refusal; block = noBlock } ⌝ }
 {
@@ -64,47 +51,40 @@ fn refused(refusal: Refusal) -> Checked
     }
 }
 
-// The block that an operation makes of a, with `inner` columns, and b, with `columns`.
-fn build(op: Operation, rows: usize, inner: usize, columns: usize, a: &[f64], b: &[f64]) -> Made
-    requires { ⌜ (rows ≤ 16) × (inner ≤ 16) × (columns ≤ 16) ⌝ }
+// The answer of a call that makes a block by an operation, of a with `inner` columns and b with `columns`, once its checks are asked: 10 where the block
+// is `tested` and not finite.
+fn answer(
+    verdict: Verdict,
+    tested: bool,
+    op: Operation,
+    rows: usize,
+    inner: usize,
+    columns: usize,
+    a: &[f64],
+    b: &[f64],
+) -> Checked
+    requires { ⌜ (verdict ≡ Verdict.Pass → (rows ≤ 16) × (inner ≤ 16) × (columns ≤ 16)) ⌝ }
     requires { ⌜ (512 ≤ length (now a)) × (512 ≤ length (now b)) ⌝ }
-    ensures { λ r. ⌜ (r .finite ≡ allFinite rows columns (madeIn op inner columns (now (a .entry)) (now (b .entry))))
-        × (r .block ≡ blockOf rows columns (madeIn op inner columns (now (a .entry)) (now (b .entry)))) ⌝ }
+    ensures { λ r. ⌜ r ≡ answerOf verdict tested rows columns (madeIn op inner columns (now (a .entry)) (now (b .entry))) ⌝ }
 {
-    let mut values = [0.0; 512];
-    let finite = fill::fill(op, &mut values, a, b, rows, inner, columns);
-    Made {
-        finite,
-        block: DenseMatrix {
-            rows,
-            columns,
-            values,
-        },
-    }
-}
-
-// A block that was made: finite, or 10.
-fn finite_or_10(made: Made) -> Checked
-    ensures { λ r. ⌜ r ≡ checked (finiteWork (made .finite)) (made .block) ⌝ }
-{
-    if made.finite {
-        let block = made.block;
-        Checked {
-            verdict: Verdict::Pass,
-            block,
+    match verdict {
+        Verdict::Pass => {
+            let mut values = [0.0; 512];
+            let finite = fill::fill(op, &mut values, a, b, rows, inner, columns);
+            if !tested | finite {
+                Checked {
+                    verdict: Verdict::Pass,
+                    block: DenseMatrix {
+                        rows,
+                        columns,
+                        values,
+                    },
+                }
+            } else {
+                refused(Refusal::by(10))
+            }
         }
-    } else {
-        refused(Refusal::by(10))
-    }
-}
-
-fn accepted(made: Made) -> Checked
-    ensures { λ r. ⌜ r ≡ checked Verdict.Pass (made .block) ⌝ }
-{
-    let block = made.block;
-    Checked {
-        verdict: Verdict::Pass,
-        block,
+        Verdict::Refused(r) => refused(r),
     }
 }
 
@@ -114,44 +94,25 @@ fn decided(yes: bool) -> Decision
     if yes { Decision::Yes } else { Decision::No }
 }
 
-// The block of numbers that are few enough, if all are finite.
-fn entries_or_7(rows: usize, columns: usize, numbers: &[f64]) -> Checked
-    requires { ⌜ length (now numbers) ≤ 512 ⌝ }
-    ensures { λ r. ⌜ r ≡ checked (finiteEntries 0 (now (numbers .entry)) (length (now (numbers .entry))))
-        (record { rows = rows; columns = columns; values = now (numbers .entry) ++ replicate (512 - length (now (numbers .entry))) plusZero }) ⌝ }
-{
-    let count = numbers.len();
-    let verdict = finite_entries(0, numbers, count);
-    match verdict {
-        Verdict::Pass => {
-            let values = padded(numbers);
-            Checked {
-                verdict: Verdict::Pass,
-                block: DenseMatrix {
-                    rows,
-                    columns,
-                    values,
-                },
-            }
-        }
-        Verdict::Refused(r) => refused(r),
-    }
-}
-
 // The block that an operation makes of a size alone.
 fn constant(op: Operation, size: usize) -> Checked
-    ensures { λ r. ⌜ r ≡ checked (shapeOf true size size) (blockOf size size (madeIn op size size (replicate 512 plusZero) (replicate 512 plusZero))) ⌝ }
+    ensures { λ r. ⌜ r ≡ answerOf (shapeOf true size size) false size size (madeIn op size size (replicate 512 plusZero) (replicate 512 plusZero)) ⌝ }
 {
     let values = [0.0; 512];
     let zeros: &[f64] = &values;
-    let verdict = lines::shape(true, size, size);
-    match verdict {
-        Verdict::Pass => accepted(build(op, size, size, size, zeros, zeros)),
-        Verdict::Refused(r) => refused(r),
-    }
+    answer(
+        checks::shape(true, size, size),
+        false,
+        op,
+        size,
+        size,
+        size,
+        zeros,
+        zeros,
+    )
 }
 
-// What an operation makes of two blocks, rows by inner and below by columns: lines 1, 2, 3, 7, then 10.
+// What an operation makes of two blocks, rows by inner and below by columns: checks 1, 2, 3, 7, then 10.
 fn combined(
     op: Operation,
     fits: bool,
@@ -165,11 +126,20 @@ fn combined(
     requires { ⌜ (512 ≤ length (now a)) × (512 ≤ length (now b)) ⌝ }
     ensures { λ r. ⌜ r ≡ combinedOf op fits (record { rows = rows; columns = inner; values = now (a .entry) }) (record { rows = below; columns = columns; values = now (b .entry) }) ⌝ }
 {
-    let verdict = lines::pair_lines(fits, rows, inner, a, below, columns, b);
-    match verdict {
-        Verdict::Pass => finite_or_10(build(op, rows, inner, columns, a, b)),
-        Verdict::Refused(r) => refused(r),
-    }
+    let verdict = checks::check_pair(fits, rows, inner, a, below, columns, b);
+    answer(verdict, true, op, rows, inner, columns, a, b)
+}
+
+// The same of two blocks of one shape.
+fn alike(op: Operation, x: DenseMatrix, y: DenseMatrix) -> Checked
+    ensures { λ r. ⌜ r ≡ alikeOf op x y ⌝ }
+{
+    let left = x.values;
+    let right = y.values;
+    let a: &[f64] = &left;
+    let b: &[f64] = &right;
+    let same = (x.rows == y.rows) & (x.columns == y.columns);
+    combined(op, same, x.rows, x.columns, a, y.rows, y.columns, b)
 }
 
 // The numbers, then +0.
@@ -190,10 +160,21 @@ impl DenseMatrix {
     pub fn from_numbers(rows: usize, columns: usize, numbers: &[f64]) -> Checked
         ensures { λ r. ⌜ r ≡ fromNumbers rows columns (now (numbers .entry)) ⌝ }
     {
-        let count = numbers.len();
-        let shape = lines::numbers_shape(count, rows, columns);
-        match shape {
-            Verdict::Pass => entries_or_7(rows, columns, numbers),
+        let count = checks::count(rows, columns);
+        let shape = checks::shape(numbers.len() == count, rows, columns);
+        let verdict = shape.then(finite_entries(0, numbers, count));
+        match verdict {
+            Verdict::Pass => {
+                let values = padded(numbers);
+                Checked {
+                    verdict: Verdict::Pass,
+                    block: DenseMatrix {
+                        rows,
+                        columns,
+                        values,
+                    },
+                }
+            }
             Verdict::Refused(r) => refused(r),
         }
     }
@@ -228,11 +209,17 @@ impl DenseMatrix {
         let columns = self.columns;
         let values = self.values;
         let a: &[f64] = &values;
-        let verdict = lines::block_lines(true, rows, columns, a);
-        match verdict {
-            Verdict::Pass => accepted(build(Operation::Adjoint, columns, columns, rows, a, a)),
-            Verdict::Refused(r) => refused(r),
-        }
+        let verdict = checks::check_block(true, rows, columns, a);
+        answer(
+            verdict,
+            false,
+            Operation::Adjoint,
+            columns,
+            columns,
+            rows,
+            a,
+            a,
+        )
     }
 
     // Each entry times the factor.
@@ -243,13 +230,17 @@ impl DenseMatrix {
         let columns = self.columns;
         let values = self.values;
         let a: &[f64] = &values;
-        let verdict = lines::block_lines(true, rows, columns, a);
-        match verdict {
-            Verdict::Pass => {
-                finite_or_10(build(Operation::Scale(factor), rows, columns, columns, a, a))
-            }
-            Verdict::Refused(r) => refused(r),
-        }
+        let verdict = checks::check_block(true, rows, columns, a);
+        answer(
+            verdict,
+            true,
+            Operation::Scale(factor),
+            rows,
+            columns,
+            columns,
+            a,
+            a,
+        )
     }
 
     // The matrix product self·other: rows·inner·columns complex products.
@@ -277,41 +268,13 @@ impl DenseMatrix {
     pub fn add(self, other: DenseMatrix) -> Checked
         ensures { λ r. ⌜ r ≡ addOf self other ⌝ }
     {
-        let left = self.values;
-        let right = other.values;
-        let a: &[f64] = &left;
-        let b: &[f64] = &right;
-        let same = (self.rows == other.rows) & (self.columns == other.columns);
-        combined(
-            Operation::Add,
-            same,
-            self.rows,
-            self.columns,
-            a,
-            other.rows,
-            other.columns,
-            b,
-        )
+        alike(Operation::Add, self, other)
     }
 
     pub fn subtract(self, other: DenseMatrix) -> Checked
         ensures { λ r. ⌜ r ≡ subtractOf self other ⌝ }
     {
-        let left = self.values;
-        let right = other.values;
-        let a: &[f64] = &left;
-        let b: &[f64] = &right;
-        let same = (self.rows == other.rows) & (self.columns == other.columns);
-        combined(
-            Operation::Subtract,
-            same,
-            self.rows,
-            self.columns,
-            a,
-            other.rows,
-            other.columns,
-            b,
-        )
+        alike(Operation::Subtract, self, other)
     }
 
     // The sum of the diagonal, which is not checked and may be infinite.
@@ -322,7 +285,7 @@ impl DenseMatrix {
         let columns = self.columns;
         let values = self.values;
         let a: &[f64] = &values;
-        let verdict = lines::block_lines(rows == columns, rows, columns, a);
+        let verdict = checks::check_block(rows == columns, rows, columns, a);
         match verdict {
             Verdict::Pass => Value::Of(measure::diagonal(a, columns)),
             Verdict::Refused(r) => Value::Refused(r),
@@ -338,7 +301,7 @@ impl DenseMatrix {
         let values = self.values;
         let a: &[f64] = &values;
         let inside = orbital_below(row, rows).then(orbital_below(column, columns));
-        let verdict = lines::block_lines(true, rows, columns, a).then(inside);
+        let verdict = checks::check_block(true, rows, columns, a).then(inside);
         match verdict {
             Verdict::Pass => Value::Of(fill::entry(a, columns, row, column)),
             Verdict::Refused(r) => Value::Refused(r),
@@ -358,9 +321,9 @@ impl DenseMatrix {
         let a: &[f64] = &left;
         let b: &[f64] = &right;
         let same = (rows == below) & (columns == beside);
-        let verdict = lines::pair_lines(same, rows, columns, a, below, beside, b);
+        let verdict = checks::check_pair(same, rows, columns, a, below, beside, b);
         match verdict {
-            Verdict::Pass => Measured::Of(measure::largest_difference(a, b, rows, columns)),
+            Verdict::Pass => Measured::Of(measure::largest_difference(a, b, rows * columns)),
             Verdict::Refused(r) => Measured::Refused(r),
         }
     }
@@ -373,11 +336,11 @@ impl DenseMatrix {
         let columns = self.columns;
         let values = self.values;
         let a: &[f64] = &values;
-        let verdict = lines::block_lines(true, rows, columns, a).then(valid_tolerance(tolerance));
+        let verdict = checks::check_block(true, rows, columns, a).then(valid_tolerance(tolerance));
         match verdict {
             Verdict::Pass => {
                 if rows == columns {
-                    let threshold = tolerance * measure::largest_part(a, rows);
+                    let threshold = tolerance * measure::largest_part(a, rows * rows);
                     decided(measure::hermitian_within(a, rows, threshold))
                 } else {
                     Decision::No

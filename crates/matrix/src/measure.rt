@@ -1,12 +1,13 @@
-// What is measured of blocks, row by row: the diagonal's sum, the largest difference, the largest part, Hermiticity.
-ghost use mathlib.Core.Path.{_≡_};
-ghost use Prim.Native.Nat.{_≤_, _<_};
-ghost use lib.ListN.{length};
+// What is measured of blocks: the diagonal's sum, the largest difference, the largest part, Hermiticity.
+ghost use Rattle.lists.specs.Prelude.{_≡_, _*_, _≤_, _<_, length};
 ghost use Rattle.lists.specs.Indexed.{allBelow};
-ghost use Rattle.complex.specs.Sum.{largestFrom, largestIn};
-ghost use Rattle.matrix.specs.Block.{entriesIn};
-ghost use Rattle.matrix.specs.Operations.{trace, subtracted, cnorm, largestNorm, partSize, partAbove, mirrors, hermitianWithin};
+ghost use Rattle.complex.specs.Arithmetic.{plusZero, csub};
+ghost use Rattle.complex.specs.Numbers.{entryAt};
+ghost use Rattle.complex.specs.Sum.{largestFrom};
+ghost use Rattle.block.specs.Block.{entriesIn};
+ghost use Rattle.block.specs.Operations.{trace, cnorm, partSize, partAbove, mirrors, hermitianWithin};
 use crate::fill::entry;
+use crate::fill::number;
 use complex::Complex;
 use complex::abs;
 use complex::max;
@@ -24,29 +25,17 @@ pub(crate) fn diagonal(a: &[f64], size: usize) -> Complex
     sum
 }
 
-// The largest of `largest` and the norms of row i of a less that of b.
-fn row_difference(a: &[f64], b: &[f64], columns: usize, i: usize, largest: f64) -> f64
-    requires { ⌜ (i < 16) × (columns ≤ 16) × (512 ≤ length (now a)) × (512 ≤ length (now b)) ⌝ }
-    ensures { λ r. ⌜ r ≡ largestFrom largest columns (λ j. cnorm (subtracted (entriesIn columns (now (a .entry))) (entriesIn columns (now (b .entry))) i j)) ⌝ }
+// The largest norm of the first `count` numbers of a less those of b.
+pub(crate) fn largest_difference(a: &[f64], b: &[f64], count: usize) -> f64
+    requires { ⌜ (2 * count ≤ length (now a)) × (2 * count ≤ length (now b)) ⌝ }
+    ensures { λ r. ⌜ r ≡ largestFrom plusZero count (λ p. cnorm (csub (entryAt (now (a .entry)) (2 * p)) (entryAt (now (b .entry)) (2 * p)))) ⌝ }
 {
-    let mut most = largest;
-    for j in 0..columns {
-        let z = entry(a, columns, i, j).minus(entry(b, columns, i, j));
+    let mut most = 0.0;
+    for p in 0..count {
+        let z = number(a, p).minus(number(b, p));
         most = larger_norm(most, z.re, z.im);
     }
     most
-}
-
-// The largest norm of an entry of a less that of b.
-pub(crate) fn largest_difference(a: &[f64], b: &[f64], rows: usize, columns: usize) -> f64
-    requires { ⌜ (rows ≤ 16) × (columns ≤ 16) × (512 ≤ length (now a)) × (512 ≤ length (now b)) ⌝ }
-    ensures { λ r. ⌜ r ≡ largestNorm rows columns (subtracted (entriesIn columns (now (a .entry))) (entriesIn columns (now (b .entry)))) ⌝ }
-{
-    let mut largest = 0.0;
-    for i in 0..rows {
-        largest = row_difference(a, b, columns, i, largest);
-    }
-    largest
 }
 
 // The larger size of a number's parts.
@@ -62,28 +51,16 @@ fn part_above(threshold: f64, z: Complex) -> bool
     (threshold < abs(z.re)) | (threshold < abs(z.im))
 }
 
-// The largest of `largest` and the sizes of the parts of row i.
-fn row_part(a: &[f64], size: usize, i: usize, largest: f64) -> f64
-    requires { ⌜ (i < 16) × (size ≤ 16) × (512 ≤ length (now a)) ⌝ }
-    ensures { λ r. ⌜ r ≡ largestFrom largest size (λ j. partSize (entriesIn size (now (a .entry)) i j)) ⌝ }
+// The largest size of a part of the first `count` numbers.
+pub(crate) fn largest_part(a: &[f64], count: usize) -> f64
+    requires { ⌜ 2 * count ≤ length (now a) ⌝ }
+    ensures { λ r. ⌜ r ≡ largestFrom plusZero count (λ p. partSize (entryAt (now (a .entry)) (2 * p))) ⌝ }
 {
-    let mut most = largest;
-    for j in 0..size {
-        most = max(most, part_size(entry(a, size, i, j)));
+    let mut most = 0.0;
+    for p in 0..count {
+        most = max(most, part_size(number(a, p)));
     }
     most
-}
-
-// The largest size of a part.
-pub(crate) fn largest_part(a: &[f64], size: usize) -> f64
-    requires { ⌜ (size ≤ 16) × (512 ≤ length (now a)) ⌝ }
-    ensures { λ r. ⌜ r ≡ largestIn size size (λ c d. partSize (entriesIn size (now (a .entry)) c d)) ⌝ }
-{
-    let mut largest = 0.0;
-    for i in 0..size {
-        largest = row_part(a, size, i, largest);
-    }
-    largest
 }
 
 // Whether no entry of row i, from the diagonal on, differs from its mirror's conjugate by a part above the threshold.

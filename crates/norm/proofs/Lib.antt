@@ -1,13 +1,11 @@
--- The proof that `norm` is its definition, on plain numbers, in chapters: what the words hold, a digit of the root, which way it is
--- rounded and by which digits, the bits of the result, the aligned sum of squares, the parts to the norm, the check of a guess by
--- middles and what it settles, and the definition's cases. Each function cites what it needs.
+-- The proof that `norm` is its definition, on plain numbers. Each function cites what it needs.
+-- What the words hold, and a digit of the root.
 mod Words
 mod Root
+-- The exponents by leading zeros, and which way the root's digits are rounded.
+mod Exponents
 mod Rounding
-mod Cut
-mod Result
-mod Scaling
-mod Whole
+-- The parts' bits to the sum of their squares, the check of a guess and what it settles, and the definition's cases by the parts' bits.
+mod SumOfSquares
 mod Middles
-mod Check
-mod Meaning
+mod ByBits

@@ -1,10 +1,6 @@
 -- Closed cases of the norm, P1 to P5 of document 01 among them. Expected bits by exact integer arithmetic (reference/document01.py).
-use mathlib.Core.Path.{_≡_, refl}
-use mathlib.Core.Bool.{true, false}
-use mathlib.Core.List.{[], _∷_, map}
-use Prim.Native.Nat.{ℕ, _^_}
+use Rattle.lists.specs.Prelude.{_≡_, refl, true, false, [], _∷_, map, ℕ, _^_, nan, inf, binary64, toBits}
 use lib.Ieee as Ieee
-use lib.Ieee.{nan, inf, binary64, toBits}
 use Rattle.norm.specs.Norm.{norm, root}
 
 -- the norm of two parts, all by their bits

@@ -1,24 +1,16 @@
 -- The rounded root is the binary64 nearest to the root: none is nearer, and where two are as near it has the even significand.
 -- Said with both sides squared: the root of n is not below the middle of w and c where 4·n is not below (w + c)². Assumes nothing.
-use mathlib.Core.Path.{_≡_, refl, sym, ap, ap₂, _∙_, subst}
-use mathlib.Core.Logic.{_⊎_, inl, inr}
-use mathlib.Core.Bool.{Bool, false}
-use Prim.Native.Nat.{ℕ, zero, suc, _+_, _-_, _*_, _/_, _%_, _^_, _≤_, _<_, compare, Ordering, Ordering·lt, Ordering·eq, Ordering·gt}
-use native.Mathlib.Nat.{le-trans, le-of-eq, le-of-lt, lt-of-lt-of-le, lt-of-le-of-lt, lt-of-not-le, add-mul, mul-assoc, mul-le-mul-right, mul-le-mul, suc-mul, eq-zero-or-pos, pow-succ', le-div-iff-mul-le, div-mul-le-self, div-add-mod', mod-lt}
-use native.Mathlib.Decide.{decLe}
-use native.Mathlib.Omega.{arith}
-use lib.Pow.{pow-add, pow-pos, pow-mono}
-use lib.Dec.{T}
-use lib.Arith.{lt-of-le-ne}
-use lib.IntN.{ℤ}
-use lib.Ieee.{Float, nan, inf, fin, binary64, nearest, units, size, fits, toBits}
+use Rattle.lists.specs.Prelude.{_≡_, refl, ap, ap₂, _∙_, subst, _⊎_, inl, inr, ⊎-map, false, ℕ, zero, suc, _+_, _-_, _*_, _/_, _%_, _^_, _≤_, _<_, compare, Ordering}
+use Rattle.lists.specs.Prelude.{Ordering·eq, le-trans, le-of-eq, le-of-lt, lt-of-lt-of-le, lt-of-not-le, mul-assoc, mul-le-mul-right, mul-le-mul, eq-zero-or-pos}
+use Rattle.lists.specs.Prelude.{pow-succ', le-div-iff-mul-le, div-mul-le-self, div-add-mod', mod-lt, decLe, arith, pow-add, pow-pos, pow-mono, T, Float, nan, inf, fin}
+use Rattle.lists.specs.Prelude.{binary64, nearest, units, size, fits}
 use lib.Ieee.Digits.{Equals, size-reaches}
 use lib.Ieee.Fits.{kept-lt}
-use Rattle.norm.specs.Norm.{norm, root, roundedRoot, inUnits}
-use Rattle.norm.specs.Squares.{square-le, square-suc, square-double, square-power, compare-lt, compare-eq, compare-gt}
+use Rattle.norm.specs.Norm.{norm, root, roundedRoot}
+use Rattle.norm.specs.Squares.{Compared, less, same, more, compared, square-le, square-lt, square-power}
 use Rattle.norm.specs.Roots.{root-is}
-use Rattle.norm.specs.Parts.{significandOf, shiftOf, unitsOf}
-use Rattle.norm.specs.Cell.{Significand, Within}
+use Rattle.norm.specs.Parts.{unsigned, significandOf, shiftOf, unitsOf, Significand}
+use Rattle.norm.specs.Cell.{Within, ByMiddle}
 use Rattle.norm.specs.Encoding.{in-units}
 use Rattle.norm.specs.Sizes.{placed, finite-size}
 
@@ -53,9 +45,13 @@ norm-of-sizes (fin s m e) nan a b h k = absurd k
 norm-of-sizes (fin s m e) (inf t) a b h k = absurd k
 norm-of-sizes (fin s m e) (fin t n d) a b h k = ap₂ (λ (p q : ℕ). roundedRoot (p ^ 2 + q ^ 2)) (in-units m e a h) (in-units n d b k)
 
--- the root lies within its step
+-- the root lies within its step, and the order is that of its middle
 pub own-step : (n : ℕ) → Within n (digitsOf n) (stepOf n)
-own-step n = record { digits = record { small = kept-lt 53 r; full = go (eq-zero-or-pos (stepOf n)) }; above = le-trans (square-le low) (root-is n .0); below = lt-of-lt-of-le (root-is n .1) (square-le high) }
+own-step n = record {
+  digits = record { small = kept-lt 53 r; full = ⊎-map (λ e. e) long (eq-zero-or-pos k) };
+  above = le-trans (square-le (div-mul-le-self r (2 ^ k))) (root-is n .0);
+  below = lt-of-lt-of-le (root-is n .1) (square-le high);
+}
   where
     r : ℕ
     r = root n
@@ -63,18 +59,14 @@ own-step n = record { digits = record { small = kept-lt 53 r; full = go (eq-zero
     k : ℕ
     k = stepOf n
 
-    low : digitsOf n * 2 ^ k ≤ r
-    low = div-mul-le-self r (2 ^ k)
-
     high : suc r ≤ suc (digitsOf n) * 2 ^ k
-    high = omega (arith, div-add-mod' r (2 ^ k), mod-lt r (pow-pos k), suc-mul (digitsOf n) (2 ^ k))
+    high = omega (arith, div-add-mod' r (2 ^ k), mod-lt r (pow-pos k))
 
-    go : (k ≡ 0) ⊎ (0 < k) → (k ≡ 0) ⊎ (2 ^ 52 ≤ digitsOf n)
-    go (inl e) = inl e
-    go (inr h) = inr (le-div-iff-mul-le (pow-pos k) .1 (le-trans (le-of-eq (sym (pow-add 2 52 k))) (size-reaches r (52 + k) (places (size r) h))))
-      where
-        places : (z : ℕ) → 0 < z - 53 → 52 + (z - 53) < z
-        places z h = omega arith
+    long : 0 < k → 2 ^ 52 ≤ digitsOf n
+    long h = le-div-iff-mul-le (pow-pos k) .1 (rw (← pow-add 2 52 k) (size-reaches r (52 + k) (omega arith)))
+
+own-order : (n : ℕ) → ByMiddle n (digitsOf n) (stepOf n) (orderOf n)
+own-order n = let m = (2 * digitsOf n + 1) * 2 ^ stepOf n in subst (λ (x : ℕ). Compared (4 * n) x (orderOf n)) (square-power m) (compared (4 * n) (m ^ 2))
 
 -- ---- a number of at most 53 digits, at any step: every binary64's size is one
 
@@ -84,20 +76,17 @@ pub record Representable (c : ℕ) : Type 0 where
   pub short : digits < 2 ^ 53
   pub value : c ≡ digits * 2 ^ step
 
-every-binary64 : (s : Bool) (m : ℕ) (e : ℤ) → T (fits binary64 (fin s m e)) → Representable (inUnits m e)
-unfolding unitsOf
-every-binary64 s m e f =
-    let a = toBits binary64 (fin s m e) % 2 ^ 63 in
-    record { digits = significandOf a; step = shiftOf a; short = placed a .digits .small; value = finite-size s m e f .1 }
-
 pub every-size : (z : Float) (c : ℕ) → T (fits binary64 z) → Equals z c (2 ^ 1074) → Representable c
+unfolding unitsOf
 every-size nan c f h = absurd h
 every-size (inf s) c f h = absurd h
-every-size (fin s m e) c f h = subst Representable (in-units m e c h) (every-binary64 s m e f)
+every-size (fin s m e) c f h =
+    let a = unsigned (fin s m e) in
+    subst Representable (in-units m e c h) (record { digits = significandOf a; step = shiftOf a; short = placed a .digits .small; value = finite-size s m e f .1 })
 
 -- none lies inside a step of the root
 between-steps : (q k c : ℕ) → Significand q k → Representable c → (c ≤ q * 2 ^ k) ⊎ (suc q * 2 ^ k ≤ c)
-between-steps q k c s r = go (decLe k (r .step))
+between-steps q k c s r = go (s .full) (decLe k j)
   where
     p : ℕ
     p = r .digits
@@ -106,24 +95,17 @@ between-steps q k c s r = go (decLe k (r .step))
     j = r .step
 
     side : (m : ℕ) → c ≡ m * 2 ^ k → Dec (m ≤ q) → (c ≤ q * 2 ^ k) ⊎ (suc q * 2 ^ k ≤ c)
-    side m e (yes h) = inl (le-trans (le-of-eq e) (mul-le-mul-right (2 ^ k) h))
-    side m e (no h) = inr (le-trans (mul-le-mul-right (2 ^ k) (lt-of-not-le h)) (le-of-eq (sym e)))
+    side m e (yes h) = inl (rw e (mul-le-mul-right (2 ^ k) h))
+    side m e (no h) = inr (rw e (mul-le-mul-right (2 ^ k) (lt-of-not-le h)))
 
-    low : (k ≡ 0) ⊎ (2 ^ 52 ≤ q) → j < k → c ≤ q * 2 ^ k
-    low (inl e) h = absurd (none h e)
-      where
-        none : j < k → k ≡ 0 → ⊥
-        none h e = omega arith
-    low (inr f) h =
-        le-trans (le-of-eq (r .value)) (le-trans (mul-le-mul-right (2 ^ j) (le-of-lt (r .short)))
-        (le-trans (le-of-eq (mul-assoc (2 ^ 52) 2 (2 ^ j))) (mul-le-mul f (le-trans (le-of-eq (sym (pow-succ' 2 j))) (pow-mono h)))))
-
-    go : Dec (k ≤ j) → (c ≤ q * 2 ^ k) ⊎ (suc q * 2 ^ k ≤ c)
-    go (yes h) = side (p * 2 ^ (j - k)) (r .value ∙ ap (λ (x : ℕ). p * x) (ap (λ (x : ℕ). 2 ^ x) (back j k h) ∙ pow-add 2 (j - k) k) ∙ sym (mul-assoc p (2 ^ (j - k)) (2 ^ k))) (decLe (p * 2 ^ (j - k)) q)
-      where
-        back : (a b : ℕ) → b ≤ a → a ≡ a - b + b
-        back a b h = omega arith
-    go (no h) = inl (low (s .full) (lt-of-not-le h))
+    go : (k ≡ 0) ⊎ (2 ^ 52 ≤ q) → Dec (k ≤ j) → (c ≤ q * 2 ^ k) ⊎ (suc q * 2 ^ k ≤ c)
+    go f (yes h) =
+        let e : j ≡ j - k + k = omega arith in
+        side (p * 2 ^ (j - k)) (r .value ∙ ap (λ (x : ℕ). p * 2 ^ x) e ∙ rw (pow-add 2 (j - k) k) (omega arith)) (decLe (p * 2 ^ (j - k)) q)
+    go (inl e) (no h) = absurd (omega arith)
+    go (inr f) (no h) =
+        inl (rw (r .value) (le-trans (mul-le-mul-right (2 ^ j) (le-of-lt (r .short)))
+        (le-trans (le-of-eq (mul-assoc (2 ^ 52) 2 (2 ^ j))) (mul-le-mul f (rw (← (pow-succ' 2 j)) (pow-mono (lt-of-not-le h)))))))
 
 -- ---- no binary64 is nearer
 
@@ -141,142 +123,66 @@ module _ (n q k c : ℕ) (i : Within n q k) (r : Representable c) where
   abbrev middle : ℕ
   middle = (2 * q + 1) * 2 ^ k
 
-  middle-is : middle ≡ down + upper
-  middle-is = add-mul (2 * q) 1 (2 ^ k) ∙ halves (2 * q * 2 ^ k) down upper (2 ^ k) (mul-assoc 2 q (2 ^ k)) (suc-mul q (2 ^ k))
-    where
-      halves : (d l u p : ℕ) → d ≡ 2 * l → u ≡ l + p → d + 1 * p ≡ l + u
-      halves d l u p e f = omega arith
-
-  -- four times a square is the square of the double
-  doubled : (x : ℕ) → (x + x) * (x + x) ≡ 4 * (x * x)
-  doubled x = ap (λ (y : ℕ). y * y) (two x) ∙ square-double x
-    where
-      two : (x : ℕ) → x + x ≡ 2 * x
-      two x = omega arith
-
-  under : c < down → (down + c) * (down + c) ≤ 4 * n
-  under h = le-trans (square-le (sum down c h)) (le-trans (le-of-eq (doubled down)) (four (down * down) n (i .above)))
-    where
-      sum : (d c : ℕ) → c < d → d + c ≤ d + d
-      sum d c h = omega arith
-
-      four : (a b : ℕ) → a ≤ b → 4 * a ≤ 4 * b
-      four a b h = omega arith
-
-  over : upper < c → 4 * n < (upper + c) * (upper + c)
-  over h = lt-of-lt-of-le (four n (upper * upper) (i .below)) (le-trans (le-of-eq (sym (doubled upper))) (square-le (sum upper c h)))
-    where
-      sum : (u c : ℕ) → u < c → u + u ≤ u + c
-      sum u c h = omega arith
-
-      four : (a b : ℕ) → a < b → 4 * a < 4 * b
-      four a b h = omega arith
-
   -- a c on the other side of the step is as far from the middle or farther
   beyond : down < c → middle * middle ≤ (down + c) * (down + c)
-  beyond h = square-le (le-trans (le-of-eq middle-is) (go (between-steps q k c (i .digits) r)))
+  beyond h = square-le (go (between-steps q k c (i .digits) r))
     where
-      clash : c ≤ down → down < c → ⊥
-      clash a b = omega arith
-
-      wide : upper ≤ c → down + upper ≤ down + c
-      wide a = omega arith
-
-      go : (c ≤ down) ⊎ (upper ≤ c) → down + upper ≤ down + c
-      go (inl a) = absurd (clash a h)
-      go (inr a) = wide a
+      go : (c ≤ down) ⊎ (upper ≤ c) → middle ≤ down + c
+      go (inl a) = absurd (omega arith)
+      go (inr a) = omega arith
 
   before : c < upper → (upper + c) * (upper + c) ≤ middle * middle
-  before h = square-le (le-trans (go (between-steps q k c (i .digits) r)) (le-of-eq (sym middle-is)))
+  before h = square-le (go (between-steps q k c (i .digits) r))
     where
-      clash : upper ≤ c → c < upper → ⊥
-      clash a b = omega arith
+      go : (c ≤ down) ⊎ (upper ≤ c) → upper + c ≤ middle
+      go (inl a) = omega arith
+      go (inr a) = absurd (omega arith)
 
-      wide : c ≤ down → upper + c ≤ down + upper
-      wide a = omega arith
+  -- one on the same side is farther than the root itself
+  under : c < down → (down + c) * (down + c) < 4 * n
+  under h = let l : (down + c) * (down + c) < (down + down) * (down + down) = square-lt (omega arith) in omega (arith, i .above)
 
-      go : (c ≤ down) ⊎ (upper ≤ c) → upper + c ≤ down + upper
-      go (inl a) = wide a
-      go (inr a) = absurd (clash a h)
+  over : upper < c → 4 * n < (upper + c) * (upper + c)
+  over h = let l : (upper + upper) * (upper + upper) ≤ (upper + c) * (upper + c) = square-le (omega arith) in omega (arith, i .below)
 
   stays-nearest : 4 * n ≤ middle * middle → NoNearer n down c
-  stays-nearest m = (under, λ h. le-trans m (beyond h))
+  stays-nearest m = ((λ h. le-of-lt (under h)), λ h. le-trans m (beyond h))
 
   goes-up-nearest : middle * middle ≤ 4 * n → NoNearer n upper c
   goes-up-nearest m = ((λ h. le-trans (before h) m), λ h. le-of-lt (over h))
 
   -- the three orders; at a tie the significand is q where that is even, and the next where it is odd
-  nearest-by : (o : Ordering) → compare (4 * n) (middle ^ 2) ≡ o → NoNearer n (nearest q o * 2 ^ k) c
-  nearest-by Ordering·lt e = stays-nearest (le-trans (le-of-lt (compare-lt (4 * n) (middle ^ 2) e)) (le-of-eq (square-power middle)))
-  nearest-by Ordering·gt e = goes-up-nearest (le-trans (le-of-eq (sym (square-power middle))) (le-of-lt (compare-gt (4 * n) (middle ^ 2) e)))
-  nearest-by Ordering·eq e = go (q % 2) refl
+  nearest-by : {o : Ordering} → ByMiddle n q k o → NoNearer n (nearest q o * 2 ^ k) c
+  nearest-by (less h) = stays-nearest (le-of-lt h)
+  nearest-by (more h) = goes-up-nearest (le-of-lt h)
+  nearest-by (same h) = go (q % 2) refl
     where
-      at : 4 * n ≡ middle * middle
-      at = compare-eq (4 * n) (middle ^ 2) e ∙ square-power middle
-
-      even : (m : ℕ) → q % 2 ≡ 0 → q + q % 2 ≡ q
-      even m e = omega arith
-
-      odd : (m : ℕ) → q % 2 ≡ suc m → q + q % 2 ≡ suc q
-      odd m e = omega arith
-
       go : (m : ℕ) → q % 2 ≡ m → NoNearer n ((q + q % 2) * 2 ^ k) c
-      go zero e = subst (λ (x : ℕ). NoNearer n (x * 2 ^ k) c) (sym (even 0 e)) (stays-nearest (le-of-eq at))
-      go (suc m) e = subst (λ (x : ℕ). NoNearer n (x * 2 ^ k) c) (sym (odd m e)) (goes-up-nearest (le-of-eq (sym at)))
+      go zero e = let even : q + q % 2 ≡ q = omega arith in rw even (stays-nearest (le-of-eq h))
+      go (suc m) e = let odd : q + q % 2 ≡ suc q = omega arith in rw odd (goes-up-nearest (omega arith))
 
   -- where c is another number as near, the root is the middle of the step
-  tie-by : (o : Ordering) → compare (4 * n) (middle ^ 2) ≡ o → (c ≡ nearest q o * 2 ^ k → ⊥) → 4 * n ≡ (nearest q o * 2 ^ k + c) * (nearest q o * 2 ^ k + c) → o ≡ Ordering·eq
-  tie-by Ordering·eq e d t = refl
-  tie-by Ordering·lt e d t = absurd (go (decLe c down))
+  tie-by : {o : Ordering} → ByMiddle n q k o → (c ≡ nearest q o * 2 ^ k → ⊥) → 4 * n ≡ (nearest q o * 2 ^ k + c) * (nearest q o * 2 ^ k + c) → o ≡ Ordering·eq
+  tie-by (same h) d t = refl
+  tie-by (less h) d t = absurd (go (decLe c down))
     where
-      less : 4 * n < middle * middle
-      less = lt-of-lt-of-le (compare-lt (4 * n) (middle ^ 2) e) (le-of-eq (square-power middle))
-
-      -- below, the sum is less than twice the number, whose square is at most 4·n
-      strictly : c < down → (down + c) * (down + c) < 4 * n
-      strictly h = lt-of-lt-of-le (square-lt (down + c) (down + down) (sum down c h)) (le-trans (le-of-eq (doubled down)) (four (down * down) n (i .above)))
-        where
-          sum : (d c : ℕ) → c < d → d + c < d + d
-          sum d c h = omega arith
-
-          four : (a b : ℕ) → a ≤ b → 4 * a ≤ 4 * b
-          four a b h = omega arith
-
-          square-lt : (a b : ℕ) → a < b → a * a < b * b
-          square-lt a b h = lt-of-lt-of-le (next a) (square-le h)
-            where
-              next : (a : ℕ) → a * a < suc a * suc a
-              next a = omega (arith, square-suc a)
-
-      clash : (x y : ℕ) → x ≡ y → x < y → ⊥
-      clash x y e h = omega arith
-
       go : Dec (c ≤ down) → ⊥
-      go (yes h) = clash ((down + c) * (down + c)) (4 * n) (sym t) (strictly (lt-of-le-ne h d))
-      go (no h) = clash (4 * n) ((down + c) * (down + c)) t (lt-of-lt-of-le less (beyond (lt-of-not-le h)))
-  tie-by Ordering·gt e d t = absurd (go (decLe upper c))
+      go (yes l) = let s = under (omega arith) in omega arith
+      go (no l) = let s = beyond (lt-of-not-le l) in omega arith
+  tie-by (more h) d t = absurd (go (decLe upper c))
     where
-      greater : middle * middle < 4 * n
-      greater = lt-of-le-of-lt (le-of-eq (sym (square-power middle))) (compare-gt (4 * n) (middle ^ 2) e)
-
-      clash : (x y : ℕ) → x ≡ y → x < y → ⊥
-      clash x y e h = omega arith
-
-      other : (c ≡ upper → ⊥) → upper ≤ c → upper < c
-      other d h = lt-of-le-ne h (λ (e : upper ≡ c). d (sym e))
-
       go : Dec (upper ≤ c) → ⊥
-      go (yes h) = clash (4 * n) ((upper + c) * (upper + c)) t (over (other d h))
-      go (no h) = clash ((upper + c) * (upper + c)) (4 * n) (sym t) (lt-of-le-of-lt (before (lt-of-not-le h)) greater)
+      go (yes l) = let s = over (omega arith) in omega arith
+      go (no l) = let s = before (lt-of-not-le l) in omega arith
 
 -- ---- the theorems, for every sum of squares n
 
 pub no-nearer : (n c : ℕ) → Representable c → NoNearer n (roundedSize n) c
-no-nearer n c r = nearest-by n (digitsOf n) (stepOf n) c (own-step n) r (orderOf n) refl
+no-nearer n c r = nearest-by n (digitsOf n) (stepOf n) c (own-step n) r (own-order n)
 
 -- a binary64 c that is another and as near: the significand is even
 pub tie-is-even : (n c : ℕ) → Representable c → (c ≡ roundedSize n → ⊥) → 4 * n ≡ (roundedSize n + c) * (roundedSize n + c) → significandOfRoot n % 2 ≡ 0
-tie-is-even n c r d t = ap (λ (o : Ordering). nearest (digitsOf n) o % 2) (tie-by n (digitsOf n) (stepOf n) c (own-step n) r (orderOf n) refl d t) ∙ even (digitsOf n)
+tie-is-even n c r d t = ap (λ (o : Ordering). nearest (digitsOf n) o % 2) (tie-by n (digitsOf n) (stepOf n) c (own-step n) r (own-order n) d t) ∙ even (digitsOf n)
   where
     even : (q : ℕ) → (q + q % 2) % 2 ≡ 0
     even q = omega arith

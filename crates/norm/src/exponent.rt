@@ -1,13 +1,9 @@
 // The exponents: how far a part is shifted, how far apart two are, what the leading zeros of a sum or a root say, and the bits of a
 // significand at its step. A shift or a gap is at most 2045, a count of digits at most 128, a step at most 2072, a field at most 2047.
 use super::wide::Wide;
-ghost use mathlib.Core.Bool.{false};
-ghost use mathlib.Core.Logic.{_⊎_};
-ghost use mathlib.Core.Path.{_≡_};
-ghost use Prim.Native.Nat.{_+_, _*_, _/_, _^_, _≤_, _<_};
-ghost use lib.Ieee.{binary64, ofBits, units};
-ghost use Rattle.norm.specs.Parts.{shiftOf};
-ghost use Rattle.norm.specs.Words.{two};
+ghost use Rattle.lists.specs.Prelude.{_≡_, _+_, _*_, _/_, _^_, _≤_, _<_};
+ghost use Rattle.norm.specs.Parts.{shiftOf, Rounded, Encodes};
+ghost use Rattle.norm.specs.Words.{two, Long, Dropped};
 
 // A part this many shifts or more below changes nothing.
 pub(crate) const FAR: u64 = 27;
@@ -93,7 +89,7 @@ pub(crate) fn places_beside(k: u64) -> u64
 
 // How many binary digits w has.
 fn digits(w: Wide) -> u64
-    ensures { λ r. ⌜ (two w < 2 ^ r) × (2 ^ r ≤ 2 * two w + 1) ⌝ }
+    ensures { λ r. ⌜ Long (two w) r ⌝ }
 {
     if w.hi == 0 {
         64 - u64::leading_zeros(w.lo) as u64
@@ -105,7 +101,7 @@ fn digits(w: Wide) -> u64
 // How many digits of a root are dropped: all but 53, and at least the one below the unit.
 pub(crate) fn dropped(root: Wide) -> u64
     requires { ⌜ two root < 2 ^ 81 ⌝ }
-    ensures { λ r. ⌜ (1 ≤ r) × (r ≤ 28) × (two root < 2 ^ 53 * 2 ^ r) × ((r ≡ 1) ⊎ (2 ^ 52 * 2 ^ r ≤ two root)) ⌝ }
+    ensures { λ r. ⌜ Dropped (two root) r ⌝ }
 {
     let z = digits(root);
     if z < 54 { 1 } else { z - 53 }
@@ -123,8 +119,8 @@ pub(crate) fn from_unit(k: u64) -> u64
 // significand m has all 53 digits, 10 where rounding carried it to 2^53, which is 2^52 at the next step, and more where the number is
 // subnormal. A significand at a step of 2^2046 units is past the largest number, and a carry below can raise the field up to infinity's.
 pub(crate) fn encoded(m: u64, more: u64, shift: u64) -> u64
-    requires { ⌜ (m ≤ 2 ^ 53) × (more < 28) × (shift ≤ 2045) × ((more + shift ≡ 0) ⊎ (2 ^ 52 ≤ m)) ⌝ }
-    ensures { λ r. ⌜ (r ≤ 2047 * 2 ^ 52) × (ofBits binary64 r ≡ units binary64 false m (more + shift)) ⌝ }
+    requires { ⌜ Rounded m (more + shift) × (more < 28) × (shift ≤ 2045) ⌝ }
+    ensures { λ r. ⌜ Encodes r m (more + shift) ⌝ }
 {
     let step = more + shift;
     if step >= 2046 {

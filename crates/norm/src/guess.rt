@@ -6,9 +6,8 @@ use super::exponent::longer;
 use super::exponent::missing;
 use super::exponent::power;
 use super::near_root::near_root;
-ghost use mathlib.Core.Path.{_≡_};
-ghost use Prim.Native.Nat.{ℕ, _+_, _*_, _/_, _^_, _≤_, _<_};
-ghost use Rattle.norm.specs.Checked.{Between, Covers, Ranked, Settles, squares};
+ghost use Rattle.lists.specs.Prelude.{_≡_, ℕ, _+_, _*_, _/_, _^_, _≤_, _<_};
+ghost use Rattle.norm.specs.Checked.{Between, Covers, Ranked, Settles, wholeSquares};
 
 fn one_if(b: bool) -> u64
     ensures { λ r. ⌜ r ≤ 1 ⌝ }
@@ -59,8 +58,8 @@ fn settled_at_unit(t: u64, m: u64, d: u64) -> u64
     ensures { λ r. ⌜ (r < 2 ^ 53) × (0 < r → (sum more : ℕ) → Covers t sum more → Between sum r (2 ^ (d + more))) ⌝ }
 {
     let unit = power(d);
-    let kept = m >> d;
-    let q = kept + one_if(high_square((2 * kept + 1) * unit) < t);
+    let whole = m >> d;
+    let q = whole + one_if(high_square((2 * whole + 1) * unit) < t);
     let high = (2 * q + 1) * unit;
     if high >= 0x40_0000_0000_0000 {
         return 0;
@@ -88,7 +87,7 @@ struct Sum {
 // The sum of the squares of 2·qa and 2·qb / 2^gap, in as many steps as fit a word, or 0.
 fn summed(qa: u64, qb: u64, gap: u64) -> Sum
     requires { ⌜ (qa < 2 ^ 53) × (qb < 2 ^ 53) × (gap < 27) ⌝ }
-    ensures { λ r. ⌜ (r .more ≤ 1) × (0 < r .t → Covers (r .t) (squares qa qb gap) (r .more)) ⌝ }
+    ensures { λ r. ⌜ (r .more ≤ 1) × (0 < r .t → Covers (r .t) (wholeSquares qa qb gap) (r .more)) ⌝ }
 {
     let large = high_square(2 * qa);
     let small = high_square(2 * qb);

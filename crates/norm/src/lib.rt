@@ -7,10 +7,9 @@ mod parts;
 mod square_root;
 mod wide;
 
-ghost use mathlib.Core.Path.{_≡_};
-ghost use Prim.Native.Nat.{_%_, _^_, max, min};
-ghost use lib.Ieee.{binary64, toBits};
+ghost use Rattle.lists.specs.Prelude.{_≡_, max, min};
 ghost use Rattle.norm.specs.Norm.{norm};
+ghost use Rattle.norm.specs.Parts.{unsigned};
 
 // The bits of positive infinity: those of a finite number without its sign are below, those of a NaN above.
 const INFINITY: u64 = 0x7ff0_0000_0000_0000;
@@ -51,7 +50,7 @@ fn smaller(a: u64, b: u64) -> u64
 
 // The bits of x without its sign. `to_bits` is undefined at a NaN, which keeps the quiet pattern.
 fn magnitude(x: f64) -> u64
-    ensures { λ r. ⌜ r ≡ toBits binary64 x % 2 ^ 63 ⌝ }
+    ensures { λ r. ⌜ r ≡ unsigned x ⌝ }
 {
     if x != x {
         return 0x7ff8_0000_0000_0000;

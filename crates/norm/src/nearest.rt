@@ -4,25 +4,24 @@ use super::exponent::encoded;
 use super::exponent::from_unit;
 use super::exponent::places_beside;
 use super::square_root::Root;
-ghost use mathlib.Core.Logic.{_⊎_};
-ghost use mathlib.Core.Path.{_≡_};
-ghost use Prim.Native.Nat.{ℕ, _+_, _*_, _^_, _≤_, _<_};
-ghost use lib.Ieee.{binary64, ofBits};
-ghost use lib.Ieee as Ieee;
-ghost use Rattle.norm.specs.Half.{besideHalf};
+use super::wide::Wide;
+ghost use Rattle.lists.specs.Prelude.{_⊎_, _≡_, ℕ, _+_, _*_, _^_, _≤_, _<_, binary64, ofBits};
 ghost use Rattle.norm.specs.Norm.{roundedRoot};
-ghost use Rattle.norm.specs.Words.{two, read};
+ghost use Rattle.norm.specs.Words.{two, read, RoundsBy};
 
-// 1 where the root is above the middle of a step, or in it and the significand q is odd.
-fn rounding_up(q: u64, tail: u64, exact: bool) -> u64
-    ensures { λ r. ⌜ (q + r ≡ Ieee.nearest q (besideHalf tail exact)) × (r ≤ 1) ⌝ }
+// 1 where the root is above the middle of a step, or in it and the significand q is odd. The digits below the step stand at the top of the word
+// `tail`, where half a step is 2^63, and the root leaves `rest`.
+fn rounding_up(q: u64, tail: u64, rest: Wide) -> u64
+    ensures { λ r. ⌜ RoundsBy q tail (2 ^ 63) (two rest) r ⌝ }
 {
     if tail < 0x8000_0000_0000_0000 {
         return 0;
     }
     if tail == 0x8000_0000_0000_0000 {
-        if exact {
-            return q % 2;
+        if rest.hi == 0 {
+            if rest.lo == 0 {
+                return q % 2;
+            }
         }
     }
     1
@@ -34,11 +33,9 @@ pub(crate) fn rounded(s: Root, shift: u64) -> u64
     ensures { λ r. ⌜ (r ≤ 2047 * 2 ^ 52) × ((n : ℕ) → read s * 4 ^ shift ≡ 4 * n → ofBits binary64 r ≡ roundedRoot n) ⌝ }
 {
     let root = s.root;
-    let rest = s.rest;
     let k = dropped(root);
     let up = places_beside(k);
     let q = (root.hi << up) + (root.lo >> k);
-    let exact = (rest.hi == 0) & (rest.lo == 0);
-    let more = rounding_up(q, root.lo << up, exact);
+    let more = rounding_up(q, root.lo << up, s.rest);
     encoded(q + more, from_unit(k), shift)
 }

@@ -5,7 +5,7 @@ use super::wide::at_most;
 use super::wide::minus;
 use super::wide::with_digit;
 use super::wide::with_two_digits;
-ghost use Prim.Native.Nat.{_+_, _*_, _^_, _≤_, _<_};
+ghost use Rattle.lists.specs.Prelude.{_+_, _*_, _^_, _≤_, _<_};
 ghost use Rattle.norm.specs.Words.{two, three, read, Reads};
 
 pub(crate) struct Root {

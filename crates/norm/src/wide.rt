@@ -1,8 +1,6 @@
 // Numbers of two and of three words: what the root needs of them, each contract in natural numbers.
 use super::exponent::places_beside;
-ghost use mathlib.Core.Path.{_≡_};
-ghost use Prim.Native.Nat.{_+_, _-_, _*_, _^_, _≤_, _<_};
-ghost use lib.Dec.{leb};
+ghost use Rattle.lists.specs.Prelude.{_≡_, _+_, _-_, _*_, _^_, _≤_, _<_, leb};
 ghost use Rattle.norm.specs.Words.{two, three};
 
 // hi·2^64 + lo
@@ -55,15 +53,16 @@ pub(crate) fn minus(a: Wide, b: Wide) -> Wide
     requires { ⌜ two b ≤ two a ⌝ }
     ensures { λ r. ⌜ two r + two b ≡ two a ⌝ }
 {
+    let lo = std::num::wrapping_sub_u64(a.lo, b.lo);
     if b.lo <= a.lo {
         Wide {
             hi: a.hi - b.hi,
-            lo: a.lo - b.lo,
+            lo: lo,
         }
     } else {
         Wide {
             hi: a.hi - b.hi - 1,
-            lo: a.lo + (u64::MAX - b.lo) + 1,
+            lo: lo,
         }
     }
 }

@@ -1,23 +1,20 @@
--- Document 01, observables: the outcome of each call. Lines 1, 2, 3 and 7 of the lesser function (operand 0) and of the observable's block
+-- Document 01, observables: the outcome of each call. Checks 1, 2, 3 and 7 of the lesser function (operand 0) and of the observable's block
 -- (operand 1) come before the order that the module names.
-use Prim.Native.Nat.{ℕ}
-use mathlib.Core.Bool.{true, cond, _&&_}
-use mathlib.Core.List.{List, [], _∷_}
-use lib.Dec.{eqb}
-use lib.ListN.{length}
-use lib.Ieee.{Float, binary64, ofBits}
+use Rattle.lists.specs.Prelude.{ℕ, true, cond, _&&_, List, [], _∷_, eqb, length, Float, binary64, ofBits}
 use Rattle.complex.specs.declared.Complex.{Complex}
 use Rattle.complex.specs.Arithmetic.{mul, cmul}
 use Rattle.refusal.specs.declared.Verdict.{Verdict}
 use Rattle.refusal.specs.declared.Verdict.the-variants.{Pass, Refused}
 use Rattle.refusal.specs.Verdict.{_then_}
-use Rattle.refusal.specs.Lines.{largeEnough, notEmpty, withinLimits, withinBlock, fitting, finiteEntries, validTolerance, finiteWork, timeBelow, orbitalBelow, finiteFactors, realWithin}
+use Rattle.refusal.specs.Checks.{largeEnough, notEmpty, withinLimits, withinBlock, fitting, finiteEntries, validTolerance, finiteWork, timeBelow, orbitalBelow}
+use Rattle.refusal.specs.Checks.{finiteFactors, realWithin}
 use Rattle.matrix.specs.declared.DenseMatrix.{DenseMatrix}
 use Rattle.matrix.specs.declared.Checked.{Checked}
-use Rattle.matrix.specs.Block.{Entries, entriesOf, countOf, blockOf, checked}
-use Rattle.matrix.specs.Operations.{product, trace, allFinite}
+use Rattle.block.specs.Block.{Entries}
+use Rattle.matrix.specs.Dense.{entriesOf, countOf, blockOf, checked}
+use Rattle.block.specs.Operations.{product, trace, allFinite}
 use Rattle.two_time.specs.Layout.{readAs, lengthOf}
-use Rattle.two_time.specs.Calls.{sizeLines, operandLines}
+use Rattle.two_time.specs.Calls.{sizeChecks, operandChecks}
 use Rattle.observables.specs.declared.Observed.{Observed}
 use Rattle.observables.specs.declared.Observed.the-variants.{Number, NotReal, Refused as NotObserved}
 use Rattle.observables.specs.Density.{density}
@@ -33,13 +30,13 @@ unfoldable pub observed : Verdict → Float → Observed
 observed Pass x = Number x
 observed (Refused r) x = cond (eqb (r .number) 14) (NotReal (r .part)) (NotObserved r)
 
--- lines 1, 2, 3 and 7 of the lesser function
-unfoldable pub lesserLines : ℕ → ℕ → List Float → Verdict
-lesserLines points orbitals lesser = sizeLines points orbitals true (lesser ∷ []) then operandLines 0 (lesser ∷ [])
+-- checks 1, 2, 3 and 7 of the lesser function
+unfoldable pub lesserChecks : ℕ → ℕ → List Float → Verdict
+lesserChecks points orbitals lesser = sizeChecks points orbitals true (lesser ∷ []) then operandChecks 0 (lesser ∷ [])
 
--- the same with a block: line by line, and a block that is not n by n is 3
-unfoldable pub lesserBlockLines : ℕ → ℕ → List Float → DenseMatrix → Verdict
-lesserBlockLines points orbitals lesser x =
+-- the same with a block: check by check, and a block that is not n by n is 3
+unfoldable pub lesserBlockChecks : ℕ → ℕ → List Float → DenseMatrix → Verdict
+lesserBlockChecks points orbitals lesser x =
     (largeEnough points orbitals then notEmpty (x .rows) (x .columns))
     then (withinLimits points orbitals then withinBlock (x .rows) (x .columns))
     then fitting (eqb (length lesser) (lengthOf points orbitals) && (eqb (x .rows) orbitals && eqb (x .columns) orbitals))
@@ -51,13 +48,13 @@ module _ (points orbitals : ℕ) (lesser : List Float) where
 
   -- `density_matrix`: its questions, then 11
   unfoldable pub densityMatrix : ℕ → Checked
-  densityMatrix time = checked (lesserLines points orbitals lesser then timeBelow time points) (blockOf orbitals orbitals (rho time))
+  densityMatrix time = checked (lesserChecks points orbitals lesser then timeBelow time points) (blockOf orbitals orbitals (rho time))
 
   -- "`particle_number`: 11, 8, 14."
   unfoldable pub particleNumber : ℕ → Float → Observed
   particleNumber time tolerance =
       let z = trace orbitals (rho time) in
-      observed (lesserLines points orbitals lesser then timeBelow time points then validTolerance tolerance then realWithin tolerance (z .im)) (z .re)
+      observed (lesserChecks points orbitals lesser then timeBelow time points then validTolerance tolerance then realWithin tolerance (z .im)) (z .re)
 
   -- "`one_body_expectation`: 11, 10 (the product observable·density), 8, 14."
   unfoldable pub oneBodyExpectation : ℕ → DenseMatrix → Float → Observed
@@ -65,7 +62,7 @@ module _ (points orbitals : ℕ) (lesser : List Float) where
       let made = product orbitals (entriesOf x) (rho time) in
       let z = trace orbitals made in
       observed
-      (lesserBlockLines points orbitals lesser x then timeBelow time points
+      (lesserBlockChecks points orbitals lesser x then timeBelow time points
       then finiteWork (allFinite orbitals orbitals made) then validTolerance tolerance then realWithin tolerance (z .im))
       (z .re)
 
@@ -73,6 +70,6 @@ module _ (points orbitals : ℕ) (lesser : List Float) where
   unfoldable pub bondFlowInto : ℕ → ℕ → ℕ → Complex → Float → Observed
   bondFlowInto time a b hopping charge =
       observed
-      (lesserLines points orbitals lesser then finiteFactors hopping charge
+      (lesserChecks points orbitals lesser then finiteFactors hopping charge
       then (orbitalBelow a orbitals then orbitalBelow b orbitals) then timeBelow time points)
       (mul (mul (ofBits binary64 0x4000_0000_0000_0000) charge) (cmul hopping (rho time b a) .im))

@@ -1,25 +1,23 @@
 -- Closed cases of the observables: P10 of document 01, the run with two orbitals (reference/expected.py, case d), and each refusal.
-use mathlib.Core.Path.{_≡_, refl}
-use mathlib.Core.List.{List, [], _∷_, _++_, map}
-use Prim.Native.Nat.{ℕ}
-use lib.ListN.{replicate, take}
+use Rattle.lists.specs.Prelude.{_≡_, refl, List, [], _∷_, _++_, map, ℕ, replicate, take, Float, nan, binary64, toBits}
 use lib.Ieee as Ieee
-use lib.Ieee.{Float, nan, binary64, toBits}
 use Rattle.lists.specs.Indexed.{fold, join, allBelow}
 use Rattle.complex.specs.declared.Complex.{Complex}
 use Rattle.complex.specs.Arithmetic.{plusZero, one, finite, size, cadd, cmul, cfinite}
 use Rattle.complex.specs.Sum.{sumFrom}
 use Rattle.refusal.specs.Verdict.{by, ask, _then_, askAll}
-use Rattle.refusal.specs.Lines.{largeEnough, notEmpty, withinLimits, withinBlock, fitting, finiteEntries, validTolerance, finiteWork, timeBelow, orbitalBelow, finiteFactors, realWithin}
+use Rattle.refusal.specs.Checks.{largeEnough, notEmpty, withinLimits, withinBlock, fitting, finiteEntries, validTolerance, finiteWork, timeBelow, orbitalBelow}
+use Rattle.refusal.specs.Checks.{finiteFactors, realWithin}
 use Rattle.matrix.specs.declared.DenseMatrix.{DenseMatrix}
-use Rattle.matrix.specs.Block.{layOut, blockOf, checked}
-use Rattle.matrix.specs.Operations.{product, trace, allFinite}
-use Rattle.two_time.specs.Calls.{allLong, sizeLines, operandLines}
+use Rattle.block.specs.Block.{layOut}
+use Rattle.matrix.specs.Dense.{blockOf, checked}
+use Rattle.block.specs.Operations.{product, trace, allFinite}
+use Rattle.two_time.specs.Calls.{allLong, sizeChecks, operandChecks}
 use Rattle.two_time.specs.Example as Example
 use Rattle.two_time.specs.Example.{floats}
 use Rattle.observables.specs.declared.Observed.the-variants.{Number, NotReal, Refused as NotObserved}
 use Rattle.observables.specs.Density.{density}
-use Rattle.observables.specs.Calls.{observed, lesserLines, lesserBlockLines, densityMatrix, particleNumber, oneBodyExpectation, bondFlowInto}
+use Rattle.observables.specs.Calls.{observed, lesserChecks, lesserBlockChecks, densityMatrix, particleNumber, oneBodyExpectation, bondFlowInto}
 
 abbrev f : ℕ → Float
 f = Ieee.ofBits binary64
@@ -35,20 +33,20 @@ p10 : particleNumber 2 1 (lesser 0xbfe0_0000_0000_0000 0x4000_0000_0000_0000) 0 
     ∷ particleNumber 2 1 (lesser 0xbfe8_0000_0000_0000 0x4000_0000_0000_0000) 0 (f 0x3fe0_0000_0000_0000)
     ∷ particleNumber 2 1 (lesser 0 0) 1 one ∷ []
     ≡ Number (f 0x4000_0000_0000_0000) ∷ NotReal (f 0x3fe8_0000_0000_0000) ∷ Number one ∷ []
-unfolding particleNumber observed lesserLines sizeLines allLong operandLines largeEnough withinLimits fitting finiteEntries validTolerance timeBelow realWithin ask askAll _then_ trace sumFrom fold density size cadd cmul finite Ieee.ofBits Ieee.add Ieee.sub Ieee.mul Ieee.neg Ieee.lt
+unfolding particleNumber observed lesserChecks sizeChecks allLong operandChecks largeEnough withinLimits fitting finiteEntries validTolerance timeBelow realWithin ask askAll _then_ trace sumFrom fold density size cadd cmul finite Ieee.ofBits Ieee.add Ieee.sub Ieee.mul Ieee.neg Ieee.lt
 p10 = refl
 
 -- the density of G^<(0,0) = 3 + 2i is 2 − 3i, and +0 follows the entry
 densities : densityMatrix 2 1 (lesser 0x4008_0000_0000_0000 0x4000_0000_0000_0000) 0 .block .rows ∷ map (toBits binary64) (take 3 (densityMatrix 2 1 (lesser 0x4008_0000_0000_0000 0x4000_0000_0000_0000) 0 .block .values))
     ≡ 1 ∷ 0x4000_0000_0000_0000 ∷ 0xc008_0000_0000_0000 ∷ 0 ∷ []
-unfolding densityMatrix lesserLines sizeLines allLong operandLines largeEnough withinLimits fitting finiteEntries timeBelow ask askAll _then_ checked blockOf layOut join density cmul finite Ieee.ofBits toBits Ieee.add Ieee.sub Ieee.mul Ieee.neg
+unfolding densityMatrix lesserChecks sizeChecks allLong operandChecks largeEnough withinLimits fitting finiteEntries timeBelow ask askAll _then_ checked blockOf layOut join density cmul finite Ieee.ofBits toBits Ieee.add Ieee.sub Ieee.mul Ieee.neg
 densities = refl
 
 -- in order: 11 before 8; 3, 7 with its place, and 1 before those
 refused : particleNumber 2 1 (lesser 0 0) 2 plusZero ∷ particleNumber 2 1 (lesser 0 0) 1 plusZero ∷ particleNumber 2 1 (one ∷ []) 2 plusZero
     ∷ particleNumber 2 1 (plusZero ∷ plusZero ∷ plusZero ∷ nan ∷ replicate 4 one) 2 plusZero ∷ particleNumber 1 1 [] 2 plusZero ∷ []
     ≡ NotObserved (by 11) ∷ NotObserved (by 8) ∷ NotObserved (by 3) ∷ NotObserved (record { number = 7; operand = 0; first = 3; second = 0; part = plusZero }) ∷ NotObserved (by 1) ∷ []
-unfolding particleNumber observed lesserLines sizeLines allLong operandLines largeEnough withinLimits fitting finiteEntries validTolerance timeBelow realWithin ask askAll _then_ trace sumFrom fold density size cadd cmul finite Ieee.ofBits Ieee.add Ieee.sub Ieee.mul Ieee.neg Ieee.lt
+unfolding particleNumber observed lesserChecks sizeChecks allLong operandChecks largeEnough withinLimits fitting finiteEntries validTolerance timeBelow realWithin ask askAll _then_ trace sumFrom fold density size cadd cmul finite Ieee.ofBits Ieee.add Ieee.sub Ieee.mul Ieee.neg Ieee.lt
 refused = refl
 
 -- ---- the run with two orbitals
@@ -65,7 +63,7 @@ x = record { rows = 2; columns = 2; values = floats (0x3ff0_0000_0000_0000 ∷ 0
 
 numbers : particleNumber 3 2 run 0 million ∷ particleNumber 3 2 run 1 million ∷ particleNumber 3 2 run 2 million ∷ particleNumber 3 2 run 2 one ∷ []
     ≡ Number plusZero ∷ Number (f 0x404c_4fb2_0000_0000) ∷ Number (f 0x40f3_15de_39de_0000) ∷ NotReal (f 0xc0d7_37dd_88fc_0000) ∷ []
-unfolding particleNumber observed lesserLines sizeLines allLong operandLines largeEnough withinLimits fitting finiteEntries validTolerance timeBelow realWithin ask askAll _then_ trace sumFrom fold density size cadd cmul finite Ieee.ofBits Ieee.add Ieee.sub Ieee.mul Ieee.neg Ieee.lt
+unfolding particleNumber observed lesserChecks sizeChecks allLong operandChecks largeEnough withinLimits fitting finiteEntries validTolerance timeBelow realWithin ask askAll _then_ trace sumFrom fold density size cadd cmul finite Ieee.ofBits Ieee.add Ieee.sub Ieee.mul Ieee.neg Ieee.lt
 numbers = refl
 
 -- the expectation; 3 of a block that is not n by n, after 2 of one with 17 rows; 7 of operand 1; 10 of the product before 8
@@ -75,7 +73,7 @@ expectations : oneBodyExpectation 3 2 run 2 x million
     ∷ oneBodyExpectation 3 2 run 2 (record { rows = 2; columns = 2; values = replicate 8 (f 0x7fef_ffff_ffff_ffff) }) plusZero ∷ oneBodyExpectation 3 2 run 3 x plusZero ∷ []
     ≡ Number (f 0xc0f2_17b8_498a_0000) ∷ NotObserved (by 3) ∷ NotObserved (by 2)
     ∷ NotObserved (record { number = 7; operand = 1; first = 5; second = 0; part = plusZero }) ∷ NotObserved (by 10) ∷ NotObserved (by 11) ∷ []
-unfolding oneBodyExpectation observed lesserBlockLines largeEnough notEmpty withinLimits withinBlock fitting finiteEntries validTolerance finiteWork timeBelow realWithin ask askAll _then_ product trace allFinite allBelow sumFrom fold density size cadd cmul cfinite finite Ieee.ofBits Ieee.add Ieee.sub Ieee.mul Ieee.neg Ieee.lt
+unfolding oneBodyExpectation observed lesserBlockChecks largeEnough notEmpty withinLimits withinBlock fitting finiteEntries validTolerance finiteWork timeBelow realWithin ask askAll _then_ product trace allFinite allBelow sumFrom fold density size cadd cmul cfinite finite Ieee.ofBits Ieee.add Ieee.sub Ieee.mul Ieee.neg Ieee.lt
 expectations = refl
 
 -- hopping 0.5 + 0.25i, charge factor 1.5; then 13 before 12 before 11
@@ -85,5 +83,5 @@ hopping = record { re = f 0x3fe0_0000_0000_0000; im = f 0x3fd0_0000_0000_0000 }
 flows : bondFlowInto 3 2 run 1 0 1 hopping (f 0x3ff8_0000_0000_0000) ∷ bondFlowInto 3 2 run 3 2 2 hopping nan ∷ bondFlowInto 3 2 run 3 2 0 hopping one ∷ bondFlowInto 3 2 run 3 0 2 hopping one
     ∷ bondFlowInto 3 2 run 3 0 1 hopping one ∷ []
     ≡ Number (f 0x402f_c0e6_0000_0000) ∷ NotObserved (by 13) ∷ NotObserved (by 12) ∷ NotObserved (by 12) ∷ NotObserved (by 11) ∷ []
-unfolding bondFlowInto observed lesserLines sizeLines allLong operandLines largeEnough withinLimits fitting finiteEntries timeBelow orbitalBelow finiteFactors ask askAll _then_ density cmul cfinite finite Ieee.ofBits Ieee.add Ieee.sub Ieee.mul Ieee.neg
+unfolding bondFlowInto observed lesserChecks sizeChecks allLong operandChecks largeEnough withinLimits fitting finiteEntries timeBelow orbitalBelow finiteFactors ask askAll _then_ density cmul cfinite finite Ieee.ofBits Ieee.add Ieee.sub Ieee.mul Ieee.neg
 flows = refl

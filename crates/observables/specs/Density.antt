@@ -1,8 +1,17 @@
 -- Document 01, observables: "Density is (0 − 1i) times each entry of G^<(t,t)."
-use Prim.Native.Nat.{ℕ}
+use Rattle.lists.specs.Prelude.{List, ℕ, Float}
 use Rattle.complex.specs.Arithmetic.{minusI, cmul}
-use Rattle.matrix.specs.Block.{Entries}
-use Rattle.two_time.specs.Layout.{TwoTime}
+use Rattle.block.specs.Block.{Entries, entriesIn}
+use Rattle.block.specs.Operations.{product}
+use Rattle.two_time.specs.Layout.{TwoTime, readAs}
 
 unfoldable pub density : TwoTime → ℕ → Entries
 density lesser t a b = cmul minusI (lesser t t a b)
+
+-- of a lesser function as numbers
+abbrev pub densityOf : ℕ → ℕ → List Float → ℕ → Entries
+densityOf points orbitals lesser = density (readAs points orbitals lesser)
+
+-- its product by an n by n block of these numbers
+abbrev pub productOf : ℕ → ℕ → List Float → List Float → ℕ → Entries
+productOf points orbitals values lesser time = product orbitals (entriesIn orbitals values) (densityOf points orbitals lesser time)

@@ -1,7 +1,11 @@
--- Document 01, observables: the density, each call's outcome, closed cases, and the laws that the code's proofs cite.
+-- Document 01, observables.
+-- Behind the contracts: the density matrix; the checks and the outcome of each call.
 pub mod Density
 pub mod Calls
+-- Closed cases: P10, the run with two orbitals, and each refusal.
 pub mod Cases
-pub mod Lent
-pub mod Asking
-pub mod Answering
+-- Laws: what passed checks say of a lesser function; its checks, and a block's, as the code joins them; what is answered where a check
+-- refuses, and where all pass.
+pub mod Passed
+pub mod LesserChecks
+pub mod Answers

@@ -1,16 +1,16 @@
 // An observable's answer from the answers to its questions.
-ghost use mathlib.Core.Path.{_≡_};
+ghost use Rattle.lists.specs.Prelude.{_≡_};
 ghost use Rattle.complex.specs.Arithmetic.{plusZero};
 ghost use Rattle.refusal.specs.declared.Verdict.{Verdict};
 ghost use Rattle.refusal.specs.Verdict.{_then_};
-ghost use Rattle.refusal.specs.Lines.{validTolerance, realWithin};
+ghost use Rattle.refusal.specs.Checks.{validTolerance, realWithin};
 ghost use Rattle.observables.specs.Calls.{observed};
 use crate::Observed;
 use complex::Complex;
 use refusal::Refusal;
 use refusal::Verdict;
-use refusal::lines::real_within;
-use refusal::lines::valid_tolerance;
+use refusal::checks::real_within;
+use refusal::checks::valid_tolerance;
 
 // A refusal: number 14 carries the imaginary part, any other its places.
 pub(crate) fn refused(refusal: Refusal) -> Observed

@@ -1,14 +1,12 @@
 // The density matrix rho(t) = -i G^<(t,t), entry by entry.
-ghost use mathlib.Core.Path.{_≡_};
-ghost use Prim.Native.Nat.{_*_, _<_, _≤_};
-ghost use lib.ListN.{length};
+ghost use Rattle.lists.specs.Prelude.{_≡_, _*_, _<_, _≤_, length};
 ghost use Rattle.complex.specs.Filling.{cells};
-ghost use Rattle.matrix.specs.Block.{blockOf};
-ghost use Rattle.matrix.specs.Operations.{trace};
+ghost use Rattle.matrix.specs.Dense.{blockOf};
+ghost use Rattle.block.specs.Operations.{trace};
 ghost use Rattle.two_time.specs.Layout.{readAs, lengthOf};
 ghost use Rattle.two_time.specs.Places.{Placed};
-ghost use Rattle.observables.specs.Density.{density};
-ghost use Rattle.observables.specs.Lent.{Lent};
+ghost use Rattle.observables.specs.Density.{density, densityOf};
+ghost use Rattle.observables.specs.Passed.{Passed};
 use complex::Complex;
 use matrix::DenseMatrix;
 use two_time::layout::Stored;
@@ -44,17 +42,17 @@ pub(crate) fn entry(
     a: usize,
     b: usize,
 ) -> Complex
-    requires { ⌜ Lent points orbitals (now lesser) time ⌝ }
+    requires { ⌜ Passed points orbitals (now lesser) time ⌝ }
     requires { ⌜ (a < orbitals) × (b < orbitals) ⌝ }
-    ensures { λ r. ⌜ r ≡ density (readAs points orbitals (now (lesser .entry))) time a b ⌝ }
+    ensures { λ r. ⌜ r ≡ densityOf points orbitals (now (lesser .entry)) time a b ⌝ }
 {
     Complex::MINUS_I.times(stored(lesser, points, orbitals, time, time, a, b))
 }
 
 // The sum of the diagonal.
 pub(crate) fn trace(lesser: &[f64], points: usize, orbitals: usize, time: usize) -> Complex
-    requires { ⌜ Lent points orbitals (now lesser) time ⌝ }
-    ensures { λ r. ⌜ r ≡ trace orbitals (density (readAs points orbitals (now (lesser .entry))) time) ⌝ }
+    requires { ⌜ Passed points orbitals (now lesser) time ⌝ }
+    ensures { λ r. ⌜ r ≡ trace orbitals (densityOf points orbitals (now (lesser .entry)) time) ⌝ }
 {
     let mut sum = Complex::ZERO;
     for a in 0..orbitals {
@@ -65,9 +63,9 @@ pub(crate) fn trace(lesser: &[f64], points: usize, orbitals: usize, time: usize)
 
 // Writes row a, its n entries.
 fn row(lesser: &[f64], points: usize, orbitals: usize, time: usize, a: usize, out: &mut [f64])
-    requires { ⌜ Lent points orbitals (now lesser) time ⌝ }
+    requires { ⌜ Passed points orbitals (now lesser) time ⌝ }
     requires { ⌜ (a < orbitals) × (length (now out) ≡ 2 * orbitals) ⌝ }
-    ensures { λ _. ⌜ now (out .exit) ≡ cells orbitals (density (readAs points orbitals (now (lesser .entry))) time a) ⌝ }
+    ensures { λ _. ⌜ now (out .exit) ≡ cells orbitals (densityOf points orbitals (now (lesser .entry)) time a) ⌝ }
 {
     for b in 0..orbitals {
         let z = entry(lesser, points, orbitals, time, a, b);
@@ -78,8 +76,8 @@ fn row(lesser: &[f64], points: usize, orbitals: usize, time: usize, a: usize, ou
 
 // All entries as one block, with +0 beyond them.
 pub(crate) fn block(lesser: &[f64], points: usize, orbitals: usize, time: usize) -> DenseMatrix
-    requires { ⌜ Lent points orbitals (now lesser) time ⌝ }
-    ensures { λ r. ⌜ r ≡ blockOf orbitals orbitals (density (readAs points orbitals (now (lesser .entry))) time) ⌝ }
+    requires { ⌜ Passed points orbitals (now lesser) time ⌝ }
+    ensures { λ r. ⌜ r ≡ blockOf orbitals orbitals (densityOf points orbitals (now (lesser .entry)) time) ⌝ }
 {
     let mut values = [0.0; 512];
     let width = 2 * orbitals;

@@ -1,25 +1,25 @@
 // One-body observables of a lesser function (document 01, observables): the meaning of each call is in specs/.
 mod answer;
+pub mod checks;
 mod density;
-pub mod lines;
 mod product;
 
-ghost use mathlib.Core.Path.{_≡_};
+ghost use Rattle.lists.specs.Prelude.{_≡_};
 ghost use Rattle.observables.specs.Calls.{densityMatrix, particleNumber, oneBodyExpectation, bondFlowInto};
 use answer::real_checked;
 use answer::refused;
+use checks::check_lesser;
+use checks::check_lesser_block;
+use checks::check_lesser_time;
 use complex::Complex;
-use lines::lesser_block_lines;
-use lines::lesser_lines;
-use lines::lesser_time_lines;
 use matrix::Checked;
 use matrix::DenseMatrix;
 use refusal::Refusal;
 use refusal::Verdict;
-use refusal::lines::finite_factors;
-use refusal::lines::finite_work;
-use refusal::lines::orbital_below;
-use refusal::lines::time_below;
+use refusal::checks::finite_factors;
+use refusal::checks::finite_work;
+use refusal::checks::orbital_below;
+use refusal::checks::time_below;
 
 // An observable's answer (document 01, "How to write each place").
 pub enum Observed {
@@ -32,10 +32,10 @@ pub enum Observed {
 }
 
 // The one-particle density matrix rho(t) = -i G^<(t,t).
-pub fn density_matrix(lesser: &[f64], points: usize, orbitals: usize, time: usize) -> Checked
-    ensures { λ r. ⌜ r ≡ densityMatrix points orbitals (now (lesser .entry)) time ⌝ }
+pub fn density_matrix(lesser: &[f64], points: usize, orbitals: usize, time_index: usize) -> Checked
+    ensures { λ r. ⌜ r ≡ densityMatrix points orbitals (now (lesser .entry)) «time_index» ⌝ }
 {
-    let verdict = lesser_time_lines(lesser, points, orbitals, time);
+    let verdict = check_lesser_time(lesser, points, orbitals, time_index);
     let Verdict::Pass = verdict else {
         return Checked {
             verdict,
@@ -48,7 +48,7 @@ pub fn density_matrix(lesser: &[f64], points: usize, orbitals: usize, time: usiz
     };
     Checked {
         verdict,
-        block: density::block(lesser, points, orbitals, time),
+        block: density::block(lesser, points, orbitals, time_index),
     }
 }
 
@@ -57,67 +57,70 @@ pub fn particle_number(
     lesser: &[f64],
     points: usize,
     orbitals: usize,
-    time: usize,
+    time_index: usize,
     tolerance: f64,
 ) -> Observed
-    ensures { λ r. ⌜ r ≡ particleNumber points orbitals (now (lesser .entry)) time tolerance ⌝ }
+    ensures { λ r. ⌜ r ≡ particleNumber points orbitals (now (lesser .entry)) «time_index» tolerance ⌝ }
 {
-    let verdict = lesser_time_lines(lesser, points, orbitals, time);
+    let verdict = check_lesser_time(lesser, points, orbitals, time_index);
     if let Verdict::Refused(r) = verdict {
-        return refused(r);
-    }
-    real_checked(density::trace(lesser, points, orbitals, time), tolerance)
-}
-
-// Tr[O rho] of a one-body matrix O, which is to be real within the tolerance: n³ products O_ak·rho_kb for line 10, n² for the trace.
-pub fn one_body_expectation(
-    lesser: &[f64],
-    points: usize,
-    orbitals: usize,
-    time: usize,
-    observable: DenseMatrix,
-    tolerance: f64,
-) -> Observed
-    ensures { λ r. ⌜ r ≡ oneBodyExpectation points orbitals (now (lesser .entry)) time observable tolerance ⌝ }
-{
-    let rows = observable.rows;
-    let columns = observable.columns;
-    let values = observable.values;
-    let lent = lesser_block_lines(lesser, points, orbitals, rows, columns, &values);
-    let verdict = lent.then(time_below(time, points));
-    if let Verdict::Refused(r) = verdict {
-        return refused(r);
-    }
-    let work = finite_work(product::is_finite(&values, lesser, points, orbitals, time));
-    if let Verdict::Refused(r) = work {
         return refused(r);
     }
     real_checked(
-        product::trace(&values, lesser, points, orbitals, time),
+        density::trace(lesser, points, orbitals, time_index),
         tolerance,
     )
 }
 
-// The flow into orbital a from b, J = 2 q/hbar Im[h_ab rho_ba], with hopping h_ab and charge q/hbar.
+// Tr[O rho] of a one-body matrix O, which is to be real within the tolerance: n³ products O_ak·rho_kb for check 10, n² for the trace.
+pub fn one_body_expectation(
+    lesser: &[f64],
+    points: usize,
+    orbitals: usize,
+    time_index: usize,
+    observable: DenseMatrix,
+    tolerance: f64,
+) -> Observed
+    ensures { λ r. ⌜ r ≡ oneBodyExpectation points orbitals (now (lesser .entry)) «time_index» observable tolerance ⌝ }
+{
+    let rows = observable.rows;
+    let columns = observable.columns;
+    let values = observable.values;
+    let inputs = check_lesser_block(lesser, points, orbitals, rows, columns, &values);
+    let verdict = inputs.then(time_below(time_index, points));
+    if let Verdict::Refused(r) = verdict {
+        return refused(r);
+    }
+    let work = finite_work(product::is_finite(&values, lesser, points, orbitals, time_index));
+    if let Verdict::Refused(r) = work {
+        return refused(r);
+    }
+    real_checked(
+        product::trace(&values, lesser, points, orbitals, time_index),
+        tolerance,
+    )
+}
+
+// The flow into orbital a from b, J = 2 q/hbar Im[h_ab rho_ba], with hopping_ab and charge_over_hbar = q/hbar.
 pub fn bond_flow_into(
     lesser: &[f64],
     points: usize,
     orbitals: usize,
-    time: usize,
+    time_index: usize,
     a: usize,
     b: usize,
-    hopping: Complex,
-    charge: f64,
+    hopping_ab: Complex,
+    charge_over_hbar: f64,
 ) -> Observed
-    ensures { λ r. ⌜ r ≡ bondFlowInto points orbitals (now (lesser .entry)) time a b hopping charge ⌝ }
+    ensures { λ r. ⌜ r ≡ bondFlowInto points orbitals (now (lesser .entry)) «time_index» a b «hopping_ab» «charge_over_hbar» ⌝ }
 {
     let bond = orbital_below(a, orbitals).then(orbital_below(b, orbitals));
-    let places = bond.then(time_below(time, points));
-    let factors = finite_factors(hopping, charge);
-    let verdict = lesser_lines(lesser, points, orbitals).then(factors.then(places));
+    let places = bond.then(time_below(time_index, points));
+    let factors = finite_factors(hopping_ab, charge_over_hbar);
+    let verdict = check_lesser(lesser, points, orbitals).then(factors.then(places));
     if let Verdict::Refused(r) = verdict {
         return refused(r);
     }
-    let rho_ba = density::entry(lesser, points, orbitals, time, b, a);
-    Observed::Number(2.0 * charge * hopping.times(rho_ba).im)
+    let rho_ba = density::entry(lesser, points, orbitals, time_index, b, a);
+    Observed::Number(2.0 * charge_over_hbar * hopping_ab.times(rho_ba).im)
 }

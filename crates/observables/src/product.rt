@@ -1,14 +1,11 @@
-// The product of a one-body matrix, lent as the numbers of its block, and the density matrix, entry by entry.
-ghost use mathlib.Core.Path.{_≡_};
-ghost use Prim.Native.Nat.{_≤_, _<_};
-ghost use lib.ListN.{length};
+// The product of a one-body matrix, given as the numbers of its block, and the density matrix, entry by entry.
+ghost use Rattle.lists.specs.Prelude.{_≡_, _≤_, _<_, length};
 ghost use Rattle.lists.specs.Indexed.{allBelow};
 ghost use Rattle.complex.specs.Arithmetic.{cfinite};
-ghost use Rattle.matrix.specs.Block.{entriesIn};
-ghost use Rattle.matrix.specs.Operations.{product, trace, allFinite};
-ghost use Rattle.two_time.specs.Layout.{readAs};
-ghost use Rattle.observables.specs.Density.{density};
-ghost use Rattle.observables.specs.Lent.{Lent};
+ghost use Rattle.block.specs.Block.{entriesIn};
+ghost use Rattle.block.specs.Operations.{product, trace, allFinite};
+ghost use Rattle.observables.specs.Density.{density, productOf};
+ghost use Rattle.observables.specs.Passed.{Passed};
 use crate::density;
 use complex::Complex;
 
@@ -30,9 +27,9 @@ fn entry(
     a: usize,
     b: usize,
 ) -> Complex
-    requires { ⌜ Lent points orbitals (now lesser) time ⌝ }
+    requires { ⌜ Passed points orbitals (now lesser) time ⌝ }
     requires { ⌜ (a < orbitals) × (b < orbitals) × (512 ≤ length (now values)) ⌝ }
-    ensures { λ r. ⌜ r ≡ product orbitals (entriesIn orbitals (now (values .entry))) (density (readAs points orbitals (now (lesser .entry))) time) a b ⌝ }
+    ensures { λ r. ⌜ r ≡ productOf points orbitals (now (values .entry)) (now (lesser .entry)) time a b ⌝ }
 {
     let mut sum = Complex::ZERO;
     for k in 0..orbitals {
@@ -52,9 +49,9 @@ fn row_is_finite(
     time: usize,
     a: usize,
 ) -> bool
-    requires { ⌜ Lent points orbitals (now lesser) time ⌝ }
+    requires { ⌜ Passed points orbitals (now lesser) time ⌝ }
     requires { ⌜ (a < orbitals) × (512 ≤ length (now values)) ⌝ }
-    ensures { λ r. ⌜ r ≡ allBelow orbitals (λ b. cfinite (product orbitals (entriesIn orbitals (now (values .entry))) (density (readAs points orbitals (now (lesser .entry))) time) a b)) ⌝ }
+    ensures { λ r. ⌜ r ≡ allBelow orbitals (λ b. cfinite (productOf points orbitals (now (values .entry)) (now (lesser .entry)) time a b)) ⌝ }
 {
     let mut all = true;
     for b in 0..orbitals {
@@ -72,9 +69,9 @@ pub(crate) fn is_finite(
     orbitals: usize,
     time: usize,
 ) -> bool
-    requires { ⌜ Lent points orbitals (now lesser) time ⌝ }
+    requires { ⌜ Passed points orbitals (now lesser) time ⌝ }
     requires { ⌜ 512 ≤ length (now values) ⌝ }
-    ensures { λ r. ⌜ r ≡ allFinite orbitals orbitals (product orbitals (entriesIn orbitals (now (values .entry))) (density (readAs points orbitals (now (lesser .entry))) time)) ⌝ }
+    ensures { λ r. ⌜ r ≡ allFinite orbitals orbitals (productOf points orbitals (now (values .entry)) (now (lesser .entry)) time) ⌝ }
 {
     let mut all = true;
     for a in 0..orbitals {
@@ -92,9 +89,9 @@ pub(crate) fn trace(
     orbitals: usize,
     time: usize,
 ) -> Complex
-    requires { ⌜ Lent points orbitals (now lesser) time ⌝ }
+    requires { ⌜ Passed points orbitals (now lesser) time ⌝ }
     requires { ⌜ 512 ≤ length (now values) ⌝ }
-    ensures { λ r. ⌜ r ≡ trace orbitals (product orbitals (entriesIn orbitals (now (values .entry))) (density (readAs points orbitals (now (lesser .entry))) time)) ⌝ }
+    ensures { λ r. ⌜ r ≡ trace orbitals (productOf points orbitals (now (values .entry)) (now (lesser .entry)) time) ⌝ }
 {
     let mut sum = Complex::ZERO;
     for a in 0..orbitals {

@@ -1,13 +1,10 @@
--- Laws of questions in order: when all were answered yes, and when two calls get the same answer. Assumes nothing.
-use mathlib.Core.Path.{_≡_, refl, ap, _∙_}
-use mathlib.Core.Bool.{Bool, true, false}
-use Prim.Native.Nat.{ℕ, zero, suc, _<_}
-use native.Mathlib.Nat.{le-refl}
-use native.Mathlib.Omega.{arith}
+-- Laws of questions in order: when all were answered yes, when two calls get the same answer, and what is measured after them. Assumes nothing.
+use Rattle.lists.specs.Prelude.{_≡_, refl, ap, _∙_, Bool, true, false, ℕ, zero, suc, _<_, le-refl, arith, Float}
 use Rattle.refusal.specs.declared.Refusal.{Refusal}
 use Rattle.refusal.specs.declared.Verdict.{Verdict}
 use Rattle.refusal.specs.declared.Verdict.the-variants.{Pass, Refused}
-use Rattle.refusal.specs.Verdict.{ask, _then_, askAll}
+use Rattle.refusal.specs.declared.Measured.the-variants.{Of, Refused as Unmeasured}
+use Rattle.refusal.specs.Verdict.{ask, _then_, askAll, measured}
 
 -- a refusal is no yes
 pub not-pass : {P : Type 0} (r : Refusal) → Refused r ≡ Pass → P
@@ -64,3 +61,12 @@ then-after x y e = rw e
 pub then-refused : (x y : Verdict) (r : Refusal) → x ≡ Refused r → (x then y) ≡ Refused r
 unfolding _then_
 then-refused x y r e = rw e
+
+-- a measured number, by the verdict before it
+pub measured-yes : {v : Verdict} {x y : Float} → v ≡ Pass → y ≡ x → Of y ≡ measured v x
+unfolding measured
+measured-yes p e = rw (p, e)
+
+pub measured-no : {v : Verdict} {r : Refusal} (x : Float) → v ≡ Refused r → Unmeasured r ≡ measured v x
+unfolding measured
+measured-no x p = rw p

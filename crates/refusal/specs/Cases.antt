@@ -1,15 +1,12 @@
--- Closed cases of the lines: each at its edge, and questions in order.
-use mathlib.Core.Path.{_≡_, refl}
-use mathlib.Core.Bool.{true, false}
-use mathlib.Core.List.{[], _∷_, map}
+-- Closed cases of the checks: each at its edge, and questions in order.
+use Rattle.lists.specs.Prelude.{_≡_, refl, true, false, [], _∷_, map, Float, nan, inf, binary64}
 use lib.Ieee as Ieee
 use Rattle.lists.specs.Indexed.{allBelow}
-use lib.Ieee.{Float, nan, inf, binary64}
 use Rattle.complex.specs.Arithmetic.{plusZero, one, czero, size, finite, cfinite}
 use Rattle.refusal.specs.declared.Verdict.the-variants.{Pass, Refused}
-use Rattle.refusal.specs.Verdict.{by, ask, _then_, askAll, numberOf, afterwards, decide, decisionNumber}
-use Rattle.refusal.specs.Lines.{largeEnough, notEmpty, withinLimits, withinBlock, withinProgram, fitting, finiteTimes, risingTimes, finiteWeights}
-use Rattle.refusal.specs.Lines.{finiteEntries, validTolerance, retardedAt, finiteWork, timeBelow, orbitalBelow, finiteFactors, realWithin, wellFormed}
+use Rattle.refusal.specs.Verdict.{by, ask, _then_, askAll, numberOf, zeroed, afterwards, decide, decisionNumber}
+use Rattle.refusal.specs.Checks.{largeEnough, notEmpty, withinLimits, withinBlock, withinProgram, fitting, finiteTimes, risingTimes, finiteWeights, finiteEntries}
+use Rattle.refusal.specs.Checks.{validTolerance, retardedAt, finiteWork, timeBelow, orbitalBelow, finiteFactors, realWithin, wellFormed}
 
 abbrev half : Float
 half = Ieee.ofBits binary64 0x3fe0_0000_0000_0000
@@ -62,7 +59,7 @@ unfolding _then_ askAll
 in-order = refl
 
 -- accepted: what was made; 10: +0 throughout; any other: as before
-leaves : afterwards Pass (one ∷ []) (half ∷ []) ∷ afterwards (Refused (by 10)) (one ∷ []) (half ∷ []) ∷ afterwards (Refused (by 9)) (one ∷ []) (half ∷ []) ∷ []
+leaves : afterwards zeroed Pass (one ∷ []) (half ∷ []) ∷ afterwards zeroed (Refused (by 10)) (one ∷ []) (half ∷ []) ∷ afterwards zeroed (Refused (by 9)) (one ∷ []) (half ∷ []) ∷ []
     ≡ (one ∷ []) ∷ (plusZero ∷ []) ∷ (half ∷ []) ∷ []
 unfolding afterwards
 leaves = refl

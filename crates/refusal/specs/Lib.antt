@@ -1,8 +1,11 @@
--- Document 01, "Questions in order": what an answer is, how questions are asked in order, the lines 1 to 15, and closed cases.
+-- Document 01, "Questions in order".
+-- Behind the contracts: what an answer is, how questions are asked in order and what a call leaves in a slice; the checks 1 to 15.
 pub mod Verdict
-pub mod Lines
+pub mod Checks
+-- Closed cases: each check at its edge, and questions in order.
 pub mod Cases
+-- Laws: of questions in order; of a search for the first answer no; of refusals that leave a slice as it was.
 pub mod Agreement
 pub mod Search
-pub mod Keeping
-pub mod Measuring
+pub mod Unchanged
+pub mod Outcome

@@ -1,15 +1,6 @@
 -- How far a search for the first question that is answered no has come, and what that says of all the questions. Assumes nothing.
-use mathlib.Core.Path.{_≡_, refl, sym, _∙_}
-use mathlib.Core.Bool.{Bool, true, false}
-use mathlib.Core.List.{List}
-use mathlib.Core.Logic.{⊎-elim}
-use Prim.Native.Nat.{ℕ, zero, suc, _+_, _≤_, _<_}
-use native.Mathlib.Nat.{le-of-suc-le-suc, eq-or-lt-of-le}
-use native.Mathlib.Omega.{arith}
-use lib.Dec.{eqb}
-use lib.ListN.{length, getD, List·getD-eq-default}
-use lib.Ieee.{Float, nan, inf, fin, lt}
-use borrow.Author.Tests.{eq-eqb, ne-eqb}
+use Rattle.lists.specs.Prelude.{_≡_, refl, sym, _∙_, Bool, true, false, List, ⊎-elim, ℕ, zero, suc, _+_, _≤_, _<_, le-of-suc-le-suc, eq-or-lt-of-le, arith, eqb, length}
+use Rattle.lists.specs.Prelude.{getD, List·getD-eq-default, Float, nan, inf, fin, lt, eq-eqb, ne-eqb}
 use Rattle.lists.specs.Indexed.{allBelow}
 use Rattle.lists.specs.Agreement.{never, all-each, each-all}
 use Rattle.complex.specs.Arithmetic.{finite}

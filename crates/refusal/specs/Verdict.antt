@@ -1,10 +1,5 @@
 -- Document 01, "Questions in order": the answer to a question, how a call asks several, and what it leaves in what it was lent.
-use Prim.Native.Nat.{ℕ, zero, suc}
-use mathlib.Core.Bool.{Bool, true, false, cond}
-use mathlib.Core.List.{List}
-use lib.Dec.{eqb}
-use lib.ListN.{length, replicate}
-use lib.Ieee.{Float}
+use Rattle.lists.specs.Prelude.{ℕ, zero, suc, Bool, true, false, cond, List, eqb, length, replicate, Float}
 use Rattle.complex.specs.Arithmetic.{plusZero}
 use Rattle.refusal.specs.declared.Refusal.{Refusal}
 use Rattle.refusal.specs.declared.Verdict.{Verdict}
@@ -15,7 +10,7 @@ use Rattle.refusal.specs.declared.Decision.{Decision}
 use Rattle.refusal.specs.declared.Decision.the-variants.{Yes, No, Refused as Undecided}
 
 infixr 30 _then_
--- a refusal by a line that has no places
+-- a refusal by a check that has no places
 abbrev pub by : ℕ → Refusal
 by number = record { number = number; operand = 0; first = 0; second = 0; part = plusZero }
 
@@ -39,11 +34,19 @@ unfoldable pub numberOf : Verdict → ℕ
 numberOf Pass = 0
 numberOf (Refused r) = r .number
 
--- What a lent slice holds afterwards: what was made, where the call is accepted. "After 10 every output and scratch slice holds +0
--- throughout; after any other number nothing lent has changed."
-unfoldable pub afterwards : Verdict → List Float → List Float → List Float
-afterwards Pass made before = made
-afterwards (Refused r) made before = cond (eqb (r .number) 10) (replicate (length before) plusZero) before
+-- +0 throughout
+abbrev pub zeroed : List Float → List Float
+zeroed before = replicate (length before) plusZero
+
+-- the refusals after which a slice is cleared
+abbrev pub clears : ℕ → Bool
+clears number = eqb number 10
+
+-- What a slice holds afterwards: what was made, where the call is accepted. "After 10 every output and scratch slice holds +0
+-- throughout; after any other number nothing lent has changed." There `cleared` is `zeroed`.
+unfoldable pub afterwards : (List Float → List Float) → Verdict → List Float → List Float → List Float
+afterwards cleared Pass made before = made
+afterwards cleared (Refused r) made before = cond (clears (r .number)) (cleared before) before
 
 -- a number that is measured, once its questions are asked, and the refusal's number of such an answer: 0 where nothing is refused
 unfoldable pub measured : Verdict → Float → Measured

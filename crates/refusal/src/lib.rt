@@ -1,19 +1,19 @@
 // Refusals by the numbers of document 01, "Questions in order", and the answers that carry them.
-ghost use mathlib.Core.Path.{_≡_};
+ghost use Rattle.lists.specs.Prelude.{_≡_};
 ghost use Rattle.refusal.specs.Verdict.{by, _then_};
 
-pub mod lines;
+pub mod checks;
 
-// The number of the line whose answer is no, with its places. A place that the line does not have is 0, a part +0.
+// The number of the check whose answer is no, with its places. A place that the check does not have is 0, a part +0.
 pub struct Refusal {
     pub number: u8,
-    // Lines 7 and 9: the operand, from 0 in call order, times not counted.
+    // Checks 7 and 9: the operand, from 0 in call order, times not counted.
     pub operand: usize,
-    // Line 5: the index. Line 7: the number position. Line 9: the first time index.
+    // Check 5: the index. Check 7: the number position. Check 9: the first time index.
     pub first: usize,
-    // Line 9: the second time index.
+    // Check 9: the second time index.
     pub second: usize,
-    // Line 9: the residual. Line 14: the imaginary part.
+    // Check 9: the residual. Check 14: the imaginary part.
     pub part: f64,
 }
 
@@ -37,7 +37,7 @@ pub enum Decision {
 }
 
 impl Refusal {
-    // A refusal by a line that has no places.
+    // A refusal by a check that has no places.
     pub fn by(number: u8) -> Refusal
         ensures { λ r. ⌜ r ≡ by number ⌝ }
     {

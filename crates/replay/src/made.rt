@@ -1,6 +1,6 @@
 // Slices that are made of a seed, for calls at sizes that are too large to be stored: rising times, and one function that is lent for
 // every operand.
-ghost use Prim.Native.Nat.{_≤_};
+ghost use Rattle.lists.specs.Prelude.{_≤_};
 use crate::lent::Places;
 use crate::words;
 use crate::xorshift;

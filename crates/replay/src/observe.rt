@@ -13,7 +13,7 @@ use observables::particle_number;
 use report::ConsistencyReport;
 use report::Reported;
 use report::consistency_report;
-use two_time::check_retarded_support;
+use support::check_retarded_support;
 
 fn reported(answer: Reported, tolerance: f64) {
     match answer {

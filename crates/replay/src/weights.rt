@@ -3,13 +3,13 @@ use crate::lent::Head;
 use crate::lent::output;
 use crate::show;
 use crate::words::whole;
+use grid::check_grid;
 use grid::check_times;
+use grid::checked_interval_weight;
 use grid::full_weight;
 use grid::full_weights;
 use grid::half_step;
 use grid::interval_weight;
-use grid::time_lines;
-use grid::trapezoid_weight;
 
 fn print_full(times: &[f64], points: usize, weights: &mut [f64]) {
     show::verdict(full_weights(times, points, weights));
@@ -27,11 +27,11 @@ pub(crate) fn call(head: Head, times: &[f64]) {
     let function = head.function;
     let points = head.points;
     match function {
-        26 => show::measured(interval_weight(times, points, whole(), whole(), whole())),
+        26 => show::measured(checked_interval_weight(times, points, whole(), whole(), whole())),
         31 => show::verdict(check_times(times, points)),
-        32 => show::verdict(time_lines(times, points)),
+        32 => show::verdict(check_grid(times, points)),
         33 => show::number(half_step(times, whole(), whole())),
         34 => show::number(full_weight(times, points, whole())),
-        _ => show::number(trapezoid_weight(times, whole(), whole(), whole())),
+        _ => show::number(interval_weight(times, whole(), whole(), whole())),
     }
 }

@@ -1,6 +1,6 @@
 // Words of standard input: 16 hexadecimal digits each, and one byte after them, a space or a line feed.
-ghost use Prim.Native.Nat.{_<_};
-use bits::from_bits;
+ghost use Rattle.lists.specs.Prelude.{_<_};
+use complex::bits::from_bits;
 use libc::STDIN_FILENO;
 
 pub(crate) enum Word {

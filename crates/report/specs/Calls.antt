@@ -1,19 +1,15 @@
 -- Document 01, report: the outcome of `consistency_report` and of `is_consistent`. No answer depends on times, so none are asked for.
-use Prim.Native.Nat.{ℕ}
-use mathlib.Core.Bool.{true, _&&_}
-use mathlib.Core.List.{List, [], _∷_}
-use lib.Ieee.{Float, le}
+use Rattle.lists.specs.Prelude.{ℕ, true, _&&_, List, [], _∷_, Float, le}
 use Rattle.refusal.specs.declared.Verdict.{Verdict}
 use Rattle.refusal.specs.declared.Verdict.the-variants.{Pass, Refused}
 use Rattle.refusal.specs.declared.Decision.{Decision}
 use Rattle.refusal.specs.Verdict.{_then_, decide}
-use Rattle.refusal.specs.Lines.{validTolerance, finiteWork}
-use Rattle.two_time.specs.Layout.{TwoTime, readAs}
-use Rattle.two_time.specs.Calls.{sizeLines, operandLines}
+use Rattle.refusal.specs.Checks.{validTolerance, finiteWork}
+use Rattle.two_time.specs.Calls.{sizeChecks, operandChecks}
 use Rattle.report.specs.declared.ConsistencyReport.{ConsistencyReport}
 use Rattle.report.specs.declared.Reported.{Reported}
 use Rattle.report.specs.declared.Reported.the-variants.{Of, Refused as NotReported}
-use Rattle.report.specs.Residuals.{retardedCausality, advancedCausality, advancedAdjoint, antihermiticity, spectralIdentity, differencesFinite}
+use Rattle.report.specs.Residuals.{reportOf, differencesFinite}
 
 -- a report after its questions, and the refusal's number of such an answer; 0 where nothing is refused
 unfoldable pub reported : Verdict → ConsistencyReport → Reported
@@ -24,22 +20,15 @@ unfoldable pub reportedNumber : Reported → ℕ
 reportedNumber (Of x) = 0
 reportedNumber (NotReported r) = r .number
 
--- `consistency_report`: operands retarded, advanced, lesser, greater; lines 1, 2, 3 and 7, then 10
-unfoldable pub consistencyReport : ℕ → ℕ → List Float → List Float → List Float → List Float → Reported
-consistencyReport points orbitals retarded advanced lesser greater =
-    let operands = retarded ∷ advanced ∷ lesser ∷ greater ∷ [] in
-    let function : List Float → TwoTime = readAs points orbitals in
-    reported
-    (sizeLines points orbitals true operands then operandLines 0 operands
-    then finiteWork (differencesFinite points orbitals (function retarded) (function advanced) (function lesser) (function greater)))
-    (record {
-      «retarded_causality» = retardedCausality points orbitals (function retarded);
-      «advanced_causality» = advancedCausality points orbitals (function advanced);
-      «advanced_adjoint» = advancedAdjoint points orbitals (function retarded) (function advanced);
-      «lesser_antihermiticity» = antihermiticity points orbitals (function lesser);
-      «greater_antihermiticity» = antihermiticity points orbitals (function greater);
-      «spectral_identity» = spectralIdentity points orbitals (function retarded) (function advanced) (function lesser) (function greater);
-    })
+module _ (points orbitals : ℕ) (retarded advanced lesser greater : List Float) where
+  -- checks 1, 2, 3 and 7 of the operands retarded, advanced, lesser, greater
+  abbrev pub reportChecks : Verdict
+  reportChecks = let operands = retarded ∷ advanced ∷ lesser ∷ greater ∷ [] in sizeChecks points orbitals true operands then operandChecks 0 operands
+
+  -- `consistency_report`: those checks, then 10
+  unfoldable pub consistencyReport : Reported
+  consistencyReport =
+      reported (reportChecks then finiteWork (differencesFinite points orbitals retarded advanced lesser greater)) (reportOf points orbitals retarded advanced lesser greater)
 
 -- "`is_consistent`: all six at most the tolerance", after 8; a NaN is not at most it
 unfoldable pub isConsistent : ConsistencyReport → Float → Decision

@@ -1,23 +1,19 @@
 -- Closed cases of the report (reference/expected.py, case f), 10 by a subtraction, an infinite residual, and the consistency question.
-use mathlib.Core.Path.{_≡_, refl}
-use mathlib.Core.List.{List, [], _∷_, map}
-use Prim.Native.Nat.{ℕ}
-use lib.ListN.{replicate}
+use Rattle.lists.specs.Prelude.{_≡_, refl, List, [], _∷_, map, ℕ, replicate, Float, nan, binary64}
 use lib.Ieee as Ieee
-use lib.Ieee.{Float, nan, binary64}
 use Rattle.lists.specs.Indexed.{fold, allBelow}
 use Rattle.complex.specs.Arithmetic.{plusZero, one, finite, larger, csub, cmul, conj, cfinite}
 use Rattle.complex.specs.Sum.{largestFrom, largestIn}
 use Rattle.norm.specs.Norm.{norm}
 use Rattle.refusal.specs.declared.Decision.the-variants.{Yes, No, Refused as Undecided}
 use Rattle.refusal.specs.Verdict.{by, ask, _then_, askAll, decide}
-use Rattle.refusal.specs.Lines.{largeEnough, withinLimits, fitting, finiteEntries, validTolerance, finiteWork}
-use Rattle.matrix.specs.Operations.{adjoint, scaled, subtracted, largestNorm}
+use Rattle.refusal.specs.Checks.{largeEnough, withinLimits, fitting, finiteEntries, validTolerance, finiteWork}
+use Rattle.block.specs.Operations.{adjoint, scaled, subtracted, matrixNormMax}
 use Rattle.two_time.specs.Layout.{everywhere}
-use Rattle.two_time.specs.Calls.{allLong, sizeLines, operandLines}
+use Rattle.two_time.specs.Calls.{allLong, sizeChecks, operandChecks}
 use Rattle.report.specs.declared.ConsistencyReport.{ConsistencyReport}
 use Rattle.report.specs.declared.Reported.the-variants.{Of, Refused as NotReported}
-use Rattle.report.specs.Residuals.{largestOver, retardedCausality, advancedCausality, advancedAdjoint, antihermiticity, spectralIdentity, differencesFinite}
+use Rattle.report.specs.Residuals.{minusMirror, counted, deviationOf, residualAt, residualOf, differencesFinite}
 use Rattle.report.specs.Calls.{reported, consistencyReport, isConsistent}
 
 abbrev floats : List ℕ → List Float
@@ -49,7 +45,7 @@ report a b c d e g =
 
 residuals : consistencyReport 2 1 retarded advanced lesser greater
     ≡ Of (report 0x3ff6a09e667f3bcd 0x3ff0b4597bd9942c 0x400ae166e328e2e1 0x3fd999999999999a 0 0x400b11fdcc5f02ce)
-unfolding consistencyReport reported sizeLines allLong operandLines largeEnough withinLimits fitting finiteEntries finiteWork ask askAll _then_ retardedCausality advancedCausality advancedAdjoint antihermiticity spectralIdentity differencesFinite largestOver everywhere allBelow largestNorm largestIn largestFrom fold larger norm adjoint scaled subtracted csub cmul conj cfinite finite Ieee.ofBits Ieee.add Ieee.sub Ieee.mul Ieee.neg Ieee.ne Ieee.eq Ieee.lt
+unfolding consistencyReport reported sizeChecks allLong operandChecks largeEnough withinLimits fitting finiteEntries finiteWork ask askAll _then_ minusMirror counted deviationOf residualAt residualOf differencesFinite everywhere allBelow matrixNormMax largestIn largestFrom fold larger norm adjoint scaled subtracted csub cmul conj cfinite finite Ieee.ofBits Ieee.add Ieee.sub Ieee.mul Ieee.neg Ieee.ne Ieee.eq Ieee.lt
 residuals = refl
 
 -- entries at (0,0) alone
@@ -63,7 +59,7 @@ overflow : consistencyReport 2 1 (first 0x7fef_ffff_ffff_ffff) (first 0xffef_fff
     ≡ NotReported (by 10)
     ∷ Of (report 0x7fef_ffff_ffff_ffff 0x7fef_ffff_ffff_ffff 0x7ff0_0000_0000_0000 0 0 0x7fef_ffff_ffff_ffff)
     ∷ NotReported (record { number = 7; operand = 2; first = 0; second = 0; part = plusZero }) ∷ []
-unfolding consistencyReport reported sizeLines allLong operandLines largeEnough withinLimits fitting finiteEntries finiteWork ask askAll _then_ retardedCausality advancedCausality advancedAdjoint antihermiticity spectralIdentity differencesFinite largestOver everywhere allBelow largestNorm largestIn largestFrom fold larger norm adjoint scaled subtracted csub cmul conj cfinite finite Ieee.ofBits Ieee.add Ieee.sub Ieee.mul Ieee.neg Ieee.ne Ieee.eq Ieee.lt
+unfolding consistencyReport reported sizeChecks allLong operandChecks largeEnough withinLimits fitting finiteEntries finiteWork ask askAll _then_ minusMirror counted deviationOf residualAt residualOf differencesFinite everywhere allBelow matrixNormMax largestIn largestFrom fold larger norm adjoint scaled subtracted csub cmul conj cfinite finite Ieee.ofBits Ieee.add Ieee.sub Ieee.mul Ieee.neg Ieee.ne Ieee.eq Ieee.lt
 overflow = refl
 
 -- at most the tolerance; 8 first; a NaN is not at most it

@@ -1,45 +1,61 @@
--- Document 01, report: "six residuals as in keldysh.rs", each the largest norm over all places, rows first.
-use Prim.Native.Nat.{ℕ}
-use mathlib.Core.Bool.{Bool, cond, _&&_}
-use lib.Dec.{ltb}
+-- Document 01, report: "six residuals as in `keldysh.rs`", one for each identity: the largest norm of what it leaves, over the places of which
+-- it speaks, rows first.
+use Rattle.lists.specs.Prelude.{ℕ, Bool, true, cond, _&&_, List, ltb, Float}
 use lib.Ieee as Ieee
-use lib.Ieee.{Float}
 use Rattle.complex.specs.Arithmetic.{plusZero, one, real, cfinite}
 use Rattle.complex.specs.Sum.{largestIn}
-use Rattle.matrix.specs.Block.{Entries}
-use Rattle.matrix.specs.Operations.{adjoint, scaled, subtracted, largestNorm}
-use Rattle.two_time.specs.Layout.{TwoTime, everywhere}
+use Rattle.block.specs.Operations.{adjoint, scaled, subtracted, matrixNormMax}
+use Rattle.two_time.specs.Layout.{TwoTime, readAs, everywhere}
+use Rattle.report.specs.declared.ConsistencyReport.{ConsistencyReport}
+use Rattle.report.specs.declared.identities.Identity.{Identity}
+use Rattle.report.specs.declared.identities.Identity.the-variants.{RetardedCausality, AdvancedCausality, AdvancedAdjoint, LesserAntihermiticity}
+use Rattle.report.specs.declared.identities.Identity.the-variants.{GreaterAntihermiticity, Spectral}
 
--- minus the adjoint: scaled by -1+0i
-abbrev pub minusAdjoint : Entries → Entries
-minusAdjoint x = scaled (real (Ieee.neg one)) (adjoint x)
+-- x(t,u) − (−x(u,t)†): minus is a scaling by -1+0i
+unfoldable pub minusMirror : TwoTime → TwoTime
+minusMirror x t u = subtracted (x t u) (scaled (real (Ieee.neg one)) (adjoint (x u t)))
 
-module _ (points orbitals : ℕ) where
-  -- the largest norm over all places of the blocks that f gives
-  unfoldable pub largestOver : TwoTime → Float
-  largestOver f = largestIn points points (λ t u. largestNorm orbitals orbitals (f t u))
+-- the support of a retarded function is asked at t < u, that of an advanced one at t > u, all else everywhere
+unfoldable pub counted : Identity → ℕ → ℕ → Bool
+counted RetardedCausality t u = ltb t u
+counted AdvancedCausality t u = ltb u t
+counted AdvancedAdjoint t u = true
+counted LesserAntihermiticity t u = true
+counted GreaterAntihermiticity t u = true
+counted Spectral t u = true
 
-  -- over the places t < u alone, and over t > u alone
-  unfoldable pub retardedCausality : TwoTime → Float
-  retardedCausality x = largestIn points points (λ t u. cond (ltb t u) (largestNorm orbitals orbitals (x t u)) plusZero)
+module _ (points orbitals : ℕ) (retarded advanced lesser greater : List Float) where
+  abbrev function : List Float → TwoTime
+  function = readAs points orbitals
 
-  unfoldable pub advancedCausality : TwoTime → Float
-  advancedCausality x = largestIn points points (λ t u. cond (ltb u t) (largestNorm orbitals orbitals (x t u)) plusZero)
+  -- what an identity leaves at (t, u); the last is (G^R − G^A) − (G^> − G^<)
+  unfoldable pub deviationOf : Identity → TwoTime
+  deviationOf RetardedCausality = function retarded
+  deviationOf AdvancedCausality = function advanced
+  deviationOf AdvancedAdjoint = λ t u. subtracted (function advanced t u) (adjoint (function retarded u t))
+  deviationOf LesserAntihermiticity = minusMirror (function lesser)
+  deviationOf GreaterAntihermiticity = minusMirror (function greater)
+  deviationOf Spectral = λ t u. subtracted (subtracted (function retarded t u) (function advanced t u)) (subtracted (function greater t u) (function lesser t u))
 
-  -- G^A(t,u) − G^R(u,t)†
-  unfoldable pub advancedAdjoint : TwoTime → TwoTime → Float
-  advancedAdjoint retarded advanced = largestOver (λ t u. subtracted (advanced t u) (adjoint (retarded u t)))
+  unfoldable pub residualAt : Identity → ℕ → ℕ → Float
+  residualAt identity t u = cond (counted identity t u) (matrixNormMax orbitals orbitals (deviationOf identity t u)) plusZero
 
-  -- G(t,u) − (−G(u,t)†), of the lesser and of the greater function
-  unfoldable pub antihermiticity : TwoTime → Float
-  antihermiticity x = largestOver (λ t u. subtracted (x t u) (minusAdjoint (x u t)))
+  unfoldable pub residualOf : Identity → Float
+  residualOf identity = largestIn points points (residualAt identity)
 
-  -- (G^R − G^A) − (G^> − G^<)
-  unfoldable pub spectralIdentity : TwoTime → TwoTime → TwoTime → TwoTime → Float
-  spectralIdentity retarded advanced lesser greater =
-      largestOver (λ t u. subtracted (subtracted (retarded t u) (advanced t u)) (subtracted (greater t u) (lesser t u)))
+  abbrev pub reportOf : ConsistencyReport
+  reportOf =
+      record {
+        «retarded_causality» = residualOf RetardedCausality;
+        «advanced_causality» = residualOf AdvancedCausality;
+        «advanced_adjoint» = residualOf AdvancedAdjoint;
+        «lesser_antihermiticity» = residualOf LesserAntihermiticity;
+        «greater_antihermiticity» = residualOf GreaterAntihermiticity;
+        «spectral_identity» = residualOf Spectral;
+      }
 
-  -- "only its subtractions can give 10": those two blocks
-  unfoldable pub differencesFinite : TwoTime → TwoTime → TwoTime → TwoTime → Bool
-  differencesFinite retarded advanced lesser greater =
-      everywhere points orbitals (λ t u a b. cfinite (subtracted (retarded t u) (advanced t u) a b) && cfinite (subtracted (greater t u) (lesser t u) a b))
+  -- "only its subtractions can give 10": the blocks of G^R − G^A and of G^> − G^<
+  unfoldable pub differencesFinite : Bool
+  differencesFinite =
+      everywhere points orbitals (λ t u a b. cfinite (subtracted (function retarded t u) (function advanced t u) a b))
+      && everywhere points orbitals (λ t u a b. cfinite (subtracted (function greater t u) (function lesser t u) a b))

@@ -1,12 +1,10 @@
 // The identities of the report: what each leaves at an entry, and of which places it speaks.
-ghost use mathlib.Core.Path.{_≡_};
-ghost use Prim.Native.Nat.{_≤_};
-ghost use lib.ListN.{length};
-ghost use Rattle.matrix.specs.Operations.{subtracted};
+ghost use Rattle.lists.specs.Prelude.{_≡_, _≤_, length};
+ghost use Rattle.block.specs.Operations.{subtracted};
 ghost use Rattle.two_time.specs.Layout.{readAs, lengthOf};
 ghost use Rattle.two_time.specs.Places.{Placed};
-ghost use Rattle.report.specs.Identities.{minusMirror, deviationOf, counted};
-ghost use Rattle.report.specs.Lent.{Lent};
+ghost use Rattle.report.specs.Residuals.{minusMirror, deviationOf, counted};
+ghost use Rattle.report.specs.Passed.{Passed};
 use complex::Complex;
 
 // An identity of the components, by its residual in the report.
@@ -92,7 +90,7 @@ pub(crate) fn deviation(
     b: usize,
 ) -> Complex
     requires { ⌜ Placed points orbitals t u a b ⌝ }
-    requires { ⌜ Lent points orbitals (now retarded) (now advanced) (now lesser) (now greater) ⌝ }
+    requires { ⌜ Passed points orbitals (now retarded) (now advanced) (now lesser) (now greater) ⌝ }
     ensures { λ r. ⌜ r ≡ deviationOf points orbitals (now (retarded .entry)) (now (advanced .entry)) (now (lesser .entry)) (now (greater .entry)) identity t u a b ⌝ }
 {
     match identity {

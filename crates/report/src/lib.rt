@@ -1,17 +1,17 @@
 // The consistency report of the four components (document 01, report): the meaning of each call is in specs/.
+mod checks;
 mod identities;
-mod lines;
 mod residuals;
 
-ghost use mathlib.Core.Path.{_≡_};
+ghost use Rattle.lists.specs.Prelude.{_≡_};
 ghost use Rattle.report.specs.Calls.{consistencyReport, isConsistent};
-use lines::difference_finite;
-use lines::input_lines;
+use checks::check_inputs;
+use checks::difference_finite;
 use refusal::Decision;
 use refusal::Refusal;
 use refusal::Verdict;
-use refusal::lines::finite_work;
-use refusal::lines::valid_tolerance;
+use refusal::checks::finite_work;
+use refusal::checks::valid_tolerance;
 use residuals::residuals;
 
 // The largest violation of each identity, by norm.
@@ -67,7 +67,7 @@ pub fn consistency_report(
 ) -> Reported
     ensures { λ r. ⌜ r ≡ consistencyReport points orbitals (now (retarded .entry)) (now (advanced .entry)) (now (lesser .entry)) (now (greater .entry)) ⌝ }
 {
-    let verdict = input_lines(retarded, advanced, lesser, greater, points, orbitals);
+    let verdict = check_inputs(retarded, advanced, lesser, greater, points, orbitals);
     if let Verdict::Refused(r) = verdict {
         return Reported::Refused(r);
     }

@@ -1,12 +1,11 @@
 // The residuals of the report: for each identity the largest norm of what it leaves, over the places that it speaks of.
-ghost use mathlib.Core.Path.{_≡_};
-ghost use Prim.Native.Nat.{_<_};
+ghost use Rattle.lists.specs.Prelude.{_≡_, _<_};
 ghost use Rattle.complex.specs.Arithmetic.{larger};
 ghost use Rattle.complex.specs.Sum.{largestFrom};
 ghost use Rattle.largest.specs.Larger.{FromZero};
-ghost use Rattle.matrix.specs.Operations.{largestNorm, cnorm};
-ghost use Rattle.report.specs.Identities.{deviationOf, residualAt, residualOf, reportOf};
-ghost use Rattle.report.specs.Lent.{Lent};
+ghost use Rattle.block.specs.Operations.{matrixNormMax, cnorm};
+ghost use Rattle.report.specs.Residuals.{deviationOf, residualAt, residualOf, reportOf};
+ghost use Rattle.report.specs.Passed.{Passed};
 use crate::ConsistencyReport;
 use crate::identities::Identity;
 use crate::identities::counts;
@@ -28,7 +27,7 @@ fn row_norm(
     largest: f64,
 ) -> f64
     requires { ⌜ (t < points) × (u < points) × (a < orbitals) ⌝ }
-    requires { ⌜ Lent points orbitals (now retarded) (now advanced) (now lesser) (now greater) ⌝ }
+    requires { ⌜ Passed points orbitals (now retarded) (now advanced) (now lesser) (now greater) ⌝ }
     ensures { λ r. ⌜ r ≡ largestFrom largest orbitals (λ b. cnorm (deviationOf points orbitals (now (retarded .entry)) (now (advanced .entry)) (now (lesser .entry)) (now (greater .entry)) identity t u a b)) ⌝ }
 {
     let mut most = largest;
@@ -65,8 +64,8 @@ fn block_norm(
     largest: f64,
 ) -> f64
     requires { ⌜ (t < points) × (u < points) × FromZero largest ⌝ }
-    requires { ⌜ Lent points orbitals (now retarded) (now advanced) (now lesser) (now greater) ⌝ }
-    ensures { λ r. ⌜ r ≡ larger largest (largestNorm orbitals orbitals (deviationOf points orbitals (now (retarded .entry)) (now (advanced .entry)) (now (lesser .entry)) (now (greater .entry)) identity t u)) ⌝ }
+    requires { ⌜ Passed points orbitals (now retarded) (now advanced) (now lesser) (now greater) ⌝ }
+    ensures { λ r. ⌜ r ≡ larger largest (matrixNormMax orbitals orbitals (deviationOf points orbitals (now (retarded .entry)) (now (advanced .entry)) (now (lesser .entry)) (now (greater .entry)) identity t u)) ⌝ }
 {
     let mut most = largest;
     for a in 0..orbitals {
@@ -101,7 +100,7 @@ fn place_norm(
     largest: f64,
 ) -> f64
     requires { ⌜ (t < points) × (u < points) × FromZero largest ⌝ }
-    requires { ⌜ Lent points orbitals (now retarded) (now advanced) (now lesser) (now greater) ⌝ }
+    requires { ⌜ Passed points orbitals (now retarded) (now advanced) (now lesser) (now greater) ⌝ }
     ensures { λ r. ⌜ r ≡ larger largest (residualAt points orbitals (now (retarded .entry)) (now (advanced .entry)) (now (lesser .entry)) (now (greater .entry)) identity t u) ⌝ }
 {
     if counts(identity, t, u) {
@@ -134,7 +133,7 @@ fn time_norm(
     largest: f64,
 ) -> f64
     requires { ⌜ (t < points) × FromZero largest ⌝ }
-    requires { ⌜ Lent points orbitals (now retarded) (now advanced) (now lesser) (now greater) ⌝ }
+    requires { ⌜ Passed points orbitals (now retarded) (now advanced) (now lesser) (now greater) ⌝ }
     ensures { λ r. ⌜ r ≡ largestFrom largest points (residualAt points orbitals (now (retarded .entry)) (now (advanced .entry)) (now (lesser .entry)) (now (greater .entry)) identity t) ⌝ }
 {
     let mut most = largest;
@@ -165,7 +164,7 @@ fn residual(
     points: usize,
     orbitals: usize,
 ) -> f64
-    requires { ⌜ Lent points orbitals (now retarded) (now advanced) (now lesser) (now greater) ⌝ }
+    requires { ⌜ Passed points orbitals (now retarded) (now advanced) (now lesser) (now greater) ⌝ }
     ensures { λ r. ⌜ r ≡ residualOf points orbitals (now (retarded .entry)) (now (advanced .entry)) (now (lesser .entry)) (now (greater .entry)) identity ⌝ }
 {
     let mut largest = 0.0;
@@ -194,7 +193,7 @@ pub(crate) fn residuals(
     points: usize,
     orbitals: usize,
 ) -> ConsistencyReport
-    requires { ⌜ Lent points orbitals (now retarded) (now advanced) (now lesser) (now greater) ⌝ }
+    requires { ⌜ Passed points orbitals (now retarded) (now advanced) (now lesser) (now greater) ⌝ }
     ensures { λ r. ⌜ r ≡ reportOf points orbitals (now (retarded .entry)) (now (advanced .entry)) (now (lesser .entry)) (now (greater .entry)) ⌝ }
 {
     ConsistencyReport {

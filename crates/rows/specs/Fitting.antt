@@ -1,13 +1,5 @@
 -- What it says that a term fits. Assumes nothing.
-use mathlib.Core.Path.{_≡_, refl, sym, _∙_}
-use mathlib.Core.Bool.{Bool, true, false, _&&_}
-use mathlib.Core.List.{List}
-use Prim.Native.Nat.{ℕ, _+_, _*_, _≤_, _<_}
-use native.Mathlib.Omega.{arith}
-use lib.Dec.{leb, eqb}
-use lib.ListN.{length}
-use lib.Ieee.{Float}
-use borrow.Author.Tests.{leb-true, le-leb, eqb-true, eq-eqb}
+use Rattle.lists.specs.Prelude.{_≡_, refl, sym, _∙_, Bool, true, false, _&&_, List, ℕ, _+_, _*_, _≤_, _<_, arith, leb, eqb, length, Float, leb-true, le-leb, eqb-true, eq-eqb}
 use Rattle.lists.specs.Agreement.{both}
 use Rattle.lanes.specs.Lanes.{laneAt}
 use Rattle.lanes.specs.Laws.{lanes-long, with-made}

@@ -1,13 +1,6 @@
--- A row of up to 16 complex numbers whose parts stand apart, and a loop that changes them in place, one a turn. Assumes nothing.
-use mathlib.Core.Path.{_≡_, refl, sym, ap, subst, _∙_}
-use mathlib.Core.List.{List}
-use mathlib.Core.Logic.{⊎-elim}
-use Prim.Native.Nat.{ℕ, _+_, _≤_, _<_}
-use native.Mathlib.Nat.{eq-or-lt-of-le, le-antisymm}
-use native.Mathlib.Omega.{arith}
-use lib.ListN.{length, getD, set, replicate, length-set, getD-replicate}
-use lib.Seq.{getD-set-same, getD-set-other}
-use lib.Ieee.{Float, nan}
+-- A row of up to 16 complex numbers whose parts stand apart, and a loop that changes them in place, one a step. Assumes nothing.
+use Rattle.lists.specs.Prelude.{_≡_, refl, sym, ap, subst, _∙_, List, ⊎-elim, ℕ, _+_, _≤_, _<_, eq-or-lt-of-le, le-antisymm, arith, length, getD, set, replicate}
+use Rattle.lists.specs.Prelude.{length-set, getD-replicate, getD-set-same, getD-set-other, Float, nan}
 use Rattle.complex.specs.declared.Complex.{Complex}
 use Rattle.complex.specs.Arithmetic.{czero, plusZero}
 

@@ -1,15 +1,7 @@
--- Rows of lanes as parts of one list, and a loop that changes them in place, one a turn. Assumes nothing.
-use mathlib.Core.Path.{_≡_, refl, sym, ap, subst, _∙_}
-use mathlib.Core.List.{List, _++_}
-use mathlib.Core.Logic.{⊎-elim}
-use Prim.Native.Nat.{ℕ, _+_, _-_, _*_, _≤_, _<_}
-use native.Mathlib.Decide.{decLt}
-use native.Mathlib.Nat.{eq-or-lt-of-le, le-antisymm}
-use native.Mathlib.Omega.{arith}
-use lib.ListN.{length, getD, take, drop, replicate, length-drop, getD-replicate, List·getD-append}
-use lib.Seq.{length-take-le, getD-take, getD-drop, getD-append-add}
-use lib.Ieee.{Float, nan}
-use borrow.Rule.Slice.PartMut.{midOf, postOf, putMid, same-len-mid}
+-- Rows of lanes as parts of one list, and a loop that changes them in place, one a step. Assumes nothing.
+use Rattle.lists.specs.Prelude.{_≡_, refl, sym, ap, subst, _∙_, List, _++_, ⊎-elim, ℕ, _+_, _-_, _*_, _≤_, _<_, decLt, eq-or-lt-of-le, le-antisymm, arith, length, getD}
+use Rattle.lists.specs.Prelude.{take, drop, replicate, length-drop, getD-replicate, List·getD-append, length-take-le, getD-take, getD-drop, getD-append-add, Float, nan}
+use Rattle.lists.specs.Prelude.{midOf, postOf, putMid, same-len-mid}
 use Rattle.complex.specs.declared.Complex.{Complex}
 use Rattle.complex.specs.Arithmetic.{czero, plusZero}
 use Rattle.lanes.specs.Lanes.{laneAt, withLanes}
@@ -19,78 +11,61 @@ use Rattle.rows.specs.Numbers.{numberAt, Mapped}
 apart : (b a : ℕ) → (b < a → ⊥) → (b ≡ a → ⊥) → a < b
 apart b a l ne = ⊎-elim (λ e. absurd (ne (sym e))) (λ h. h) (eq-or-lt-of-le (let w : a ≤ b = omega arith in w))
 
--- row a by itself, and the rows with another in its place
-module _ (xs : List Float) (a : ℕ) (long : length xs ≡ 512) (h : a < 16) where
-  at-part : (j : ℕ) → j < 32 → getD (midOf (32 * a) 32 xs) j nan ≡ getD xs (32 * a + j) nan
-  at-part j k = getD-take 32 (drop (32 * a) xs) j nan k ∙ getD-drop (32 * a) xs j nan
+-- the width of row a, as a part from its start to its end
+pub width : (a : ℕ) → 32 * a + 32 - 32 * a ≡ 32
+width a = omega arith
 
-  pub lane-part : (c : ℕ) → c < 16 → numberAt (midOf (32 * a) 32 xs) c ≡ laneAt xs a c
-  lane-part c l = rw (at-part c (omega arith), at-part (c + 16) (omega arith))
+-- row a by itself, and the rows with another in its place; w is the width as it is said
+module _ (xs : List Float) (a w : ℕ) (e : w ≡ 32) (long : length xs ≡ 512) (h : a < 16) where
+  at-part : (j : ℕ) → j < 32 → getD (midOf (32 * a) w xs) j nan ≡ getD xs (32 * a + j) nan
+  at-part j k = getD-take w (drop (32 * a) xs) j nan (omega arith) ∙ getD-drop (32 * a) xs j nan
 
-  pub part-long : length (midOf (32 * a) 32 xs) ≡ 32
-  part-long = length-take-le 32 (drop (32 * a) xs) (omega (arith, length-drop (32 * a) xs))
+  pub part-lane : (c : ℕ) → c < 16 → numberAt (midOf (32 * a) w xs) c ≡ laneAt xs a c
+  part-lane c l = rw (at-part c (omega arith), at-part (c + 16) (omega arith))
+
+  pub part-length : length (midOf (32 * a) w xs) ≡ 32
+  part-length = length-take-le w (drop (32 * a) xs) (omega (arith, length-drop (32 * a) xs)) ∙ e
 
   module _ (ys : List Float) (ly : length ys ≡ 32) where
+    abbrev put : List Float
+    put = putMid (32 * a) w xs ys
+
+    pub put-length : length put ≡ 512
+    put-length = same-len-mid (32 * a) w xs ys (ly ∙ sym part-length) ∙ long
+
     before-long : length (take (32 * a) xs) ≡ 32 * a
     before-long = length-take-le (32 * a) xs (omega arith)
 
-    put-here : (j : ℕ) → j < 32 → getD (putMid (32 * a) 32 xs ys) (32 * a + j) nan ≡ getD ys j nan
+    put-here : (j : ℕ) → j < 32 → getD put (32 * a + j) nan ≡ getD ys j nan
     put-here j k =
-        ap (λ (m : ℕ). getD (putMid (32 * a) 32 xs ys) (m + j) nan) (sym before-long)
-        ∙ getD-append-add (take (32 * a) xs) (ys ++ postOf (32 * a) 32 xs) j nan
-        ∙ List·getD-append ys (postOf (32 * a) 32 xs) nan j (omega arith)
+        ap (λ (m : ℕ). getD put (m + j) nan) (sym before-long) ∙ getD-append-add (take (32 * a) xs) (ys ++ postOf (32 * a) w xs) j nan
+        ∙ List·getD-append ys (postOf (32 * a) w xs) nan j (omega arith)
 
-    put-before : (j : ℕ) → j < 32 * a → getD (putMid (32 * a) 32 xs ys) j nan ≡ getD xs j nan
-    put-before j k = List·getD-append (take (32 * a) xs) (ys ++ postOf (32 * a) 32 xs) nan j (omega (arith, before-long)) ∙ getD-take (32 * a) xs j nan k
+    put-before : (j : ℕ) → j < 32 * a → getD put j nan ≡ getD xs j nan
+    put-before j k = List·getD-append (take (32 * a) xs) (ys ++ postOf (32 * a) w xs) nan j (omega (arith, before-long)) ∙ getD-take (32 * a) xs j nan k
 
-    put-after : (j : ℕ) → getD (putMid (32 * a) 32 xs ys) (32 * a + (32 + j)) nan ≡ getD xs (32 * a + (32 + j)) nan
+    put-after : (j : ℕ) → getD put (32 * a + (32 + j)) nan ≡ getD xs (32 * a + (32 + j)) nan
     put-after j =
-        ap (λ (m : ℕ). getD (putMid (32 * a) 32 xs ys) (m + (32 + j)) nan) (sym before-long)
-        ∙ getD-append-add (take (32 * a) xs) (ys ++ postOf (32 * a) 32 xs) (32 + j) nan
-        ∙ ap (λ (m : ℕ). getD (ys ++ postOf (32 * a) 32 xs) (m + j) nan) (sym ly)
-        ∙ getD-append-add ys (postOf (32 * a) 32 xs) j nan
-        ∙ getD-drop 32 (drop (32 * a) xs) j nan
-        ∙ getD-drop (32 * a) xs (32 + j) nan
+        ap (λ (m : ℕ). getD put (m + (32 + j)) nan) (sym before-long) ∙ getD-append-add (take (32 * a) xs) (ys ++ postOf (32 * a) w xs) (32 + j) nan
+        ∙ ap (λ (m : ℕ). getD (ys ++ postOf (32 * a) w xs) (m + j) nan) (sym ly) ∙ getD-append-add ys (postOf (32 * a) w xs) j nan
+        ∙ getD-drop w (drop (32 * a) xs) j nan ∙ ap (λ (m : ℕ). getD (drop (32 * a) xs) (m + j) nan) e ∙ getD-drop (32 * a) xs (32 + j) nan
 
-    pub lane-put-here : (c : ℕ) → c < 16 → laneAt (putMid (32 * a) 32 xs ys) a c ≡ numberAt ys c
-    lane-put-here c l = rw (put-here c (omega arith), put-here (c + 16) (omega arith))
+    pub put-lane : (c : ℕ) → c < 16 → laneAt put a c ≡ numberAt ys c
+    put-lane c l = rw (put-here c (omega arith), put-here (c + 16) (omega arith))
 
-    other : (b j : ℕ) → j < 32 → (b ≡ a → ⊥) → getD (putMid (32 * a) 32 xs ys) (32 * b + j) nan ≡ getD xs (32 * b + j) nan
+    other : (b j : ℕ) → j < 32 → (b ≡ a → ⊥) → getD put (32 * b + j) nan ≡ getD xs (32 * b + j) nan
     other b j k ne =
         elim (decLt b a) [
           | yes l ↦ put-before (32 * b + j) (omega arith)
           | no l ↦
               (let m : ℕ = 32 * b + j - (32 * a + 32) in
-              let g : b ≡ a → ⊥ = ne in
               let past : a < b = apart b a l ne in
               let e : 32 * b + j ≡ 32 * a + (32 + m) = omega arith in
-              ap (λ (i : ℕ). getD (putMid (32 * a) 32 xs ys) i nan) e ∙ put-after m ∙ ap (λ (i : ℕ). getD xs i nan) (sym e))
+              ap (λ (i : ℕ). getD put i nan) e ∙ put-after m ∙ ap (λ (i : ℕ). getD xs i nan) (sym e))
         ]
 
-    pub lane-put-other : (b c : ℕ) → c < 16 → (b ≡ a → ⊥) → laneAt (putMid (32 * a) 32 xs ys) b c ≡ laneAt xs b c
-    lane-put-other b c l ne = rw (other b c (omega arith) ne, other b (c + 16) (omega arith) ne)
-
--- the width of row a, as a part from its start to its end
-pub width : (a : ℕ) → 32 * a + 32 - 32 * a ≡ 32
-width a = omega arith
-
--- the same for a part whose width is said otherwise
-module _ (xs : List Float) (a w : ℕ) (e : w ≡ 32) (long : length xs ≡ 512) (h : a < 16) where
-  pub part-lane : (c : ℕ) → c < 16 → numberAt (midOf (32 * a) w xs) c ≡ laneAt xs a c
-  part-lane c l = rw e (lane-part xs a long h c l)
-
-  pub part-length : length (midOf (32 * a) w xs) ≡ 32
-  part-length = rw e (part-long xs a long h)
-
-  module _ (ys : List Float) (ly : length ys ≡ 32) where
-    pub put-length : length (putMid (32 * a) w xs ys) ≡ 512
-    put-length = same-len-mid (32 * a) w xs ys (ly ∙ sym part-length) ∙ long
-
-    pub put-lane : (c : ℕ) → c < 16 → laneAt (putMid (32 * a) w xs ys) a c ≡ numberAt ys c
-    put-lane c l = rw e (lane-put-here xs a long h ys ly c l)
-
-    pub put-other : (b c : ℕ) → c < 16 → (b ≡ a → ⊥) → laneAt (putMid (32 * a) w xs ys) b c ≡ laneAt xs b c
-    put-other b c l ne = rw e (lane-put-other xs a long h ys ly b c l ne)
+    pub put-other : (b c : ℕ) → c < 16 → (b ≡ a → ⊥) → laneAt put b c ≡ laneAt xs b c
+    put-other b c l ne = rw (other b c (omega arith) ne, other b (c + 16) (omega arith) ne)
 
 -- rows of +0
 pub lane-zero : (a c : ℕ) → a < 16 → c < 16 → laneAt (replicate 512 plusZero) a c ≡ czero

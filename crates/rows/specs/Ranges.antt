@@ -1,14 +1,6 @@
 -- How a term goes to the lanes of a row by its ranges. Assumes nothing.
-use mathlib.Core.Path.{_≡_, refl, sym, ap, _∙_}
-use mathlib.Core.Bool.{Bool, true, false, cond, _&&_, _||_}
-use mathlib.Core.List.{List}
-use mathlib.Core.Logic.{_⊎_, inl, inr}
-use Prim.Native.Nat.{ℕ, _≤_, _<_}
-use native.Mathlib.Decide.{decLt}
-use native.Mathlib.Omega.{arith}
-use lib.Dec.{leb, ltb, eqb}
-use lib.Ieee.{Float}
-use borrow.Author.Tests.{leb-true, le-leb, lt-leb, lt-ltb, le-ltb, eqb-true}
+use Rattle.lists.specs.Prelude.{_≡_, refl, sym, ap, _∙_, Bool, true, false, cond, _&&_, _||_, List, _⊎_, inl, inr, ℕ, _≤_, _<_, decLt, arith, leb, ltb, eqb, Float}
+use Rattle.lists.specs.Prelude.{leb-true, le-leb, lt-leb, lt-ltb, le-ltb, eqb-true}
 use Rattle.lists.specs.Agreement.{both}
 use Rattle.complex.specs.declared.Complex.{Complex}
 use Rattle.complex.specs.Arithmetic.{real, cadd, cmul}
@@ -79,16 +71,23 @@ module _ (term : Term) (c : ℕ) (p z : Complex) where
       by-flag true = rw (le-ltb c (term .after) l)
       by-flag false = refl
 
--- a lane within the range of a call, before it and after it
-module _ (lo hi : ℕ) (f : ℕ → Complex → Complex) (old new : List Float) (m : Mapped (onlyFrom lo f) hi old new) (c : ℕ) where
-  within : lo ≤ c → c < hi → numberAt new c ≡ f c (numberAt old c)
-  within l h = m .made c h ∙ from-on lo f c (numberAt old c) l
+-- what a call leaves of any lane
+module _ (lo hi : ℕ) (f : ℕ → Complex → Complex) (old new : List Float) (m : Mapped (onlyFrom lo f) hi old new) where
+  ranged-call : (c : ℕ) → c < 16 → numberAt new c ≡ cond (leb lo c && ltb c hi) (f c (numberAt old c)) (numberAt old c)
+  unfolding onlyFrom
+  ranged-call c h =
+      elim (decLt c hi) [
+        | yes l ↦ m .made c l ∙ rw (lt-ltb c hi l) (by-flag (leb lo c))
+        | no l ↦ m .kept c (omega arith) h ∙ rw (le-ltb c hi (let g : hi ≤ c = omega arith in g)) (by-none (leb lo c))
+      ]
+    where
+      by-flag : (b : Bool) → cond b (f c (numberAt old c)) (numberAt old c) ≡ cond (b && true) (f c (numberAt old c)) (numberAt old c)
+      by-flag true = refl
+      by-flag false = refl
 
-  before-it : c < lo → lo ≤ hi → numberAt new c ≡ numberAt old c
-  before-it l h = m .made c (omega arith) ∙ from-before lo f c (numberAt old c) l
-
-  after-it : hi ≤ c → c < 16 → numberAt new c ≡ numberAt old c
-  after-it l h = m .kept c l h
+      by-none : (b : Bool) → numberAt old c ≡ cond (b && false) (f c (numberAt old c)) (numberAt old c)
+      by-none true = refl
+      by-none false = refl
 
 -- where every lane has the common weight there are sixteen
 pub all-lanes : (term : Term) → Ranged term → eqb (term .below) 16 || (eqb (term .above) 0 && eqb (term .lanes) 16) ≡ true → (c : ℕ) → c < 16 → c < term .lanes
@@ -111,7 +110,7 @@ module _ (term : Term) (ranged : Ranged term) (products : ℕ → Complex) (old 
   all-stepped new e m = by-flag (eqb (term .below) 16) refl e
     where
       made : (c : ℕ) → c < 16 → (c < term .below) ⊎ (term .above ≤ c) → numberAt new c ≡ stepping c (numberAt old c)
-      made c h w = within 0 16 (adding (term .common)) old new m c (omega arith) h ∙ sym (stepped-common term c (products c) (numberAt old c) w)
+      made c h w = m .made c h ∙ from-on 0 (adding (term .common)) c (numberAt old c) (omega arith) ∙ sym (stepped-common term c (products c) (numberAt old c) w)
 
       by-flag : (f : Bool) → eqb (term .below) 16 ≡ f → f || (eqb (term .above) 0 && eqb (term .lanes) 16) ≡ true → Mapped stepping (term .lanes) old new
       by-flag true g _ =
@@ -124,70 +123,34 @@ module _ (term : Term) (ranged : Ranged term) (products : ℕ → Complex) (old 
           let full : term .lanes ≡ 16 = eqb-true (term .lanes) 16 (b .1) in
           record { long = m .long; made = λ c h. made c (omega arith) (inr (omega arith)); kept = λ c h l. absurd (omega arith) }
 
-  -- three calls
+  -- three calls, one after another
   module _ (t1 t2 t3 : List Float) (m1 : Mapped (onlyFrom 0 (adding (term .common))) (term .below) old t1) (m2 : Mapped (onlyFrom (term .before) (adding (term .ends))) (term .after) t1 t2)
       (m3 : Mapped (onlyFrom (term .above) (adding (term .common))) (term .lanes) t2 t3) where
-    abbrev Goal : ℕ → Type 0
-    Goal c = numberAt t3 c ≡ stepping c (numberAt old c)
+    abbrev call : ℕ → ℕ → Float → ℕ → Complex → Complex
+    call lo hi w c z = cond (leb lo c && ltb c hi) (adding w c z) z
 
-    -- not yet at the last range
-    last : (c : ℕ) → c < term .above → numberAt t3 c ≡ numberAt t2 c
-    last c h = before-it (term .above) (term .lanes) _ t2 t3 m3 c h (ranged .top)
+    abbrev calls : ℕ → Complex → Complex
+    calls c z = call (term .above) (term .lanes) (term .common) c (call (term .before) (term .after) (term .ends) c (call 0 (term .below) (term .common) c z))
 
-    lane-below : (c : ℕ) → c < term .below → Goal c
-    lane-below c h =
+    called : (c : ℕ) → c < 16 → numberAt t3 c ≡ calls c (numberAt old c)
+    called c h =
+        ranged-call _ _ _ t2 t3 m3 c h ∙ ap (call (term .above) (term .lanes) (term .common) c) (ranged-call _ _ _ t1 t2 m2 c h)
+        ∙ ap (λ (z : Complex). call (term .above) (term .lanes) (term .common) c (call (term .before) (term .after) (term .ends) c z)) (ranged-call _ _ _ old t1 m1 c h)
+
+    -- by the range that a lane lies in
+    by-range : (c : ℕ) (z : Complex) → c < term .lanes → calls c z ≡ stepping c z
+    unfolding stepped
+    by-range c z h =
         let r = ranged in
-        last c (omega (arith, r .low, r .middle, r .high))
-        ∙ before-it (term .before) (term .after) _ t1 t2 m2 c (omega (arith, r .low)) (r .middle)
-        ∙ within 0 (term .below) _ old t1 m1 c (omega arith) h
-        ∙ sym (stepped-common term c (products c) (numberAt old c) (inl h))
-
-    first : (c : ℕ) → term .below ≤ c → c < 16 → numberAt t1 c ≡ numberAt old c
-    first c h l = after-it 0 (term .below) _ old t1 m1 c h l
-
-    lane-between : (c : ℕ) → term .below ≤ c → c < term .before → Goal c
-    lane-between c h l =
-        let r = ranged in
-        last c (omega (arith, r .middle, r .high))
-        ∙ before-it (term .before) (term .after) _ t1 t2 m2 c l (r .middle)
-        ∙ first c h (omega (arith, r .middle, r .high, r .top, r .few))
-        ∙ sym (stepped-none term c (products c) (numberAt old c) h (omega (arith, r .middle, r .high)) (inl l))
-
-    lane-ends : (c : ℕ) → term .before ≤ c → c < term .after → Goal c
-    lane-ends c h l =
-        let r = ranged in
-        last c (omega (arith, r .high))
-        ∙ within (term .before) (term .after) _ t1 t2 m2 c h l
-        ∙ ap (adding (term .ends) c) (first c (omega (arith, r .low)) (omega (arith, r .high, r .top, r .few)))
-        ∙ sym (stepped-ends term c (products c) (numberAt old c) (omega (arith, r .low)) (omega (arith, r .high)) h l)
-
-    second : (c : ℕ) → term .after ≤ c → c < 16 → numberAt t2 c ≡ numberAt old c
-    second c h l = let r = ranged in after-it (term .before) (term .after) _ t1 t2 m2 c h l ∙ first c (omega (arith, r .low, r .middle)) l
-
-    lane-past : (c : ℕ) → term .after ≤ c → c < term .above → Goal c
-    lane-past c h l =
-        let r = ranged in
-        last c l ∙ second c h (omega (arith, r .top, r .few))
-        ∙ sym (stepped-none term c (products c) (numberAt old c) (omega (arith, r .low, r .middle)) l (inr h))
-
-    lane-above : (c : ℕ) → term .above ≤ c → c < term .lanes → Goal c
-    lane-above c h l =
-        let r = ranged in
-        within (term .above) (term .lanes) _ t2 t3 m3 c h l
-        ∙ ap (adding (term .common) c) (second c (omega (arith, r .high)) (omega (arith, r .few)))
-        ∙ sym (stepped-common term c (products c) (numberAt old c) (inr h))
-
-    made : (c : ℕ) → c < term .lanes → Goal c
-    made c h =
         elim (decLt c (term .below)) [
-          | yes l ↦ lane-below c l
-          | no l ↦ (let b : term .below ≤ c = omega arith in elim (decLt c (term .before)) [
-            | yes k ↦ lane-between c b k
-            | no k ↦ (let d : term .before ≤ c = omega arith in elim (decLt c (term .after)) [
-              | yes i ↦ lane-ends c d i
-              | no i ↦ (let g : term .after ≤ c = omega arith in elim (decLt c (term .above)) [
-                | yes j ↦ lane-past c g j
-                | no j ↦ lane-above c (omega arith) h
+          | yes l ↦ rw (le-leb 0 c (omega arith), lt-ltb c (term .below) l, lt-leb (term .before) c (omega (arith, r .low)), lt-leb (term .above) c (omega (arith, r .low, r .middle, r .high)))
+          | no l ↦ (let b : ltb c (term .below) ≡ false = le-ltb c (term .below) (omega arith) in elim (decLt c (term .before)) [
+            | yes k ↦ rw (le-leb 0 c (omega arith), b, lt-leb (term .before) c k, lt-leb (term .above) c (omega (arith, r .middle, r .high)))
+            | no k ↦ (let d : leb (term .before) c ≡ true = le-leb (term .before) c (omega arith) in elim (decLt c (term .after)) [
+              | yes i ↦ rw (le-leb 0 c (omega arith), b, d, lt-ltb c (term .after) i, lt-leb (term .above) c (omega (arith, r .high)))
+              | no i ↦ (let g : ltb c (term .after) ≡ false = le-ltb c (term .after) (omega arith) in elim (decLt c (term .above)) [
+                | yes j ↦ rw (le-leb 0 c (omega arith), b, d, g, lt-leb (term .above) c j)
+                | no j ↦ rw (le-leb 0 c (omega arith), b, d, g, le-leb (term .above) c (let e : term .above ≤ c = omega arith in e), lt-ltb c (term .lanes) h)
               ])
             ])
           ])
@@ -198,6 +161,6 @@ module _ (term : Term) (ranged : Ranged term) (products : ℕ → Complex) (old 
         let r = ranged in
         record {
           long = m3 .long ∙ m2 .long ∙ m1 .long;
-          made = made;
-          kept = λ c h l. after-it (term .above) (term .lanes) _ t2 t3 m3 c h l ∙ second c (omega (arith, r .high, r .top)) l;
+          made = λ c h. called c (omega (arith, r .few)) ∙ by-range c (numberAt old c) h;
+          kept = λ c h l. m3 .kept c h l ∙ m2 .kept c (omega (arith, r .high, r .top)) l ∙ m1 .kept c (omega (arith, r .low, r .middle, r .high, r .top)) l;
         }

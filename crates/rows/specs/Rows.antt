@@ -1,10 +1,5 @@
 -- A term goes to the rows of a group: lane c of row a takes the product of row a of the left factor and column c of the right one by the lane's weight.
-use Prim.Native.Nat.{ℕ, _+_, _*_}
-use mathlib.Core.Bool.{Bool, cond, _&&_, _||_}
-use mathlib.Core.List.{List}
-use lib.Dec.{leb, ltb, eqb}
-use lib.ListN.{length}
-use lib.Ieee.{Float}
+use Rattle.lists.specs.Prelude.{ℕ, _+_, _*_, Bool, cond, _&&_, _||_, List, leb, ltb, eqb, length, Float}
 use Rattle.complex.specs.declared.Complex.{Complex}
 use Rattle.complex.specs.Arithmetic.{czero, real, cadd, cmul}
 use Rattle.complex.specs.Numbers.{entryAt}

@@ -1,8 +1,6 @@
 // Rows of lanes: a row of products is made from a packed right factor, and goes to the totals by its weights. A row is 32 numbers, as crate `lanes`
 // says.
-ghost use mathlib.Core.Path.{_≡_};
-ghost use Prim.Native.Nat.{ℕ, _+_, _*_, _<_, _≤_};
-ghost use lib.ListN.{length};
+ghost use Rattle.lists.specs.Prelude.{_≡_, ℕ, _+_, _*_, _<_, _≤_, length};
 ghost use Rattle.complex.specs.Arithmetic.{real, cadd, cmul};
 ghost use Rattle.complex.specs.Numbers.{entryAt};
 ghost use Rattle.complex.specs.Sum.{sumFrom};

@@ -1,8 +1,5 @@
 -- Numbers in bytes, lowest byte first (document 01, run file: "little-endian").
-use Prim.Native.Nat.{ℕ, zero, suc, _+_, _*_}
-use mathlib.Core.List.{List, [], _∷_}
-use lib.ListN.{getD}
-use lib.Ieee.{Float, binary64, ofBits}
+use Rattle.lists.specs.Prelude.{ℕ, zero, suc, _+_, _*_, List, [], _∷_, getD, Float, binary64, ofBits}
 use Rattle.lists.specs.Indexed.{join}
 
 -- the number of `count` bytes from place i on

@@ -1,37 +1,32 @@
 -- Closed cases of the run file: where 15 stands in the order, and the text of numbers.
-use mathlib.Core.Path.{_≡_, refl}
-use mathlib.Core.Bool.{true, false}
-use mathlib.Core.List.{List, [], _∷_, _++_}
-use Prim.Native.Nat.{ℕ}
-use lib.ListN.{replicate}
+use Rattle.lists.specs.Prelude.{_≡_, refl, true, false, List, [], _∷_, _++_, ℕ, replicate, inf, binary64, toBits}
 use lib.Ieee as Ieee
-use lib.Ieee.{inf, binary64, toBits}
 use Rattle.refusal.specs.Verdict.{by, ask, _then_, numberOf}
-use Rattle.refusal.specs.Lines.{largeEnough, withinProgram, wellFormed}
+use Rattle.refusal.specs.Checks.{largeEnough, withinProgram, wellFormed}
 use Rattle.observables.specs.declared.Observed.the-variants.{Number, NotReal, Refused as NotObserved}
 use Rattle.run_file.specs.Bytes.{littleEndian, number}
-use Rattle.run_file.specs.Decoding.{tableFits, fileLines}
+use Rattle.run_file.specs.File.{tableFits, fileChecks}
 use Rattle.run_file.specs.Text.{decimalIn, decimal, hexDigit, hexadecimal, line, timeLine}
 use Rattle.run_file.specs.Program.{fileText, printed}
 use Rattle.run_file.specs.P12.{words, file}
 
 -- the file's own answer for ten words and `rest` bytes more
 abbrev answer : List ℕ → ℕ → ℕ
-answer table rest = numberOf (fileLines (words 4 table ++ replicate rest 0))
+answer table rest = numberOf (fileChecks (words 4 table ++ replicate rest 0))
 
--- 39 bytes are 15 before line 1. With 40, N = 1 is 1 and N·n = 18 or 2^32 is 2, though the table fits nothing; then the table is 15. N = 2, n = 1
+-- 39 bytes are 15 before check 1. With 40, N = 1 is 1 and N·n = 18 or 2^32 is 2, though the table fits nothing; then the table is 15. N = 2, n = 1
 -- with its table takes 40 + 16 + 3·64 bytes: one byte more or less is 15, and so are a gap, another count and another order.
-order : numberOf (fileLines (replicate 39 1)) ∷ answer (1 ∷ 1 ∷ replicate 8 0) 0 ∷ answer (2 ∷ 0 ∷ replicate 8 0) 0 ∷ answer (18 ∷ 1 ∷ replicate 8 0) 0 ∷ answer (65536 ∷ 65536 ∷ replicate 8 0) 0
+order : numberOf (fileChecks (replicate 39 1)) ∷ answer (1 ∷ 1 ∷ replicate 8 0) 0 ∷ answer (2 ∷ 0 ∷ replicate 8 0) 0 ∷ answer (18 ∷ 1 ∷ replicate 8 0) 0 ∷ answer (65536 ∷ 65536 ∷ replicate 8 0) 0
     ∷ answer (2 ∷ 1 ∷ replicate 8 0) 0 ∷ answer (2 ∷ 1 ∷ 40 ∷ 2 ∷ 56 ∷ 8 ∷ 120 ∷ 8 ∷ 184 ∷ 8 ∷ []) 208 ∷ answer (2 ∷ 1 ∷ 40 ∷ 2 ∷ 56 ∷ 8 ∷ 120 ∷ 8 ∷ 184 ∷ 8 ∷ []) 209
     ∷ answer (2 ∷ 1 ∷ 40 ∷ 2 ∷ 56 ∷ 8 ∷ 120 ∷ 8 ∷ 184 ∷ 8 ∷ []) 207 ∷ answer (2 ∷ 1 ∷ 40 ∷ 2 ∷ 57 ∷ 8 ∷ 121 ∷ 8 ∷ 185 ∷ 8 ∷ []) 209
     ∷ answer (2 ∷ 1 ∷ 40 ∷ 2 ∷ 56 ∷ 9 ∷ 120 ∷ 8 ∷ 184 ∷ 8 ∷ []) 208 ∷ answer (2 ∷ 1 ∷ 40 ∷ 2 ∷ 120 ∷ 8 ∷ 56 ∷ 8 ∷ 184 ∷ 8 ∷ []) 208 ∷ []
     ≡ 15 ∷ 1 ∷ 1 ∷ 2 ∷ 2 ∷ 15 ∷ 0 ∷ 15 ∷ 15 ∷ 15 ∷ 15 ∷ 15 ∷ []
-unfolding numberOf fileLines tableFits littleEndian wellFormed largeEnough withinProgram ask _then_
+unfolding numberOf fileChecks tableFits littleEndian wellFormed largeEnough withinProgram ask _then_
 order = refl
 
 -- "refused 15"
 refused : printed [] ≡ 114 ∷ 101 ∷ 102 ∷ 117 ∷ 115 ∷ 101 ∷ 100 ∷ 32 ∷ 49 ∷ 53 ∷ 10 ∷ []
-unfolding printed fileText fileLines tableFits littleEndian wellFormed largeEnough withinProgram ask _then_ line decimal decimalIn
+unfolding printed fileText fileChecks tableFits littleEndian wellFormed largeEnough withinProgram ask _then_ line decimal decimalIn
 refused = refl
 
 -- little-endian: the bytes of 1.5 give 1.5; P12's file has the number 1 at byte 48

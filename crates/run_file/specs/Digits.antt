@@ -1,15 +1,9 @@
 -- Digits in the order in which they are written: decimal and hexadecimal. Assumes nothing.
-use mathlib.Core.Path.{_≡_, refl, sym, ap, _∙_}
-use mathlib.Core.List.{List, [], _∷_, _++_}
-use Prim.Native.Nat.{ℕ, zero, suc, _+_, _-_, _*_, _/_, _%_, _^_, _≤_, _<_}
-use native.Mathlib.Nat.{not-suc-le-zero, le-refl, le-antisymm, add-zero, div-one, one-le-pow, pow-suc, mul-div-cancel, div-div-eq-div-mul}
-use native.Mathlib.Numerals.{add-one}
-use native.Mathlib.Omega.{arith}
-use lib.Dec.{ltb}
-use borrow.Author.Tests.{lt-ltb, le-ltb, ltb-false}
+use Rattle.lists.specs.Prelude.{_≡_, refl, sym, ap, _∙_, List, [], _∷_, _++_, ℕ, zero, suc, _+_, _-_, _*_, _/_, _%_, _^_, _≤_, _<_, not-suc-le-zero, le-refl}
+use Rattle.lists.specs.Prelude.{le-antisymm, add-zero, div-one, one-le-pow, pow-suc, mul-div-cancel, div-div-eq-div-mul, add-one, arith, ltb, lt-ltb, le-ltb, ltb-false}
+use Rattle.lists.specs.Prelude.{length, set}
 use Rattle.lists.specs.Agreement.{cond-agree}
-use lib.ListN.{length, set}
-use Rattle.run_file.specs.Writing.{Appended, no-word, both-words, next-byte}
+use Rattle.run_file.specs.Appended.{Appended, no-word, both-words, next-byte}
 use Rattle.run_file.specs.Text.{decimalIn, decimal, hexDigit, hexadecimal}
 
 -- ---- decimal: the last digit last

@@ -1,11 +1,7 @@
 -- Lines word by word, as they are written. Assumes nothing.
-use mathlib.Core.Path.{_≡_, refl}
-use mathlib.Core.List.{List, [], _∷_, _++_, append-assoc}
-use Prim.Native.Nat.{ℕ, _+_, _≤_}
-use native.Mathlib.Nat.{le-antisymm}
-use lib.Ieee.{Float, binary64, toBits}
+use Rattle.lists.specs.Prelude.{_≡_, refl, List, [], _∷_, _++_, append-assoc, ℕ, _+_, _≤_, le-antisymm, Float, binary64, toBits}
 use Rattle.lists.specs.Indexed.{join}
-use Rattle.lists.specs.Turns.{join-more}
+use Rattle.lists.specs.Steps.{join-more}
 use Rattle.dyson.specs.Calls.{defaultTolerance}
 use Rattle.observables.specs.Calls.{particleNumber}
 use Rattle.observables.specs.declared.Observed.{Observed}
@@ -50,10 +46,9 @@ module _ (points orbitals : ℕ) (lesser : List Float) where
   unfolding timesText join
   no-times = refl
 
-  pub time-more : (t : ℕ) {o : Observed} {tolerance : Float} → o ≡ particleNumber points orbitals lesser t tolerance → tolerance ≡ defaultTolerance
-      → timesText t ++ timeLine t o ≡ timesText (t + 1)
+  pub time-more : (t : ℕ) {o : Observed} → o ≡ particleNumber points orbitals lesser t defaultTolerance → timesText t ++ timeLine t o ≡ timesText (t + 1)
   unfolding timesText
-  time-more t e d = rw (e, d, join-more)
+  time-more t e = rw (e, join-more)
 
   pub all-times : (t : ℕ) → t ≤ points → points ≤ t → line (runWord ∷ decimal points ∷ decimal orbitals ∷ []) ++ timesText t ≡ runText points orbitals defaultTolerance lesser
   unfolding timesText runText

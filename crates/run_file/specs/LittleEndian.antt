@@ -1,12 +1,5 @@
 -- A number that is read from its highest byte down, and a slice of numbers. Assumes nothing.
-use mathlib.Core.Path.{_≡_, refl, ap, ap₂, _∙_}
-use mathlib.Core.List.{List}
-use Prim.Native.Nat.{ℕ, _+_, _-_, _*_, _^_, _≤_, _<_}
-use native.Mathlib.Nat.{pow-suc, pow-le-pow-right, le-antisymm}
-use native.Mathlib.Numerals.{add-one}
-use native.Mathlib.Omega.{arith}
-use lib.ListN.{length, getD}
-use lib.Ieee.{Float}
+use Rattle.lists.specs.Prelude.{_≡_, refl, ap, ap₂, _∙_, List, ℕ, _+_, _-_, _*_, _^_, _≤_, _<_, pow-suc, pow-le-pow-right, le-antisymm, add-one, arith, length, getD, Float}
 use Rattle.lists.specs.Filling.{over}
 use Rattle.lists.specs.Singles.{singles, singles-end}
 use Rattle.run_file.specs.Bytes.{littleEndian, number, numbers}
@@ -48,5 +41,5 @@ unfolding numbers
 all-numbers bytes at d k h l e = singles-end d (λ j. number (at + 8 * j) bytes) k h l e
 
 -- the same numbers
-pub decoded : (bytes : List ℕ) {xs : List Float} {at at' count count' : ℕ} → xs ≡ numbers at count bytes → at ≡ at' → count ≡ count' → xs ≡ numbers at' count' bytes
-decoded bytes e a c = e ∙ ap₂ (λ (i k : ℕ). numbers i k bytes) a c
+pub same-numbers : (bytes : List ℕ) {xs : List Float} {at at' count count' : ℕ} → xs ≡ numbers at count bytes → at ≡ at' → count ≡ count' → xs ≡ numbers at' count' bytes
+same-numbers bytes e a c = e ∙ ap₂ (λ (i k : ℕ). numbers i k bytes) a c

@@ -1,7 +1,5 @@
 -- P12 of document 01 as a run file, and the text that the program prints for it (proved in `bench_cases`). Assumes nothing.
-use mathlib.Core.List.{List, [], _∷_, _++_, map}
-use Prim.Native.Nat.{ℕ, zero, suc, _/_, _%_}
-use lib.Ieee.{binary64, toBits}
+use Rattle.lists.specs.Prelude.{List, [], _∷_, _++_, map, ℕ, zero, suc, _/_, _%_, binary64, toBits}
 use Rattle.transient_run.specs.P12 as P12
 
 -- a number in `count` bytes, lowest first, and a list of such numbers

@@ -1,7 +1,5 @@
 -- Document 01, run file: what the program `transient` prints for the bytes that it reads.
-use Prim.Native.Nat.{ℕ}
-use mathlib.Core.List.{List, [], _∷_, _++_}
-use lib.Ieee.{Float}
+use Rattle.lists.specs.Prelude.{ℕ, List, [], _∷_, _++_, Float}
 use Rattle.lists.specs.Indexed.{join}
 use Rattle.refusal.specs.declared.Verdict.{Verdict}
 use Rattle.refusal.specs.declared.Verdict.the-variants.{Pass, Refused}
@@ -9,7 +7,7 @@ use Rattle.transient_run.specs.declared.Solved.{Solved}
 use Rattle.transient_run.specs.declared.Solved.the-variants.{Accepted, Refused as NotSolved}
 use Rattle.transient_run.specs.Calls.{Run, transientRun}
 use Rattle.observables.specs.Calls.{particleNumber}
-use Rattle.run_file.specs.Decoding.{fileLines, runOf}
+use Rattle.run_file.specs.File.{fileChecks, fileRun}
 use Rattle.run_file.specs.Text.{decimal, runWord, refusedWord, line, timeLine}
 
 -- "Refused: `refused K`."
@@ -35,4 +33,4 @@ fileText Pass r = runAnswer r
 fileText (Refused x) r = refusedText (x .number)
 
 unfoldable pub printed : List ℕ → List ℕ
-printed bytes = fileText (fileLines bytes) (runOf bytes)
+printed bytes = fileText (fileChecks bytes) (fileRun bytes)

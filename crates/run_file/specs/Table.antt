@@ -1,23 +1,16 @@
--- The questions of a run file as the code asks them, and the sizes of a file that passes lines 1 and 2. Assumes nothing.
-use mathlib.Core.Path.{_≡_, refl, sym, ap, _∙_}
-use mathlib.Core.Bool.{Bool, _&&_}
-use mathlib.Core.List.{List, [], _∷_}
-use Prim.Native.Nat.{ℕ, _+_, _*_, _≤_, min}
-use native.Mathlib.Nat.{le-refl, mul-le-mul, mul-assoc, mul-comm, min-eq-left}
-use native.Mathlib.Omega.{arith}
-use lib.Dec.{leb, eqb}
-use lib.ListN.{length}
-use borrow.Author.Tests.{leb-true}
+-- The questions of a run file as the code asks them, and the sizes of a file that passes checks 1 and 2. Assumes nothing.
+use Rattle.lists.specs.Prelude.{_≡_, sym, ap, _∙_, Bool, _&&_, List, [], _∷_, ℕ, _+_, _*_, _≤_, min, le-refl, mul-le-mul, mul-assoc, mul-comm, min-eq-left, arith, leb}
+use Rattle.lists.specs.Prelude.{eqb, length, leb-true}
 use Rattle.lists.specs.Agreement.{both}
 use Rattle.refusal.specs.declared.Refusal.{Refusal}
 use Rattle.refusal.specs.declared.Verdict.{Verdict}
 use Rattle.refusal.specs.declared.Verdict.the-variants.{Pass, Refused}
 use Rattle.refusal.specs.Verdict.{by, _then_}
-use Rattle.refusal.specs.Lines.{largeEnough, withinProgram, wellFormed}
-use Rattle.refusal.specs.Agreement.{ask-pass, then-pass, then-assoc}
+use Rattle.refusal.specs.Checks.{largeEnough, withinProgram, wellFormed}
+use Rattle.refusal.specs.Agreement.{ask-pass, then-pass, then-after, then-refused}
 use Rattle.two_time.specs.Layout.{lengthOf}
 use Rattle.run_file.specs.Bytes.{u32}
-use Rattle.run_file.specs.Decoding.{pointsOf, orbitalsOf, counts, tableFits, fileLines}
+use Rattle.run_file.specs.File.{pointsOf, orbitalsOf, counts, tableFits, headChecks, fileChecks}
 
 -- ---- the table
 
@@ -39,9 +32,15 @@ pub record Sized (points orbitals : ℕ) : Type 0 where
   pub few-orbitals : orbitals ≤ 16
   pub few-numbers : lengthOf points orbitals ≤ 512
 
+-- the sizes that a well-formed file names
+pub record FileSizes (points orbitals : ℕ) (bytes : List ℕ) : Type 0 where
+  pub points-named : points ≡ pointsOf bytes
+  pub orbitals-named : orbitals ≡ orbitalsOf bytes
+  pub sizes : Sized points orbitals
+
 -- a length that is not cut
-pub uncut : (points orbitals : ℕ) → points ≤ 16 → orbitals ≤ 16 → lengthOf (min points 256) (min orbitals 16) ≡ lengthOf points orbitals
-uncut points orbitals h l = rw (min-eq-left {n = points} {m = 256} (omega arith), min-eq-left l)
+pub uncut : {points orbitals : ℕ} → Sized points orbitals → lengthOf (min points 256) (min orbitals 16) ≡ lengthOf points orbitals
+uncut {points} z = rw (min-eq-left {n = points} {m = 256} (omega arith), min-eq-left (z .few-orbitals))
 
 doubled : (p o : ℕ) → 2 * p * p * o * o ≡ 2 * (p * o * (p * o))
 doubled p o =
@@ -63,32 +62,21 @@ sized points orbitals h l =
 -- ---- the order
 
 module _ (bytes : List ℕ) where
-  abbrev pub head : Verdict
-  head = wellFormed (leb 40 (length bytes)) then (largeEnough (pointsOf bytes) (orbitalsOf bytes) then withinProgram (pointsOf bytes) (orbitalsOf bytes))
-
   pub head-is : {v a b c d : Verdict} {points orbitals : ℕ} → v ≡ (a then b) → a ≡ wellFormed (leb 40 (length bytes)) → b ≡ (c then d) → c ≡ largeEnough points orbitals
-      → d ≡ withinProgram points orbitals → points ≡ pointsOf bytes → orbitals ≡ orbitalsOf bytes → v ≡ head
+      → d ≡ withinProgram points orbitals → points ≡ pointsOf bytes → orbitals ≡ orbitalsOf bytes → v ≡ headChecks bytes
   head-is e f g h i j k = rw (e, f, g, h, i, j, k)
 
-  in-order : fileLines bytes ≡ (head then wellFormed (tableFits bytes 0 40 (counts bytes)))
-  unfolding fileLines
-  in-order = sym (then-assoc _ _ _ ∙ ap (λ (v : Verdict). wellFormed (leb 40 (length bytes)) then v) (then-assoc _ _ _))
+  pub head-refused : {v : Verdict} {r : Refusal} → v ≡ headChecks bytes → v ≡ Refused r → v ≡ fileChecks bytes
+  unfolding fileChecks
+  head-refused {v} {r} e p = p ∙ sym (then-refused (headChecks bytes) _ r (sym e ∙ p))
 
-  answer-is : {v : Verdict} → head ≡ v → fileLines bytes ≡ (v then wellFormed (tableFits bytes 0 40 (counts bytes)))
-  answer-is e = in-order ∙ ap (λ (h : Verdict). h then wellFormed (tableFits bytes 0 40 (counts bytes))) e
+  pub head-passed : {v w : Verdict} → v ≡ headChecks bytes → v ≡ Pass → w ≡ wellFormed (tableFits bytes 0 40 (counts bytes)) → w ≡ fileChecks bytes
+  unfolding fileChecks
+  head-passed e p q = q ∙ sym (then-after (headChecks bytes) _ (sym e ∙ p))
 
-  pub head-refused : {v : Verdict} {r : Refusal} → v ≡ head → v ≡ Refused r → v ≡ fileLines bytes
-  unfolding _then_
-  head-refused e p = p ∙ sym (answer-is (sym e ∙ p))
+  pub head-sized : headChecks bytes ≡ Pass → Sized (pointsOf bytes) (orbitalsOf bytes)
+  head-sized p = let limits = then-pass _ _ (then-pass _ _ p .1) in sized _ _ (limits .0) (limits .1)
 
-  pub head-passed : {v w : Verdict} → v ≡ head → v ≡ Pass → w ≡ wellFormed (tableFits bytes 0 40 (counts bytes)) → w ≡ fileLines bytes
-  unfolding _then_
-  head-passed e p q = q ∙ sym (answer-is (sym e ∙ p))
-
-  pub head-sized : {v : Verdict} → v ≡ head → v ≡ Pass → Sized (pointsOf bytes) (orbitalsOf bytes)
-  head-sized e p =
-      let limits = then-pass _ _ (then-pass _ _ (sym e ∙ p) .1) in
-      sized _ _ (limits .0) (limits .1)
-
-  pub file-sized : fileLines bytes ≡ Pass → Sized (pointsOf bytes) (orbitalsOf bytes)
-  file-sized h = head-sized refl (then-pass head _ (sym in-order ∙ h) .0)
+  pub file-sized : fileChecks bytes ≡ Pass → Sized (pointsOf bytes) (orbitalsOf bytes)
+  unfolding fileChecks
+  file-sized h = head-sized (then-pass (headChecks bytes) _ h .0)

@@ -1,9 +1,5 @@
 -- Document 01, run file: the text of an answer, as bytes. Words are written in their codes, and every line ends with a line feed, 10.
-use Prim.Native.Nat.{ℕ, zero, suc, _+_, _/_, _%_}
-use mathlib.Core.Bool.{cond}
-use mathlib.Core.List.{List, [], _∷_, _++_}
-use lib.Dec.{ltb}
-use lib.Ieee.{binary64, toBits}
+use Rattle.lists.specs.Prelude.{ℕ, zero, suc, _+_, _/_, _%_, cond, List, [], _∷_, _++_, ltb, binary64, toBits}
 use Rattle.observables.specs.declared.Observed.{Observed}
 use Rattle.observables.specs.declared.Observed.the-variants.{Number, NotReal, Refused as NotObserved}
 

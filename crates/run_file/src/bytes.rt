@@ -1,7 +1,5 @@
 // Numbers in bytes, lowest byte first (document 01, run file). A byte past the end is 0.
-ghost use mathlib.Core.Path.{_≡_};
-ghost use Prim.Native.Nat.{_≤_, _<_};
-ghost use lib.ListN.{getD};
+ghost use Rattle.lists.specs.Prelude.{_≡_, _≤_, _<_, getD};
 ghost use Rattle.run_file.specs.Bytes.{littleEndian};
 
 fn byte(bytes: &[u8], i: usize) -> u64

@@ -1,19 +1,15 @@
 // A run file's own lines, and the numbers of its bodies (document 01, run file).
-ghost use mathlib.Core.Path.{_≡_};
-ghost use mathlib.Core.Bool.{_&&_};
-ghost use mathlib.Core.List.{[], _∷_};
-ghost use Prim.Native.Nat.{_+_, _*_, _≤_};
-ghost use lib.Dec.{eqb};
-ghost use lib.ListN.{length};
+ghost use Rattle.lists.specs.Prelude.{_≡_, _&&_, [], _∷_, _+_, _*_, _≤_, eqb, length};
 ghost use Rattle.two_time.specs.Layout.{lengthOf};
 ghost use Rattle.run_file.specs.Bytes.{u32, numbers};
-ghost use Rattle.run_file.specs.Decoding.{tableFits, fileLines};
+ghost use Rattle.run_file.specs.File.{tableFits, fileChecks};
+ghost use Rattle.run_file.specs.Table.{Sized};
 use crate::bytes::word;
-use bits::from_bits;
+use complex::bits::from_bits;
 use refusal::Verdict;
-use refusal::lines::large_enough;
-use refusal::lines::well_formed;
-use refusal::lines::within_program;
+use refusal::checks::large_enough;
+use refusal::checks::well_formed;
+use refusal::checks::within_program;
 use two_time::layout::function_length;
 
 // Whether the table names that start and that count in a row.
@@ -27,7 +23,7 @@ fn row_fits(bytes: &[u8], row: usize, start: usize, count: usize) -> bool
 
 // How many numbers the body of a function has.
 pub(crate) fn body_length(points: usize, orbitals: usize) -> usize
-    requires { ⌜ (points ≤ 16) × (orbitals ≤ 16) × (lengthOf points orbitals ≤ 512) ⌝ }
+    requires { ⌜ Sized points orbitals ⌝ }
     ensures { λ r. ⌜ (r ≡ lengthOf points orbitals) × (r ≤ 512) ⌝ }
 {
     function_length(points, orbitals)
@@ -35,21 +31,22 @@ pub(crate) fn body_length(points: usize, orbitals: usize) -> usize
 
 // Whether the bodies adjoin in table order from byte 40, the counts match and the length is exact.
 fn table_fits(bytes: &[u8], points: usize, orbitals: usize) -> bool
-    requires { ⌜ (points ≤ 16) × (orbitals ≤ 16) × (lengthOf points orbitals ≤ 512) ⌝ }
+    requires { ⌜ Sized points orbitals ⌝ }
     ensures { λ r. ⌜ r ≡ tableFits (now (bytes .entry)) 0 40 (points ∷ lengthOf points orbitals ∷ lengthOf points orbitals ∷ lengthOf points orbitals ∷ []) ⌝ }
 {
     let each = body_length(points, orbitals);
     let free = 40 + 8 * points;
-    let sigma = free + 8 * each;
-    let source = sigma + 8 * each;
-    let last = row_fits(bytes, 3, source, each) & (bytes.len() == source + 8 * each);
-    let later = row_fits(bytes, 2, sigma, each) & last;
+    let self_energy = free + 8 * each;
+    let lesser_self_energy = self_energy + 8 * each;
+    let last = row_fits(bytes, 3, lesser_self_energy, each)
+        & (bytes.len() == lesser_self_energy + 8 * each);
+    let later = row_fits(bytes, 2, self_energy, each) & last;
     row_fits(bytes, 0, 40, points) & (row_fits(bytes, 1, free, each) & later)
 }
 
 // 15 for the head, 1, 2, and 15 for the rest.
-pub(crate) fn file_lines(bytes: &[u8]) -> Verdict
-    ensures { λ r. ⌜ r ≡ fileLines (now (bytes .entry)) ⌝ }
+pub(crate) fn check_file(bytes: &[u8]) -> Verdict
+    ensures { λ r. ⌜ r ≡ fileChecks (now (bytes .entry)) ⌝ }
 {
     let points = word(bytes, 0, 4) as usize;
     let orbitals = word(bytes, 4, 4) as usize;
@@ -62,35 +59,11 @@ pub(crate) fn file_lines(bytes: &[u8]) -> Verdict
 }
 
 // The numbers from a place on.
-fn numbers(bytes: &[u8], at: usize, out: &mut [f64])
+pub(crate) fn numbers(bytes: &[u8], at: usize, out: &mut [f64])
     requires { ⌜ (at ≤ 16384) × (length (now out) ≤ 512) ⌝ }
     ensures { λ _. ⌜ now (out .exit) ≡ numbers at (length (now (out .entry))) (now (bytes .entry)) ⌝ }
 {
     for k in 0..out.len() {
         out[k] = from_bits(word(bytes, at + 8 * k, 8));
     }
-}
-
-// The four bodies: times, free, retarded self-energy, Σ^<.
-pub(crate) fn bodies(
-    bytes: &[u8],
-    points: usize,
-    orbitals: usize,
-    times: &mut [f64],
-    free: &mut [f64],
-    sigma: &mut [f64],
-    source: &mut [f64],
-)
-    requires { ⌜ (points ≤ 16) × (orbitals ≤ 16) × (lengthOf points orbitals ≤ 512) ⌝ }
-    requires { ⌜ (length (now times) ≡ points) × (length (now free) ≡ lengthOf points orbitals) × (length (now sigma) ≡ lengthOf points orbitals) × (length (now source) ≡ lengthOf points orbitals) ⌝ }
-    ensures { λ _. ⌜ (now (times .exit) ≡ numbers 40 points (now (bytes .entry))) × (now (free .exit) ≡ numbers (40 + 8 * points) (lengthOf points orbitals) (now (bytes .entry)))
-        × (now (sigma .exit) ≡ numbers (40 + 8 * points + 8 * lengthOf points orbitals) (lengthOf points orbitals) (now (bytes .entry)))
-        × (now (source .exit) ≡ numbers (40 + 8 * points + 16 * lengthOf points orbitals) (lengthOf points orbitals) (now (bytes .entry))) ⌝ }
-{
-    let each = body_length(points, orbitals);
-    let first = 40 + 8 * points;
-    numbers(bytes, 40, times);
-    numbers(bytes, first, free);
-    numbers(bytes, first + 8 * each, sigma);
-    numbers(bytes, first + 16 * each, source);
 }

@@ -4,21 +4,19 @@ mod bytes;
 mod decoding;
 mod text;
 
-ghost use mathlib.Core.Path.{_≡_};
-ghost use Prim.Native.Nat.{_≤_};
-ghost use lib.ListN.{length, replicate};
-ghost use Rattle.complex.specs.Arithmetic.{plusZero};
+ghost use Rattle.lists.specs.Prelude.{_≡_, _≤_, length};
 ghost use Rattle.lists.specs.Filling.{over};
 ghost use Rattle.dyson.specs.Calls.{defaultTolerance};
 ghost use Rattle.two_time.specs.Layout.{lengthOf};
-ghost use Rattle.run_file.specs.Decoding.{pointsOf, orbitalsOf, runOf};
+ghost use Rattle.transient_run.specs.Calls.{runOf};
+ghost use Rattle.run_file.specs.File.{fileRun};
 ghost use Rattle.run_file.specs.Program.{runText, solvedText, runAnswer, printed};
-ghost use Rattle.run_file.specs.Writing.{Appended};
-use bits::from_bits;
+ghost use Rattle.run_file.specs.Table.{FileSizes};
+ghost use Rattle.run_file.specs.Appended.{Appended};
 use bytes::word;
-use decoding::bodies;
 use decoding::body_length;
-use decoding::file_lines;
+use decoding::check_file;
+use decoding::numbers;
 use observables::particle_number;
 use refusal::Verdict;
 use text::refused_line;
@@ -27,12 +25,8 @@ use text::time_line;
 use transient_run::Solved;
 use transient_run::transient_run;
 
-// The tolerance of solve and particle number, 1e-12.
-fn tolerance() -> f64
-    ensures { λ r. ⌜ r ≡ defaultTolerance ⌝ }
-{
-    from_bits(0x3d71_9799_812d_ea11)
-}
+// The tolerance of solve and particle number.
+const TOLERANCE: f64 = 1e-12;
 
 // The text of an accepted run: its sizes, and a line for each time.
 fn run_text(points: usize, orbitals: usize, lesser: &[f64], out: &mut [u8]) -> usize
@@ -41,7 +35,7 @@ fn run_text(points: usize, orbitals: usize, lesser: &[f64], out: &mut [u8]) -> u
 {
     let mut at = run_line(out, points as u8, orbitals as u8);
     for t in 0..points {
-        let number = particle_number(lesser, points, orbitals, t, tolerance());
+        let number = particle_number(lesser, points, orbitals, t, TOLERANCE);
         at = time_line(out, at, t as u8, number);
     }
     at
@@ -64,82 +58,108 @@ fn answer_text(
     }
 }
 
-// The text of a file's run, with slices for its operands, outputs and scratch.
+// The text of a run, with slices for its outputs and scratch.
 fn solve(
+    times: &[f64],
+    free: &[f64],
+    self_energy: &[f64],
+    lesser_self_energy: &[f64],
+    points: usize,
+    orbitals: usize,
+    retarded: &mut [f64],
+    lesser: &mut [f64],
+    kernel: &mut [f64],
+    lesser_advanced: &mut [f64],
+    out: &mut [u8],
+) -> usize
+    requires { ⌜ (points ≤ 16) × (orbitals ≤ 16) × (512 ≤ length (now out)) ⌝ }
+    ensures { λ r. ⌜ Appended (now (out .entry)) (now (out .exit)) 0 r (runAnswer (runOf points orbitals defaultTolerance (now (times .entry)) (now (free .entry)) (now («self_energy» .entry)) (now («lesser_self_energy» .entry))
+        (now (retarded .entry)) (now (lesser .entry)) (now (kernel .entry)) (now («lesser_advanced» .entry)))) ⌝ }
+{
+    let solved = transient_run(
+        times,
+        free,
+        self_energy,
+        lesser_self_energy,
+        points,
+        orbitals,
+        TOLERANCE,
+        retarded,
+        lesser,
+        kernel,
+        lesser_advanced,
+    );
+    answer_text(points, orbitals, solved, lesser, out)
+}
+
+// The text of a file's run, with slices for its four bodies: times, free, retarded self-energy, Σ^<.
+fn decoded(
     bytes: &[u8],
     points: usize,
     orbitals: usize,
     times: &mut [f64],
     free: &mut [f64],
-    sigma: &mut [f64],
-    source: &mut [f64],
-    green: &mut [f64],
-    lesser: &mut [f64],
-    kernel: &mut [f64],
-    mixed: &mut [f64],
+    self_energy: &mut [f64],
+    lesser_self_energy: &mut [f64],
     out: &mut [u8],
 ) -> usize
-    requires { ⌜ (points ≡ pointsOf (now bytes)) × (orbitals ≡ orbitalsOf (now bytes)) ⌝ }
-    requires { ⌜ (points ≤ 16) × (orbitals ≤ 16) × (lengthOf points orbitals ≤ 512) × (512 ≤ length (now out)) ⌝ }
-    requires { ⌜ (length (now times) ≡ points) × (length (now free) ≡ lengthOf points orbitals) × (length (now sigma) ≡ lengthOf points orbitals) × (length (now source) ≡ lengthOf points orbitals) ⌝ }
-    requires { ⌜ (now green ≡ replicate (lengthOf points orbitals) plusZero) × (now lesser ≡ replicate (lengthOf points orbitals) plusZero)
-        × (now kernel ≡ replicate (lengthOf points orbitals) plusZero) × (now mixed ≡ replicate (lengthOf points orbitals) plusZero) ⌝ }
-    ensures { λ r. ⌜ Appended (now (out .entry)) (now (out .exit)) 0 r (runAnswer (runOf (now (bytes .entry)))) ⌝ }
+    requires { ⌜ FileSizes points orbitals (now bytes) ⌝ }
+    requires { ⌜ (length (now times) ≡ points) × (length (now free) ≡ lengthOf points orbitals) × (length (now «self_energy») ≡ lengthOf points orbitals) × (length (now «lesser_self_energy») ≡ lengthOf points orbitals)
+        × (512 ≤ length (now out)) ⌝ }
+    ensures { λ r. ⌜ Appended (now (out .entry)) (now (out .exit)) 0 r (runAnswer (fileRun (now (bytes .entry)))) ⌝ }
 {
-    bodies(bytes, points, orbitals, times, free, sigma, source);
-    let solved = transient_run(
+    let each = body_length(points, orbitals);
+    let first = 40 + 8 * points;
+    numbers(bytes, 40, times);
+    numbers(bytes, first, free);
+    numbers(bytes, first + 8 * each, self_energy);
+    numbers(bytes, first + 16 * each, lesser_self_energy);
+    let mut retarded = [0.0; 512];
+    let mut lesser = [0.0; 512];
+    let mut kernel = [0.0; 512];
+    let mut lesser_advanced = [0.0; 512];
+    solve(
         times,
         free,
-        sigma,
-        source,
+        self_energy,
+        lesser_self_energy,
         points,
         orbitals,
-        tolerance(),
-        green,
-        lesser,
-        kernel,
-        mixed,
-    );
-    answer_text(points, orbitals, solved, lesser, out)
+        &mut retarded[..each],
+        &mut lesser[..each],
+        &mut kernel[..each],
+        &mut lesser_advanced[..each],
+        out,
+    )
 }
 
 // The text of a well-formed file.
 fn run(bytes: &[u8], points: usize, orbitals: usize, out: &mut [u8]) -> usize
-    requires { ⌜ (points ≡ pointsOf (now bytes)) × (orbitals ≡ orbitalsOf (now bytes)) ⌝ }
-    requires { ⌜ (points ≤ 16) × (orbitals ≤ 16) × (lengthOf points orbitals ≤ 512) × (512 ≤ length (now out)) ⌝ }
-    ensures { λ r. ⌜ Appended (now (out .entry)) (now (out .exit)) 0 r (runAnswer (runOf (now (bytes .entry)))) ⌝ }
+    requires { ⌜ FileSizes points orbitals (now bytes) × (512 ≤ length (now out)) ⌝ }
+    ensures { λ r. ⌜ Appended (now (out .entry)) (now (out .exit)) 0 r (runAnswer (fileRun (now (bytes .entry)))) ⌝ }
 {
     let each = body_length(points, orbitals);
     let mut times = [0.0; 16];
     let mut free = [0.0; 512];
-    let mut sigma = [0.0; 512];
-    let mut source = [0.0; 512];
-    let mut green = [0.0; 512];
-    let mut lesser = [0.0; 512];
-    let mut kernel = [0.0; 512];
-    let mut mixed = [0.0; 512];
-    solve(
+    let mut self_energy = [0.0; 512];
+    let mut lesser_self_energy = [0.0; 512];
+    decoded(
         bytes,
         points,
         orbitals,
         &mut times[..points],
         &mut free[..each],
-        &mut sigma[..each],
-        &mut source[..each],
-        &mut green[..each],
-        &mut lesser[..each],
-        &mut kernel[..each],
-        &mut mixed[..each],
+        &mut self_energy[..each],
+        &mut lesser_self_energy[..each],
         out,
     )
 }
 
-// Writes what the program prints for a file over the start of `out`, and answers how many bytes it is. Every text fits
-// (specs/Room.antt).
+// Writes what the program prints for a file over the start of `out`, and answers how many bytes it is: every text fits.
 pub fn print(bytes: &[u8], out: &mut [u8; 512]) -> usize
     ensures { λ r. ⌜ (r ≡ length (printed (now (bytes .entry)))) × (now (out .exit) ≡ over (now (out .entry)) (printed (now (bytes .entry)))) ⌝ }
 {
-    let verdict = file_lines(bytes);
+    let verdict = check_file(bytes);
     match verdict {
         Verdict::Pass => run(
             bytes,

@@ -1,13 +1,9 @@
 // The text of an answer (document 01, run file). Each function writes its word at `at` and answers where it ends.
-ghost use mathlib.Core.Path.{_≡_};
-ghost use mathlib.Core.List.{[], _∷_};
-ghost use Prim.Native.Nat.{_+_, _≤_, _<_};
-ghost use lib.ListN.{length};
-ghost use lib.Ieee.{Float};
+ghost use Rattle.lists.specs.Prelude.{_≡_, [], _∷_, _+_, _≤_, _<_, length, Float};
 ghost use Rattle.run_file.specs.Text.{decimal, hexDigit, hexadecimal, line, runWord, timeLine};
 ghost use Rattle.run_file.specs.Program.{refusedText};
-ghost use Rattle.run_file.specs.Writing.{Appended};
-use bits::to_bits;
+ghost use Rattle.run_file.specs.Appended.{Appended};
+use complex::bits::to_bits;
 use observables::Observed;
 
 fn letter(out: &mut [u8], at: usize, byte: u8) -> usize

@@ -1,35 +1,25 @@
 -- Row t of G from K and the rows of G before it, as they stand in a list; what a loop over groups has written of it. Assumes nothing.
-use mathlib.Core.Path.{_≡_, refl, sym, ap, ap₂, _∙_}
-use mathlib.Core.Bool.{Bool, true, cond, _&&_, _||_}
-use mathlib.Core.List.{List, [], _∷_, _++_, append-assoc}
-use Prim.Native.Nat.{ℕ, _+_, _-_, _*_, _≤_, _<_}
-use native.Mathlib.Nat.{mul-le-mul-right, mul-assoc, mul-left-comm, add-mul}
-use native.Mathlib.Omega.{arith}
-use lib.Arith.{digits-lt}
-use lib.Dec.{ltb, eqb}
-use lib.ListN.{length, getD, take, drop, replicate, length-append, List·getD-append}
-use lib.Seq.{length-take-le, getD-take, take-at, drop-at, drop-drop}
-use lib.Ieee.{Float, nan}
-use borrow.Author.Tests.{lt-ltb, eq-eqb}
-use borrow.Rule.Slice.PartMut.{postOf, putMid}
+use Rattle.lists.specs.Prelude.{_≡_, refl, sym, ap, ap₂, _∙_, Bool, true, cond, _&&_, _||_, List, [], _∷_, _++_, append-assoc, ℕ, _+_, _-_, _*_, _≤_, _<_}
+use Rattle.lists.specs.Prelude.{mul-le-mul-right, mul-assoc, mul-left-comm, add-mul, arith, digits-lt, ltb, eqb, length, getD, take, drop, replicate, length-append}
+use Rattle.lists.specs.Prelude.{List·getD-append, length-take-le, getD-take, take-at, drop-at, drop-drop, Float, nan, lt-ltb, eq-eqb, postOf, putMid}
 use Rattle.lists.specs.Indexed.{allBelow, join}
 use Rattle.lists.specs.Agreement.{all-agree, join-agree, each-all}
 use Rattle.lists.specs.Reading.{length-join}
 use Rattle.complex.specs.declared.Complex.{Complex}
 use Rattle.complex.specs.Arithmetic.{plusZero, czero, cfinite}
 use Rattle.complex.specs.Numbers.{pair}
-use Rattle.matrix.specs.Block.{layOut}
+use Rattle.block.specs.Block.{layOut}
 use Rattle.two_time.specs.Layout.{place, readAs}
 use Rattle.two_time.specs.Sums.{dysonTerms}
 use Rattle.two_time.specs.WeightedSum.{weightedSum, finiteSum}
 use Rattle.two_time.specs.Agreement.{AgreeTerms, weighted-agree}
 use Rattle.two_time.specs.OneTest.{one-test}
-use Rattle.two_time.specs.Filling.{length-block}
-use Rattle.two_time.specs.Calls.{sizeLines}
-use Rattle.two_time.specs.Outcome.{SumsLeft, summedAnswer, summedOut}
+use Rattle.block.specs.Length.{length-block}
+use Rattle.two_time.specs.Calls.{sizeChecks}
+use Rattle.two_time.specs.Outcome.{SumsOutcome, summedAnswer, summedOut}
 use Rattle.groups.specs.Zero.{join-replicate, block-zero}
-use Rattle.groups.specs.Forward.{forwardSum, forwardEntry, forwardBlock, forwardFine, rowAt}
-use Rattle.sums.specs.Parts.{join-add, all-add, and-true}
+use Rattle.groups.specs.Forward.{forwardSum, forwardEntry, forwardBlock, forwardFinite, rowAt}
+use Rattle.lanes.specs.Filled.{join-add, all-add, and-true}
 
 -- ---- a list with a part written
 
@@ -63,18 +53,18 @@ earlier points n t s u c e hs hu hc he =
     let h : ((s * points + u) * n + c) * n + e < t * points * n * n = digits-lt (digits-lt (digits-lt hs hu) hc) he in
     omega (arith, row-is points n t)
 
-module _ (points n : ℕ) (times free kernel green : List Float) (t : ℕ) (ht : t < points) (room : rowAt points n t ≤ length green) (k : ℕ) (ys now : List Float)
-    (is : now ≡ putMid (rowAt points n t) k green ys) where
+module _ (points n : ℕ) (times free kernel retarded : List Float) (t : ℕ) (ht : t < points) (room : rowAt points n t ≤ length retarded) (k : ℕ) (ys now : List Float)
+    (is : now ≡ putMid (rowAt points n t) k retarded ys) where
   -- an earlier row is read as it was
-  read-below : (s u c e : ℕ) → s < t → u < points → c < n → e < n → readAs points n now s u c e ≡ readAs points n green s u c e
+  read-below : (s u c e : ℕ) → s < t → u < points → c < n → e < n → readAs points n now s u c e ≡ readAs points n retarded s u c e
   read-below s u c e hs hu hc he =
       let at = place points n s u c e in
       let h = earlier points n t s u c e hs hu hc he in
-      let number : (i : ℕ) → i < rowAt points n t → getD now i nan ≡ getD green i nan = λ i l. ap (λ (w : List Float). getD w i nan) is ∙ put-below (rowAt points n t) k i green ys nan room l in
+      let number : (i : ℕ) → i < rowAt points n t → getD now i nan ≡ getD retarded i nan = λ i l. ap (λ (w : List Float). getD w i nan) is ∙ put-below (rowAt points n t) k i retarded ys nan room l in
       λ j. record { re = number at (omega arith) j; im = number (at + 1) h j }
 
   module _ (u a b : ℕ) (hu : u < points) (ha : a < n) (hb : b < n) where
-    agreeing : AgreeTerms n (dysonTerms times (readAs points n free) (readAs points n kernel) (readAs points n now) t u) (dysonTerms times (readAs points n free) (readAs points n kernel) (readAs points n green) t u)
+    agreeing : AgreeTerms n (dysonTerms times (readAs points n free) (readAs points n kernel) (readAs points n now) t u) (dysonTerms times (readAs points n free) (readAs points n kernel) (readAs points n retarded) t u)
     agreeing =
         record {
           from = refl;
@@ -86,82 +76,82 @@ module _ (points n : ℕ) (times free kernel green : List Float) (t : ℕ) (ht :
         }
 
     -- so the sum is that over the list as it was
-    same-sum : weightedSum n (dysonTerms times (readAs points n free) (readAs points n kernel) (readAs points n now) t u) a b ≡ weightedSum n (forwardSum points n times free kernel green t u) a b
+    same-sum : weightedSum n (dysonTerms times (readAs points n free) (readAs points n kernel) (readAs points n now) t u) a b ≡ weightedSum n (forwardSum points n times free kernel retarded t u) a b
     same-sum = weighted-agree n _ _ agreeing a b ha hb
 
-    same-test : finiteSum n (dysonTerms times (readAs points n free) (readAs points n kernel) (readAs points n now) t u) a b ≡ finiteSum n (forwardSum points n times free kernel green t u) a b
+    same-test : finiteSum n (dysonTerms times (readAs points n free) (readAs points n kernel) (readAs points n now) t u) a b ≡ finiteSum n (forwardSum points n times free kernel retarded t u) a b
     same-test =
         one-test n (dysonTerms times (readAs points n free) (readAs points n kernel) (readAs points n now) t u) a b
-        ∙ ap (λ (z : Complex). eqb (t - u) 0 || cfinite z) same-sum ∙ sym (one-test n (forwardSum points n times free kernel green t u) a b)
+        ∙ ap (λ (z : Complex). eqb (t - u) 0 || cfinite z) same-sum ∙ sym (one-test n (forwardSum points n times free kernel retarded t u) a b)
 
   -- and so are its test and its block
-  pub same-fine : (u : ℕ) → u < points → forwardFine points n times free kernel now t u ≡ forwardFine points n times free kernel green t u
-  unfolding forwardFine
-  same-fine u hu = all-agree n _ _ (λ a ha. all-agree n _ _ (λ b hb. same-test u a b hu ha hb))
+  pub same-finite : (u : ℕ) → u < points → forwardFinite points n times free kernel now t u ≡ forwardFinite points n times free kernel retarded t u
+  unfolding forwardFinite
+  same-finite u hu = all-agree n _ _ (λ a ha. all-agree n _ _ (λ b hb. same-test u a b hu ha hb))
 
-  pub same-block : (u : ℕ) → u < points → forwardBlock points n times free kernel now t u ≡ forwardBlock points n times free kernel green t u
+  pub same-block : (u : ℕ) → u < points → forwardBlock points n times free kernel now t u ≡ forwardBlock points n times free kernel retarded t u
   unfolding layOut forwardEntry
   same-block u hu = join-agree n _ _ (λ a ha. join-agree n _ _ (λ b hb. ap (λ (z : Complex). pair (cond (ltb t u) czero z)) (same-sum u a b hu ha hb)))
 
-pub length-forward : (points n : ℕ) (times free kernel green : List Float) (t k : ℕ) → length (join k (forwardBlock points n times free kernel green t)) ≡ k * (2 * (n * n))
-length-forward points n times free kernel green t k = length-join k (2 * (n * n)) _ (λ u h. length-block n (forwardEntry points n times free kernel green t u))
+pub length-forward : (points n : ℕ) (times free kernel retarded : List Float) (t k : ℕ) → length (join k (forwardBlock points n times free kernel retarded t)) ≡ k * (2 * (n * n))
+length-forward points n times free kernel retarded t k = length-join k (2 * (n * n)) _ (λ u h. length-block n (forwardEntry points n times free kernel retarded t u))
 
 -- one more group is written
-pub forward-more : (points n : ℕ) (times free kernel green : List Float) (t u m w : ℕ) → rowAt points n t ≤ length green → w ≡ m * (2 * (n * n))
-    → putMid (rowAt points n t + u * (2 * (n * n))) w (putMid (rowAt points n t) (u * (2 * (n * n))) green (join u (forwardBlock points n times free kernel green t))) (join m (λ p. forwardBlock points n times free kernel green t (u + p)))
-    ≡ putMid (rowAt points n t) ((u + m) * (2 * (n * n))) green (join (u + m) (forwardBlock points n times free kernel green t))
-forward-more points n times free kernel green t u m w room e =
+pub forward-more : (points n : ℕ) (times free kernel retarded : List Float) (t u m w : ℕ) → rowAt points n t ≤ length retarded → w ≡ m * (2 * (n * n))
+    → putMid (rowAt points n t + u * (2 * (n * n))) w (putMid (rowAt points n t) (u * (2 * (n * n))) retarded (join u (forwardBlock points n times free kernel retarded t))) (join m (λ p. forwardBlock points n times free kernel retarded t (u + p)))
+    ≡ putMid (rowAt points n t) ((u + m) * (2 * (n * n))) retarded (join (u + m) (forwardBlock points n times free kernel retarded t))
+forward-more points n times free kernel retarded t u m w room e =
     let v = 2 * (n * n) in
-    let f = forwardBlock points n times free kernel green t in
-    ap (λ (i : ℕ). putMid (rowAt points n t + u * v) i (putMid (rowAt points n t) (u * v) green (join u f)) (join m (λ p. f (u + p)))) e
-    ∙ put-put (rowAt points n t) (u * v) (m * v) green (join u f) (join m (λ p. f (u + p))) room (length-forward points n times free kernel green t u)
-    ∙ ap₂ (λ (i : ℕ) (ys : List Float). putMid (rowAt points n t) i green ys) (sym (add-mul u m v)) (sym (join-add u f m))
+    let f = forwardBlock points n times free kernel retarded t in
+    ap (λ (i : ℕ). putMid (rowAt points n t + u * v) i (putMid (rowAt points n t) (u * v) retarded (join u f)) (join m (λ p. f (u + p)))) e
+    ∙ put-put (rowAt points n t) (u * v) (m * v) retarded (join u f) (join m (λ p. f (u + p))) room (length-forward points n times free kernel retarded t u)
+    ∙ ap₂ (λ (i : ℕ) (ys : List Float). putMid (rowAt points n t) i retarded ys) (sym (add-mul u m v)) (sym (join-add u f m))
 
 -- ---- the row
 
-module _ (points n : ℕ) (times free kernel green : List Float) (t : ℕ) where
+module _ (points n : ℕ) (times free kernel retarded : List Float) (t : ℕ) where
   -- `forward_row`: the slice with row t in its place
-  unfoldable pub forwardRow : SumsLeft
+  unfoldable pub forwardRow : SumsOutcome
   forwardRow =
-      let answer = summedAnswer (sizeLines points n (ltb t points) (free ∷ kernel ∷ green ∷ [])) (allBelow points (forwardFine points n times free kernel green t)) in
-      record { answer = answer; out = summedOut answer (putMid (rowAt points n t) (points * (2 * (n * n))) green (join points (forwardBlock points n times free kernel green t))) green }
+      let answer = summedAnswer (sizeChecks points n (ltb t points) (free ∷ kernel ∷ retarded ∷ [])) (allBelow points (forwardFinite points n times free kernel retarded t)) in
+      record { answer = answer; out = summedOut answer (putMid (rowAt points n t) (points * (2 * (n * n))) retarded (join points (forwardBlock points n times free kernel retarded t))) retarded }
 
   -- above the diagonal nothing is made, and +0 stands
-  above-fine : (u : ℕ) → t < u → forwardFine points n times free kernel green t u ≡ true
-  unfolding forwardFine
-  above-fine u h = each-all n _ (λ a ha. each-all n _ (λ b hb. one-test n (forwardSum points n times free kernel green t u) a b ∙ rw (eq-eqb (t - u) 0 (omega arith))))
+  above-finite : (u : ℕ) → t < u → forwardFinite points n times free kernel retarded t u ≡ true
+  unfolding forwardFinite
+  above-finite u h = each-all n _ (λ a ha. each-all n _ (λ b hb. one-test n (forwardSum points n times free kernel retarded t u) a b ∙ rw (eq-eqb (t - u) 0 (omega arith))))
 
-  pub row-fine : t < points → allBelow points (forwardFine points n times free kernel green t) ≡ allBelow (t + 1) (forwardFine points n times free kernel green t)
-  row-fine ht =
-      let fine = forwardFine points n times free kernel green t in
+  pub row-finite : t < points → allBelow points (forwardFinite points n times free kernel retarded t) ≡ allBelow (t + 1) (forwardFinite points n times free kernel retarded t)
+  row-finite ht =
+      let finite = forwardFinite points n times free kernel retarded t in
       let rest : ℕ = points - (t + 1) in
-      ap (λ (k : ℕ). allBelow k fine) (let e : points ≡ t + 1 + rest = omega arith in e) ∙ all-add (t + 1) fine rest
-      ∙ ap (λ (f : Bool). allBelow (t + 1) fine && f) (each-all rest _ (λ k hk. above-fine (t + 1 + k) (omega arith))) ∙ and-true (allBelow (t + 1) fine)
+      ap (λ (k : ℕ). allBelow k finite) (let e : points ≡ t + 1 + rest = omega arith in e) ∙ all-add (t + 1) finite rest
+      ∙ ap (λ (f : Bool). allBelow (t + 1) finite && f) (each-all rest _ (λ k hk. above-finite (t + 1 + k) (omega arith))) ∙ and-true (allBelow (t + 1) finite)
 
-  zero-entry : (u a b : ℕ) → t < u → forwardEntry points n times free kernel green t u a b ≡ czero
+  zero-entry : (u a b : ℕ) → t < u → forwardEntry points n times free kernel retarded t u a b ≡ czero
   unfolding forwardEntry
   zero-entry u a b h = rw (lt-ltb t u h)
 
-  above-laid : (u : ℕ) → t < u → forwardBlock points n times free kernel green t u ≡ replicate (2 * (n * n)) plusZero
-  above-laid u h = block-zero n (forwardEntry points n times free kernel green t u) (λ a b ha hb. zero-entry u a b h)
+  above-laid : (u : ℕ) → t < u → forwardBlock points n times free kernel retarded t u ≡ replicate (2 * (n * n)) plusZero
+  above-laid u h = block-zero n (forwardEntry points n times free kernel retarded t u) (λ a b ha hb. zero-entry u a b h)
 
-  pub row-laid : t < points → join points (forwardBlock points n times free kernel green t)
-      ≡ join (t + 1) (forwardBlock points n times free kernel green t) ++ replicate ((points - (t + 1)) * (2 * (n * n))) plusZero
+  pub row-laid : t < points → join points (forwardBlock points n times free kernel retarded t)
+      ≡ join (t + 1) (forwardBlock points n times free kernel retarded t) ++ replicate ((points - (t + 1)) * (2 * (n * n))) plusZero
   row-laid ht =
-      let f = forwardBlock points n times free kernel green t in
+      let f = forwardBlock points n times free kernel retarded t in
       let rest : ℕ = points - (t + 1) in
       ap (λ (k : ℕ). join k f) (let e : points ≡ t + 1 + rest = omega arith in e) ∙ join-add (t + 1) f rest
       ∙ ap (λ (ys : List Float). join (t + 1) f ++ ys) (join-agree rest _ _ (λ k hk. above-laid (t + 1 + k) (omega arith)) ∙ join-replicate rest (2 * (n * n)) plusZero)
 
   -- row t once the blocks to the diagonal are written and the others cleared
-  pub row-cleared : (w : ℕ) → t < points → rowAt points n t ≤ length green → w ≡ (points - (t + 1)) * (2 * (n * n))
-      → putMid (rowAt points n t + (t + 1) * (2 * (n * n))) w (putMid (rowAt points n t) ((t + 1) * (2 * (n * n))) green (join (t + 1) (forwardBlock points n times free kernel green t))) (replicate w plusZero)
-      ≡ putMid (rowAt points n t) (points * (2 * (n * n))) green (join points (forwardBlock points n times free kernel green t))
+  pub row-cleared : (w : ℕ) → t < points → rowAt points n t ≤ length retarded → w ≡ (points - (t + 1)) * (2 * (n * n))
+      → putMid (rowAt points n t + (t + 1) * (2 * (n * n))) w (putMid (rowAt points n t) ((t + 1) * (2 * (n * n))) retarded (join (t + 1) (forwardBlock points n times free kernel retarded t))) (replicate w plusZero)
+      ≡ putMid (rowAt points n t) (points * (2 * (n * n))) retarded (join points (forwardBlock points n times free kernel retarded t))
   row-cleared w ht room e =
       let v = 2 * (n * n) in
-      let f = forwardBlock points n times free kernel green t in
-      put-put (rowAt points n t) ((t + 1) * v) w green (join (t + 1) f) (replicate w plusZero) room (length-forward points n times free kernel green t (t + 1))
-      ∙ ap₂ (λ (i : ℕ) (ys : List Float). putMid (rowAt points n t) i green ys)
+      let f = forwardBlock points n times free kernel retarded t in
+      put-put (rowAt points n t) ((t + 1) * v) w retarded (join (t + 1) f) (replicate w plusZero) room (length-forward points n times free kernel retarded t (t + 1))
+      ∙ ap₂ (λ (i : ℕ) (ys : List Float). putMid (rowAt points n t) i retarded ys)
       (ap (λ (m : ℕ). (t + 1) * v + m) e ∙ sym (add-mul (t + 1) (points - (t + 1)) v) ∙ ap (λ (k : ℕ). k * v) (let h : t + 1 + (points - (t + 1)) ≡ points = omega arith in h))
       (ap (λ (m : ℕ). join (t + 1) f ++ replicate m plusZero) e ∙ sym (row-laid ht))
 

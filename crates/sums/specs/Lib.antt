@@ -1,3 +1,2 @@
 -- Rows of sums, and Dyson's row: what is built of groups.
-pub mod Parts
 pub mod Forward

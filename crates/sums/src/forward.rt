@@ -1,13 +1,9 @@
 // Row t of Dyson's G (document 01, Dyson), group by group from the rows before it.
-ghost use mathlib.Core.Path.{_≡_};
-ghost use mathlib.Core.Bool.{true};
-ghost use mathlib.Core.List.{[], _∷_};
-ghost use Prim.Native.Nat.{_+_, _*_, _<_};
-ghost use borrow.Rule.Slice.PartMut.{putMid};
+ghost use Rattle.lists.specs.Prelude.{_≡_, true, [], _∷_, _+_, _*_, _<_, putMid};
 ghost use Rattle.lists.specs.Indexed.{allBelow, join};
 ghost use Rattle.refusal.specs.declared.Verdict.the-variants.{Pass};
-ghost use Rattle.two_time.specs.Calls.{sizeLines};
-ghost use Rattle.groups.specs.Forward.{forwardFine, forwardBlock};
+ghost use Rattle.two_time.specs.Calls.{sizeChecks};
+ghost use Rattle.groups.specs.Forward.{forwardFinite, forwardBlock};
 use crate::group_places;
 use groups::forward_group;
 
@@ -19,16 +15,26 @@ pub(crate) fn blocks(
     points: usize,
     orbitals: usize,
     t: usize,
-    green: &mut [f64],
+    retarded: &mut [f64],
 ) -> bool
-    requires { ⌜ (t < points) × (sizeLines points orbitals true (now free ∷ now kernel ∷ now green ∷ []) ≡ Pass) ⌝ }
-    ensures { λ r. ⌜ (r ≡ allBelow (t + 1) (forwardFine points orbitals (now (times .entry)) (now (free .entry)) (now (kernel .entry)) (now (green .entry)) t))
-        × (r ≡ true → now (green .exit) ≡ putMid (t * (points * (2 * (orbitals * orbitals)))) ((t + 1) * (2 * (orbitals * orbitals))) (now (green .entry)) (join (t + 1) (forwardBlock points orbitals (now (times .entry)) (now (free .entry)) (now (kernel .entry)) (now (green .entry)) t))) ⌝ }
+    requires { ⌜ (t < points) × (sizeChecks points orbitals true (now free ∷ now kernel ∷ now retarded ∷ []) ≡ Pass) ⌝ }
+    ensures { λ r. ⌜ (r ≡ allBelow (t + 1) (forwardFinite points orbitals (now (times .entry)) (now (free .entry)) (now (kernel .entry)) (now (retarded .entry)) t))
+        × (r ≡ true → now (retarded .exit) ≡ putMid (t * (points * (2 * (orbitals * orbitals)))) ((t + 1) * (2 * (orbitals * orbitals))) (now (retarded .entry)) (join (t + 1) (forwardBlock points orbitals (now (times .entry)) (now (free .entry)) (now (kernel .entry)) (now (retarded .entry)) t))) ⌝ }
 {
     let mut u = 0;
     while u < t + 1 {
         let places = group_places(t + 1 - u, orbitals);
-        let summed = forward_group(times, free, kernel, points, orbitals, t, u, places, green);
+        let summed = forward_group(
+            times,
+            free,
+            kernel,
+            points,
+            orbitals,
+            t,
+            u,
+            places,
+            retarded,
+        );
         if !summed.is_finite() {
             return false;
         }

@@ -1,25 +1,21 @@
 // The sums at all places, row by row and group by group (document 01, convolutions), and Dyson's row.
 mod forward;
 
-ghost use mathlib.Core.Path.{_≡_};
-ghost use mathlib.Core.Bool.{true};
-ghost use mathlib.Core.List.{[], _∷_};
-ghost use Prim.Native.Nat.{_*_, _<_, _≤_};
-ghost use lib.ListN.{length};
+ghost use Rattle.lists.specs.Prelude.{_≡_, true, [], _∷_, _*_, _<_, _≤_, length};
 ghost use Rattle.lists.specs.Indexed.{allBelow, join};
-ghost use Rattle.matrix.specs.Block.{layOut};
+ghost use Rattle.block.specs.Block.{layOut};
 ghost use Rattle.refusal.specs.declared.Verdict.the-variants.{Pass};
 ghost use Rattle.two_time.specs.Layout.{lengthOf};
-ghost use Rattle.two_time.specs.Calls.{sizeLines};
-ghost use Rattle.two_time.specs.Sums.{sumsNumbers, sumsFine};
+ghost use Rattle.two_time.specs.Calls.{sizeChecks};
+ghost use Rattle.two_time.specs.Sums.{sumsNumbers, sumsFinite};
 ghost use Rattle.two_time.specs.Outcome.{summed};
-ghost use Rattle.groups.specs.PlaceSums.{sumAt, blockFine};
+ghost use Rattle.groups.specs.PlaceSums.{sumAt, blockFinite};
 ghost use Rattle.sums.specs.Forward.{forwardRow};
 use groups::group;
 use refusal::Verdict;
+use two_time::checks::check_sizes;
+use two_time::checks::has_length;
 use two_time::layout::clear;
-use two_time::lines::has_length;
-use two_time::lines::sizes;
 use two_time::sums::Summed;
 use two_time::sums::Sums;
 
@@ -43,9 +39,9 @@ fn row(
     t: usize,
     out: &mut [f64],
 ) -> bool
-    requires { ⌜ (t < points) × (sizeLines points orbitals true (now left ∷ now right ∷ []) ≡ Pass) ⌝ }
+    requires { ⌜ (t < points) × (sizeChecks points orbitals true (now left ∷ now right ∷ []) ≡ Pass) ⌝ }
     requires { ⌜ length (now out) ≡ points * (2 * (orbitals * orbitals)) ⌝ }
-    ensures { λ r. ⌜ (r ≡ allBelow points (λ u. blockFine sums points orbitals (now (times .entry)) (now (left .entry)) (now (right .entry)) t u))
+    ensures { λ r. ⌜ (r ≡ allBelow points (λ u. blockFinite sums points orbitals (now (times .entry)) (now (left .entry)) (now (right .entry)) t u))
         × (r ≡ true → now (out .exit) ≡ join points (λ u. layOut orbitals orbitals (sumAt sums points orbitals (now (times .entry)) (now (left .entry)) (now (right .entry)) t u))) ⌝ }
 {
     let width = 2 * (orbitals * orbitals);
@@ -84,16 +80,16 @@ fn fill(
     orbitals: usize,
     out: &mut [f64],
 ) -> bool
-    requires { ⌜ sizeLines points orbitals true (now left ∷ now right ∷ []) ≡ Pass ⌝ }
+    requires { ⌜ sizeChecks points orbitals true (now left ∷ now right ∷ []) ≡ Pass ⌝ }
     requires { ⌜ length (now out) ≡ lengthOf points orbitals ⌝ }
-    ensures { λ r. ⌜ (r ≡ sumsFine sums points orbitals (now (times .entry)) (now (left .entry)) (now (right .entry)))
+    ensures { λ r. ⌜ (r ≡ sumsFinite sums points orbitals (now (times .entry)) (now (left .entry)) (now (right .entry)))
         × (r ≡ true → now (out .exit) ≡ sumsNumbers sums points orbitals (now (times .entry)) (now (left .entry)) (now (right .entry))) ⌝ }
 {
     let width = points * (2 * (orbitals * orbitals));
     for t in 0..points {
         let start = t * width;
         let end = start + width;
-        let fine = row(
+        let finite = row(
             sums,
             times,
             left,
@@ -103,7 +99,7 @@ fn fill(
             t,
             &mut out[start..end],
         );
-        if !fine {
+        if !finite {
             return false;
         }
     }
@@ -119,27 +115,26 @@ pub fn forward_row(
     points: usize,
     orbitals: usize,
     t: usize,
-    green: &mut [f64],
+    retarded: &mut [f64],
 ) -> Summed
-    ensures { λ r. ⌜ (r ≡ forwardRow points orbitals (now (times .entry)) (now (free .entry)) (now (kernel .entry)) (now (green .entry)) t .answer)
-        × (now (green .exit) ≡ forwardRow points orbitals (now (times .entry)) (now (free .entry)) (now (kernel .entry)) (now (green .entry)) t .out) ⌝ }
+    ensures { λ r. ⌜ (let made = forwardRow points orbitals (now (times .entry)) (now (free .entry)) (now (kernel .entry)) (now (retarded .entry)) t in (r ≡ made .answer) × (now (retarded .exit) ≡ made .out)) ⌝ }
 {
     let free_fits = has_length(points, orbitals, free);
     let kernel_fits = has_length(points, orbitals, kernel);
-    let green_fits = has_length(points, orbitals, green);
-    let fits = (t < points) & (free_fits & (kernel_fits & green_fits));
-    let verdict = sizes(points, orbitals, fits);
+    let retarded_fits = has_length(points, orbitals, retarded);
+    let fits = (t < points) & (free_fits & (kernel_fits & retarded_fits));
+    let verdict = check_sizes(points, orbitals, fits);
     let Verdict::Pass = verdict else {
         return Summed::Unfit;
     };
-    if forward::blocks(times, free, kernel, points, orbitals, t, green) {
+    if forward::blocks(times, free, kernel, points, orbitals, t, retarded) {
         let width = 2 * (orbitals * orbitals);
         let start = t * (points * width) + (t + 1) * width;
         let end = t * (points * width) + points * width;
-        clear(&mut green[start..end]);
+        clear(&mut retarded[start..end]);
         return Summed::Finite;
     }
-    clear(green);
+    clear(retarded);
     Summed::Overflow
 }
 
@@ -154,13 +149,12 @@ pub fn weighted_sums(
     orbitals: usize,
     out: &mut [f64],
 ) -> Summed
-    ensures { λ r. ⌜ (r ≡ summed sums points orbitals (now (times .entry)) (now (left .entry)) (now (right .entry)) (now (out .entry)) .answer)
-        × (now (out .exit) ≡ summed sums points orbitals (now (times .entry)) (now (left .entry)) (now (right .entry)) (now (out .entry)) .out) ⌝ }
+    ensures { λ r. ⌜ (let made = summed sums points orbitals (now (times .entry)) (now (left .entry)) (now (right .entry)) (now (out .entry)) in (r ≡ made .answer) × (now (out .exit) ≡ made .out)) ⌝ }
 {
     let left_fits = has_length(points, orbitals, left);
     let right_fits = has_length(points, orbitals, right);
     let out_fits = has_length(points, orbitals, out);
-    let verdict = sizes(points, orbitals, left_fits & (right_fits & out_fits));
+    let verdict = check_sizes(points, orbitals, left_fits & (right_fits & out_fits));
     let Verdict::Pass = verdict else {
         return Summed::Unfit;
     };

@@ -1,16 +1,12 @@
 -- What `term_of` and `span_of` answer.
-use mathlib.Core.Bool.{Bool, cond, _&&_}
-use mathlib.Core.List.{List}
-use Prim.Native.Nat.{ℕ, _+_, _-_, _*_, min}
-use lib.Dec.{leb, ltb}
-use lib.Ieee.{Float}
+use Rattle.lists.specs.Prelude.{Bool, cond, _&&_, List, ℕ, _+_, _-_, _*_, min, leb, ltb, Float}
 use Rattle.complex.specs.Arithmetic.{plusZero}
 use Rattle.two_time.specs.declared.sums.Sums.{Sums}
 use Rattle.terms.specs.declared.Term.{Term}
 use Rattle.terms.specs.declared.Span.{Span}
 use Rattle.terms.specs.Kinds.{lanesBelow, lanesAbove, commonWeight, endWeight, firstOf, lastOf}
 
--- s is a point, N and n are within the limits of line 2, and the places are at most 16
+-- s is a point, N and n are within the limits of check 2, and the places are at most 16
 abbrev pub termFits : ℕ → ℕ → ℕ → ℕ → Bool
 termFits points n s places = (ltb s points && leb points 256) && (leb n 16 && leb places 16)
 
@@ -36,7 +32,7 @@ termOf sums times points n t s u places =
     })
     noLanes
 
--- (t, u), .., (t, u + places − 1) are places, and N is within the limit of line 2
+-- (t, u), .., (t, u + places − 1) are places, and N is within the limit of check 2
 abbrev pub spanFits : ℕ → ℕ → ℕ → ℕ → Bool
 spanFits points t u places = leb (u + places) points && (ltb t points && leb points 256)
 

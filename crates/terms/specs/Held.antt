@@ -1,17 +1,10 @@
 -- Whether the sum at a place has s, and by what weight, told by the kind of sums and where the place lies. Assumes nothing.
-use mathlib.Core.Path.{_≡_, refl, ap}
-use mathlib.Core.Bool.{Bool, true, _&&_}
-use mathlib.Core.List.{List}
-use Prim.Native.Nat.{ℕ, suc, _+_, _-_, _≤_, _<_}
-use native.Mathlib.Omega.{arith}
-use lib.Dec.{leb, ltb}
-use lib.Ieee.{Float}
-use borrow.Author.Tests.{le-leb, lt-leb, lt-ltb, le-ltb, ne-eqb}
+use Rattle.lists.specs.Prelude.{_≡_, refl, ap, Bool, true, _&&_, List, ℕ, suc, _+_, _-_, _≤_, _<_, arith, leb, ltb, Float, le-leb, lt-leb, lt-ltb, le-ltb, ne-eqb}
 use Rattle.lists.specs.Agreement.{never}
-use Rattle.matrix.specs.Operations.{product}
+use Rattle.block.specs.Operations.{product}
 use Rattle.grid.specs.Weights.{intervalWeight}
 use Rattle.two_time.specs.declared.sums.Sums.{Sums}
-use Rattle.two_time.specs.declared.sums.Sums.the-variants.{Full, Causal, Mixed, Lesser, Advanced}
+use Rattle.two_time.specs.declared.sums.Sums.the-variants.{Full, Causal, LesserAdvanced, Lesser, AntiCausal}
 use Rattle.two_time.specs.Layout.{TwoTime}
 use Rattle.two_time.specs.WeightedSum.{Terms}
 use Rattle.two_time.specs.Sums.{termsAt}
@@ -42,9 +35,9 @@ module _ (points t u s : ℕ) (times : List Float) (x y : TwoTime) where
   unfolding termsAt factorOf rightBy
   product-is Full n a b = refl
   product-is Causal n a b = refl
-  product-is Mixed n a b = refl
+  product-is LesserAdvanced n a b = refl
   product-is Lesser n a b = refl
-  product-is Advanced n a b = refl
+  product-is AntiCausal n a b = refl
 
   module _ (hs : s < points) where
     -- at a place before s
@@ -52,48 +45,48 @@ module _ (points t u s : ℕ) (times : List Float) (x y : TwoTime) where
     unfolding termsAt lanesBelow Reaches
     held-below Full r h = rw (le-leb 0 s (omega arith), lt-ltb s (0 + points) (omega arith))
     held-below Causal r h = rw (le-leb u s (omega arith), lt-ltb s (u + (suc t - u)) (omega arith))
-    held-below Mixed r h = rw (le-leb 0 s (omega arith), le-ltb s (0 + (suc u - 0)) (omega arith))
+    held-below LesserAdvanced r h = rw (le-leb 0 s (omega arith), le-ltb s (0 + (suc u - 0)) (omega arith))
     held-below Lesser r h = rw (le-leb 0 s (omega arith), lt-ltb s (0 + (suc t - 0)) (omega arith))
-    held-below Advanced r h = rw (le-leb t s r, le-ltb s (t + (suc u - t)) (omega arith))
+    held-below AntiCausal r h = rw (le-leb t s r, le-ltb s (t + (suc u - t)) (omega arith))
 
     pub weight-below : (sums : Sums) → Reaches sums t s → u < s → lanesBelow sums ≡ true → at sums .weight s ≡ commonWeight sums times points t s
     unfolding termsAt lanesBelow Reaches commonWeight
     weight-below Full r h e = refl
     weight-below Causal r h e = after-start times s u 0 t h (omega arith) r
-    weight-below Mixed r h e = never e
+    weight-below LesserAdvanced r h e = never e
     weight-below Lesser r h e = refl
-    weight-below Advanced r h e = never e
+    weight-below AntiCausal r h e = never e
 
     -- at a place after s
     pub held-above : (sums : Sums) → Reaches sums t s → s < u → heldBy sums ≡ lanesAbove sums
     unfolding termsAt lanesAbove Reaches
     held-above Full r h = rw (le-leb 0 s (omega arith), lt-ltb s (0 + points) (omega arith))
     held-above Causal r h = rw (lt-leb u s h)
-    held-above Mixed r h = rw (le-leb 0 s (omega arith), lt-ltb s (0 + (suc u - 0)) (omega arith))
+    held-above LesserAdvanced r h = rw (le-leb 0 s (omega arith), lt-ltb s (0 + (suc u - 0)) (omega arith))
     held-above Lesser r h = rw (le-leb 0 s (omega arith), lt-ltb s (0 + (suc t - 0)) (omega arith))
-    held-above Advanced r h = rw (le-leb t s r, lt-ltb s (t + (suc u - t)) (omega arith))
+    held-above AntiCausal r h = rw (le-leb t s r, lt-ltb s (t + (suc u - t)) (omega arith))
 
     pub weight-above : (sums : Sums) → Reaches sums t s → s < u → lanesAbove sums ≡ true → at sums .weight s ≡ commonWeight sums times points t s
     unfolding termsAt lanesAbove Reaches commonWeight
     weight-above Full r h e = refl
     weight-above Causal r h e = never e
-    weight-above Mixed r h e = before-end times s 0 u (s + 1) (omega arith) h (omega arith)
+    weight-above LesserAdvanced r h e = before-end times s 0 u (s + 1) (omega arith) h (omega arith)
     weight-above Lesser r h e = refl
-    weight-above Advanced r h e = before-end times s t u (s + 1) r h (omega arith)
+    weight-above AntiCausal r h e = before-end times s t u (s + 1) r h (omega arith)
 
     -- at place s
     pub held-here : (sums : Sums) → Reaches sums t s → u ≡ s → heldBy sums ≡ true
     unfolding termsAt Reaches
     held-here Full r h = rw (le-leb 0 s (omega arith), lt-ltb s (0 + points) (omega arith))
     held-here Causal r h = rw (le-leb u s (omega arith), lt-ltb s (u + (suc t - u)) (omega arith))
-    held-here Mixed r h = rw (le-leb 0 s (omega arith), lt-ltb s (0 + (suc u - 0)) (omega arith))
+    held-here LesserAdvanced r h = rw (le-leb 0 s (omega arith), lt-ltb s (0 + (suc u - 0)) (omega arith))
     held-here Lesser r h = rw (le-leb 0 s (omega arith), lt-ltb s (0 + (suc t - 0)) (omega arith))
-    held-here Advanced r h = rw (le-leb t s r, lt-ltb s (t + (suc u - t)) (omega arith))
+    held-here AntiCausal r h = rw (le-leb t s r, lt-ltb s (t + (suc u - t)) (omega arith))
 
     pub weight-here : (sums : Sums) → u ≡ s → at sums .weight s ≡ endWeight sums times points t s
     unfolding termsAt endWeight
     weight-here Full h = refl
     weight-here Causal h = ap (λ (v : ℕ). intervalWeight times s v t) h
-    weight-here Mixed h = ap (λ (v : ℕ). intervalWeight times s 0 v) h
+    weight-here LesserAdvanced h = ap (λ (v : ℕ). intervalWeight times s 0 v) h
     weight-here Lesser h = refl
-    weight-here Advanced h = ap (λ (v : ℕ). intervalWeight times s t v) h
+    weight-here AntiCausal h = ap (λ (v : ℕ). intervalWeight times s t v) h

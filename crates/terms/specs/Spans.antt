@@ -1,12 +1,7 @@
 -- Which s a row of places has: every term of every place, and no other that the row does not reach. Assumes nothing.
-use mathlib.Core.Path.{_≡_}
-use mathlib.Core.List.{List}
-use Prim.Native.Nat.{ℕ, _+_, _-_, _≤_, _<_}
-use native.Mathlib.Omega.{arith}
-use lib.Ieee.{Float}
-use borrow.Author.Tests.{le-leb, lt-ltb}
+use Rattle.lists.specs.Prelude.{_≡_, List, ℕ, _+_, _-_, _≤_, _<_, arith, Float, le-leb, lt-ltb}
 use Rattle.two_time.specs.declared.sums.Sums.{Sums}
-use Rattle.two_time.specs.declared.sums.Sums.the-variants.{Full, Causal, Mixed, Lesser, Advanced}
+use Rattle.two_time.specs.declared.sums.Sums.the-variants.{Full, Causal, LesserAdvanced, Lesser, AntiCausal}
 use Rattle.two_time.specs.Layout.{TwoTime}
 use Rattle.two_time.specs.Sums.{termsAt}
 use Rattle.terms.specs.declared.Span.{Span}
@@ -18,42 +13,42 @@ module _ (points t u places : ℕ) (ht : t < points) (hu : u + places ≤ points
   unfolding firstOf lastOf
   first-last Full = omega arith
   first-last Causal = omega arith
-  first-last Mixed = omega arith
+  first-last LesserAdvanced = omega arith
   first-last Lesser = omega arith
-  first-last Advanced = omega arith
+  first-last AntiCausal = omega arith
 
   pub last-most : (sums : Sums) → lastOf sums points t u places ≤ points
   unfolding lastOf
   last-most Full = omega arith
   last-most Causal = omega arith
-  last-most Mixed = omega arith
+  last-most LesserAdvanced = omega arith
   last-most Lesser = omega arith
-  last-most Advanced = omega arith
+  last-most AntiCausal = omega arith
 
   pub between : (sums : Sums) (s : ℕ) → firstOf sums t u ≤ s → s < lastOf sums points t u places → Reaches sums t s
   unfolding firstOf lastOf Reaches
   between Full s a b = omega arith
   between Causal s a b = omega arith
-  between Mixed s a b = omega arith
+  between LesserAdvanced s a b = omega arith
   between Lesser s a b = omega arith
-  between Advanced s a b = omega arith
+  between AntiCausal s a b = omega arith
 
   module _ (times : List Float) (x y : TwoTime) (c : ℕ) (h : c < places) where
     pub first-least : (sums : Sums) → firstOf sums t u ≤ termsAt sums points times x y t (u + c) .from
     unfolding firstOf termsAt
     first-least Full = omega arith
     first-least Causal = omega arith
-    first-least Mixed = omega arith
+    first-least LesserAdvanced = omega arith
     first-least Lesser = omega arith
-    first-least Advanced = omega arith
+    first-least AntiCausal = omega arith
 
     pub last-enough : (sums : Sums) → termsAt sums points times x y t (u + c) .count ≤ lastOf sums points t u places - termsAt sums points times x y t (u + c) .from
     unfolding lastOf termsAt
     last-enough Full = omega arith
     last-enough Causal = omega arith
-    last-enough Mixed = omega arith
+    last-enough LesserAdvanced = omega arith
     last-enough Lesser = omega arith
-    last-enough Advanced = omega arith
+    last-enough AntiCausal = omega arith
 
 -- what a loop from the first to before the last serves
 pub record Spanned (sums : Sums) (points t u places : ℕ) (span : Span) : Type 0 where

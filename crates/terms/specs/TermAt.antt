@@ -1,12 +1,5 @@
 -- What `term_of` answers within the limits, field by field, and how large its ranges are. Assumes nothing.
-use mathlib.Core.Path.{_≡_, refl}
-use mathlib.Core.Bool.{Bool, true, false, cond}
-use mathlib.Core.List.{List}
-use Prim.Native.Nat.{ℕ, _+_, _-_, _*_, _≤_, _<_, min}
-use native.Mathlib.Omega.{arith}
-use lib.Dec.{ltb}
-use lib.Ieee.{Float}
-use borrow.Author.Tests.{le-leb, lt-ltb}
+use Rattle.lists.specs.Prelude.{_≡_, refl, Bool, true, false, cond, List, ℕ, _+_, _-_, _*_, _≤_, _<_, min, arith, ltb, Float, le-leb, lt-ltb}
 use Rattle.complex.specs.Arithmetic.{plusZero}
 use Rattle.two_time.specs.declared.sums.Sums.{Sums}
 use Rattle.terms.specs.declared.Term.{Term}

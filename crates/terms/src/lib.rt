@@ -1,14 +1,11 @@
 // For each kind of sums, the terms of a group of neighbouring places of a row: which s it has, to which of its lanes term s goes, and by what weight. Lane
 // p·n + b is column b of the group's place p.
-ghost use mathlib.Core.Path.{_≡_};
-ghost use mathlib.Core.Bool.{cond};
-ghost use Prim.Native.Nat.{_+_, _-_, _<_, _≤_, min, max};
-ghost use lib.Dec.{ltb};
+ghost use Rattle.lists.specs.Prelude.{_≡_, cond, _+_, _-_, _<_, _≤_, min, max, ltb};
 ghost use Rattle.complex.specs.Arithmetic.{plusZero};
 ghost use Rattle.terms.specs.Kinds.{factorOf, lanesBelow, lanesAbove, commonWeight, endWeight, firstOf, lastOf};
 ghost use Rattle.terms.specs.Calls.{termOf, spanFits, spanOf};
 use grid::full_weight;
-use grid::trapezoid_weight;
+use grid::interval_weight;
 use two_time::sums::Sums;
 
 // The right factor at (s, t').
@@ -42,11 +39,11 @@ pub fn factor_of(sums: Sums) -> Factor
     ensures { λ r. ⌜ r ≡ factorOf sums ⌝ }
 {
     match sums {
-        Sums::Mixed => Factor::Adjoint,
+        Sums::LesserAdvanced => Factor::Adjoint,
         Sums::Full => Factor::Stored,
         Sums::Causal => Factor::Stored,
         Sums::Lesser => Factor::Stored,
-        Sums::Advanced => Factor::Stored,
+        Sums::AntiCausal => Factor::Stored,
     }
 }
 
@@ -57,9 +54,9 @@ fn below_end(sums: Sums, before: usize) -> usize
     match sums {
         Sums::Full => before,
         Sums::Causal => before,
-        Sums::Mixed => 0,
+        Sums::LesserAdvanced => 0,
         Sums::Lesser => before,
-        Sums::Advanced => 0,
+        Sums::AntiCausal => 0,
     }
 }
 
@@ -69,9 +66,9 @@ fn above_start(sums: Sums, after: usize, places: usize) -> usize
     match sums {
         Sums::Full => after,
         Sums::Causal => places,
-        Sums::Mixed => after,
+        Sums::LesserAdvanced => after,
         Sums::Lesser => after,
-        Sums::Advanced => after,
+        Sums::AntiCausal => after,
     }
 }
 
@@ -83,10 +80,10 @@ fn common_weight(sums: Sums, times: &[f64], points: usize, t: usize, s: usize) -
     let next = s + 1;
     match sums {
         Sums::Full => full_weight(times, points, s),
-        Sums::Causal => trapezoid_weight(times, s, 0, t),
-        Sums::Mixed => trapezoid_weight(times, s, 0, next),
-        Sums::Lesser => trapezoid_weight(times, s, 0, t),
-        Sums::Advanced => trapezoid_weight(times, s, t, next),
+        Sums::Causal => interval_weight(times, s, 0, t),
+        Sums::LesserAdvanced => interval_weight(times, s, 0, next),
+        Sums::Lesser => interval_weight(times, s, 0, t),
+        Sums::AntiCausal => interval_weight(times, s, t, next),
     }
 }
 
@@ -95,10 +92,10 @@ fn end_weight(sums: Sums, times: &[f64], points: usize, t: usize, s: usize) -> f
 {
     match sums {
         Sums::Full => full_weight(times, points, s),
-        Sums::Causal => trapezoid_weight(times, s, s, t),
-        Sums::Mixed => trapezoid_weight(times, s, 0, s),
-        Sums::Lesser => trapezoid_weight(times, s, 0, t),
-        Sums::Advanced => trapezoid_weight(times, s, t, s),
+        Sums::Causal => interval_weight(times, s, s, t),
+        Sums::LesserAdvanced => interval_weight(times, s, 0, s),
+        Sums::Lesser => interval_weight(times, s, 0, t),
+        Sums::AntiCausal => interval_weight(times, s, t, s),
     }
 }
 
@@ -184,9 +181,9 @@ fn first_of(sums: Sums, t: usize, u: usize) -> usize
     match sums {
         Sums::Full => 0,
         Sums::Causal => u,
-        Sums::Mixed => 0,
+        Sums::LesserAdvanced => 0,
         Sums::Lesser => 0,
-        Sums::Advanced => t,
+        Sums::AntiCausal => t,
     }
 }
 
@@ -199,9 +196,9 @@ fn last_of(sums: Sums, points: usize, t: usize, u: usize, places: usize) -> usiz
     match sums {
         Sums::Full => points,
         Sums::Causal => most(u, row_end),
-        Sums::Mixed => places_end,
+        Sums::LesserAdvanced => places_end,
         Sums::Lesser => row_end,
-        Sums::Advanced => most(t, places_end),
+        Sums::AntiCausal => most(t, places_end),
     }
 }
 

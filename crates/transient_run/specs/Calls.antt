@@ -1,17 +1,12 @@
 -- Document 01, transient: the outcome of a transient run. "The device starts empty."
-use Prim.Native.Nat.{ℕ}
-use mathlib.Core.Bool.{Bool, _&&_}
-use mathlib.Core.List.{List, [], _∷_}
-use lib.Ieee.{Float}
+use Rattle.lists.specs.Prelude.{ℕ, Bool, _&&_, List, [], _∷_, Float}
 use Rattle.refusal.specs.declared.Verdict.{Verdict}
 use Rattle.refusal.specs.declared.Verdict.the-variants.{Pass, Refused}
-use Rattle.refusal.specs.Verdict.{_then_, afterwards}
-use Rattle.refusal.specs.Lines.{finiteWork}
-use Rattle.two_time.specs.declared.sums.Sums.the-variants.{Mixed, Lesser}
-use Rattle.two_time.specs.Layout.{readAs}
-use Rattle.two_time.specs.Sums.{sumsNumbers, sumsFine}
-use Rattle.two_time.specs.Calls.{inputLines}
-use Rattle.dyson.specs.Calls.{supportLines, kernelOf, greenOf, greenFine}
+use Rattle.refusal.specs.Verdict.{_then_, zeroed, afterwards}
+use Rattle.refusal.specs.Checks.{finiteWork}
+use Rattle.two_time.specs.declared.sums.Sums.the-variants.{LesserAdvanced, Lesser}
+use Rattle.two_time.specs.Sums.{sumsNumbers, sumsFinite}
+use Rattle.dyson.specs.Calls.{Equation, equationOf, kernelOf, retardedOf, solvedFinite, checksBefore}
 use Rattle.transient_run.specs.declared.Solved.{Solved}
 use Rattle.transient_run.specs.declared.Solved.the-variants.{Accepted, Refused as NotSolved}
 
@@ -27,7 +22,24 @@ pub record Run : Type 0 where
   pub retarded : List Float
   pub lesser : List Float
   pub kernel : List Float
-  pub mixed : List Float
+  pub lesserAdvanced : List Float
+
+-- the run of a call
+abbrev pub runOf : ℕ → ℕ → Float → List Float → List Float → List Float → List Float → List Float → List Float → List Float → List Float → Run
+runOf points orbitals tolerance times free selfEnergy lesserSelfEnergy retarded lesser kernel lesserAdvanced =
+    record {
+      points = points;
+      orbitals = orbitals;
+      tolerance = tolerance;
+      times = times;
+      free = free;
+      selfEnergy = selfEnergy;
+      lesserSelfEnergy = lesserSelfEnergy;
+      retarded = retarded;
+      lesser = lesser;
+      kernel = kernel;
+      lesserAdvanced = lesserAdvanced;
+    }
 
 -- the answer, and what the outputs G^R and G^< and the scratch K and X hold afterwards
 pub record Outcome : Type 0 where
@@ -35,7 +47,7 @@ pub record Outcome : Type 0 where
   pub retarded : List Float
   pub lesser : List Float
   pub kernel : List Float
-  pub mixed : List Float
+  pub lesserAdvanced : List Float
 
 unfoldable pub solved : Verdict → Solved
 solved Pass = Accepted
@@ -47,39 +59,42 @@ solvedNumber Accepted = 0
 solvedNumber (NotSolved r) = r .number
 
 module _ (r : Run) where
+  abbrev pub equationOfRun : Equation
+  equationOfRun = equationOf (r .points) (r .orbitals) (r .times) (r .free) (r .selfEnergy)
+
   -- K, G^R, X and G^<, each made of what stands in the slices before it
   abbrev pub kernelOfRun : List Float
-  kernelOfRun = kernelOf (r .points) (r .orbitals) (r .times) (r .free) (r .selfEnergy)
+  kernelOfRun = kernelOf equationOfRun
 
   abbrev pub retardedOfRun : List Float
-  retardedOfRun = greenOf (r .points) (r .orbitals) (r .times) (r .free) (r .selfEnergy)
+  retardedOfRun = retardedOf equationOfRun
 
-  abbrev pub mixedOfRun : List Float
-  mixedOfRun = sumsNumbers Mixed (r .points) (r .orbitals) (r .times) (r .lesserSelfEnergy) retardedOfRun
+  abbrev pub lesserAdvancedOfRun : List Float
+  lesserAdvancedOfRun = sumsNumbers LesserAdvanced (r .points) (r .orbitals) (r .times) (r .lesserSelfEnergy) retardedOfRun
 
   abbrev pub lesserOfRun : List Float
-  lesserOfRun = sumsNumbers Lesser (r .points) (r .orbitals) (r .times) retardedOfRun mixedOfRun
+  lesserOfRun = sumsNumbers Lesser (r .points) (r .orbitals) (r .times) retardedOfRun lesserAdvancedOfRun
 
   -- every block made for the four is finite
-  unfoldable pub runFine : Bool
-  runFine =
-      greenFine (r .points) (r .orbitals) (r .times) (r .free) (r .selfEnergy)
-      && (sumsFine Mixed (r .points) (r .orbitals) (r .times) (r .lesserSelfEnergy) retardedOfRun
-      && sumsFine Lesser (r .points) (r .orbitals) (r .times) retardedOfRun mixedOfRun)
+  unfoldable pub runFinite : Bool
+  runFinite =
+      solvedFinite equationOfRun
+      && (sumsFinite LesserAdvanced (r .points) (r .orbitals) (r .times) (r .lesserSelfEnergy) retardedOfRun && sumsFinite Lesser (r .points) (r .orbitals) (r .times) retardedOfRun lesserAdvancedOfRun)
 
-  -- lines 1 to 7, then as Dyson asks: 8, 9 for free, 9 for the retarded self-energy, 10
+  -- checks 1 to 7, then as Dyson asks: 8, 9 for free, 9 for the retarded self-energy
+  abbrev pub runChecks : Verdict
+  runChecks = checksBefore equationOfRun (r .tolerance) (r .lesserSelfEnergy ∷ []) (r .retarded ∷ r .lesser ∷ r .kernel ∷ r .lesserAdvanced ∷ [])
+
+  -- and 10
   unfoldable pub runVerdict : Verdict
-  runVerdict =
-      inputLines (r .points) (r .orbitals) (r .times) (r .free ∷ r .selfEnergy ∷ r .lesserSelfEnergy ∷ []) (r .retarded ∷ r .lesser ∷ r .kernel ∷ r .mixed ∷ [])
-      then supportLines (r .points) (r .orbitals) (r .tolerance) (readAs (r .points) (r .orbitals) (r .free)) (readAs (r .points) (r .orbitals) (r .selfEnergy))
-      then finiteWork runFine
+  runVerdict = runChecks then finiteWork runFinite
 
   unfoldable pub transientRun : Outcome
   transientRun =
       record {
         answer = solved runVerdict;
-        retarded = afterwards runVerdict retardedOfRun (r .retarded);
-        lesser = afterwards runVerdict lesserOfRun (r .lesser);
-        kernel = afterwards runVerdict kernelOfRun (r .kernel);
-        mixed = afterwards runVerdict mixedOfRun (r .mixed);
+        retarded = afterwards zeroed runVerdict retardedOfRun (r .retarded);
+        lesser = afterwards zeroed runVerdict lesserOfRun (r .lesser);
+        kernel = afterwards zeroed runVerdict kernelOfRun (r .kernel);
+        lesserAdvanced = afterwards zeroed runVerdict lesserAdvancedOfRun (r .lesserAdvanced);
       }

@@ -1,5 +1,5 @@
 -- Demand 3 of two calls follows from the equations of their contracts. Assumes nothing.
-use mathlib.Core.Path.{_≡_, ap, _∙_}
+use Rattle.lists.specs.Prelude.{_≡_, ap, _∙_}
 use Rattle.matrix.specs.declared.DenseMatrix.{DenseMatrix}
 use Rattle.dyson.specs.Calls.{Solved}
 use Rattle.transient_run.specs.Calls.{Run, Outcome, transientRun}
@@ -7,23 +7,23 @@ use Rattle.causality.specs.Statement.{DysonDemanded}
 use Rattle.causality.specs.Theorem.{demand-3}
 use Rattle.causality.specs.Dyson.{dysonOf, dyson-demand}
 use Rattle.two_runs.specs.declared.Question.{Question}
-use Rattle.two_runs.specs.Contracts.{Told, asked, told, Blind}
+use Rattle.two_runs.specs.Contracts.{Answered, answersOf, runAnswers, Blind}
 
 -- ---- a contract's equations, as one of records
 
-pub one-outcome : {o p : Outcome} → (o .answer ≡ p .answer) × (o .retarded ≡ p .retarded) × (o .lesser ≡ p .lesser) × (o .kernel ≡ p .kernel) × (o .mixed ≡ p .mixed) → o ≡ p
-one-outcome h = λ i. record { answer = h .0 i; retarded = h .1 i; lesser = h .2 i; kernel = h .3 i; mixed = h .4 i }
+pub one-outcome : {o p : Outcome} → (o .answer ≡ p .answer) × (o .retarded ≡ p .retarded) × (o .lesser ≡ p .lesser) × (o .kernel ≡ p .kernel) × (o .lesserAdvanced ≡ p .lesserAdvanced) → o ≡ p
+one-outcome h = λ i. record { answer = h .0 i; retarded = h .1 i; lesser = h .2 i; kernel = h .3 i; lesserAdvanced = h .4 i }
 
 pub one-solved : {s t : Solved} → (s .answer ≡ t .answer) × (s .retarded ≡ t .retarded) × (s .kernel ≡ t .kernel) → s ≡ t
 one-solved h = λ i. record { answer = h .0 i; retarded = h .1 i; kernel = h .2 i }
 
-pub one-told : (r : Run) (q : Question) (x : DenseMatrix) (a : Told) → a .outcome ≡ transientRun r → a .number ≡ asked r q x (a .outcome) .number
-    → a .expectation ≡ asked r q x (a .outcome) .expectation → a .flow ≡ asked r q x (a .outcome) .flow → a ≡ told r q x
-one-told r q x a o n e f = (λ i. record { outcome = a .outcome; number = n i; expectation = e i; flow = f i }) ∙ ap (asked r q x) o
+pub one-answered : (r : Run) (q : Question) (x : DenseMatrix) (a : Answered) → a .outcome ≡ transientRun r → a .number ≡ answersOf r q x (a .outcome) .number
+    → a .expectation ≡ answersOf r q x (a .outcome) .expectation → a .flow ≡ answersOf r q x (a .outcome) .flow → a ≡ runAnswers r q x
+one-answered r q x a o n e f = (λ i. record { outcome = a .outcome; number = n i; expectation = e i; flow = f i }) ∙ ap (answersOf r q x) o
 
 -- ---- demand 3
 
-definition : (r r' : Run) (q : Question) (x x' : DenseMatrix) → Blind r r' q x x' (told r q x) (told r' q x')
+definition : (r r' : Run) (q : Question) (x x' : DenseMatrix) → Blind r r' q x x' (runAnswers r q x) (runAnswers r' q x')
 definition r r' q x x' =
     let left = demand-3 r r' in
     record {
@@ -37,7 +37,7 @@ definition r r' q x x' =
           };
     }
 
-pub blind : {r r' : Run} {q : Question} {x x' : DenseMatrix} {a a' : Told} → a ≡ told r q x → a' ≡ told r' q x' → Blind r r' q x x' a a'
+pub blind : {r r' : Run} {q : Question} {x x' : DenseMatrix} {a a' : Answered} → a ≡ runAnswers r q x → a' ≡ runAnswers r' q x' → Blind r r' q x x' a a'
 blind {r} {r'} {q} {x} {x'} e e' = rw (e, e') (definition r r' q x x')
 
 pub dyson-blind : {r r' : Run} {s s' : Solved} → s ≡ dysonOf r → s' ≡ dysonOf r' → DysonDemanded r r' s s'

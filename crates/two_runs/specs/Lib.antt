@@ -1,3 +1,4 @@
--- What two calls of the solver answer and leave, and demand 3 of it.
+-- Demand 3 of the running code.
+-- Behind the contracts: what a run and its observables answer, and demand 3 of two calls. Laws: the demand follows from the calls' own contracts.
 pub mod Contracts
 pub mod Demand

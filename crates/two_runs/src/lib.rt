@@ -1,9 +1,9 @@
 // Demand 3 of the running code: what two calls of the solver leave, and what each observable answers of two runs, whatever data come later.
-ghost use mathlib.Core.Path.{_≡_};
-ghost use Rattle.transient_run.specs.Asking.{runOf};
+ghost use Rattle.lists.specs.Prelude.{_≡_};
+ghost use Rattle.transient_run.specs.Calls.{runOf};
 ghost use Rattle.causality.specs.Statement.{DysonDemanded};
 ghost use Rattle.causality.specs.Dyson.{callOf, dysonOf};
-ghost use Rattle.two_runs.specs.Contracts.{told, tells, solves, Blind};
+ghost use Rattle.two_runs.specs.Contracts.{runAnswers, answersIn, solvedIn, Blind};
 use complex::Complex;
 use dyson::retarded_dyson_with_tolerance;
 use matrix::DenseMatrix;
@@ -49,32 +49,33 @@ pub struct BothVerdicts {
 pub fn run_and_ask(
     times: &[f64],
     free: &[f64],
-    sigma: &[f64],
-    source: &[f64],
+    self_energy: &[f64],
+    lesser_self_energy: &[f64],
     points: usize,
     orbitals: usize,
     tolerance: f64,
-    green: &mut [f64],
+    retarded: &mut [f64],
     lesser: &mut [f64],
     kernel: &mut [f64],
-    mixed: &mut [f64],
+    lesser_advanced: &mut [f64],
     question: Question,
     block: DenseMatrix,
 ) -> Answers
-    ensures { λ r. ⌜ tells r (now (green .exit)) (now (lesser .exit)) (now (kernel .exit)) (now (mixed .exit)) ≡ told (runOf points orbitals tolerance (now (times .entry)) (now (free .entry)) (now (sigma .entry)) (now (source .entry)) (now (green .entry)) (now (lesser .entry)) (now (kernel .entry)) (now (mixed .entry))) question block ⌝ }
+    ensures { λ r. ⌜ answersIn r (now (retarded .exit)) (now (lesser .exit)) (now (kernel .exit)) (now («lesser_advanced» .exit))
+        ≡ runAnswers (runOf points orbitals tolerance (now (times .entry)) (now (free .entry)) (now («self_energy» .entry)) (now («lesser_self_energy» .entry)) (now (retarded .entry)) (now (lesser .entry)) (now (kernel .entry)) (now («lesser_advanced» .entry))) question block ⌝ }
 {
     let run = transient_run(
         times,
         free,
-        sigma,
-        source,
+        self_energy,
+        lesser_self_energy,
         points,
         orbitals,
         tolerance,
-        green,
+        retarded,
         lesser,
         kernel,
-        mixed,
+        lesser_advanced,
     );
     let time = question.time;
     let real = question.tolerance;
@@ -104,63 +105,63 @@ pub fn run_and_ask(
 pub fn two_runs(
     times: &[f64],
     free: &[f64],
-    sigma: &[f64],
-    source: &[f64],
+    self_energy: &[f64],
+    lesser_self_energy: &[f64],
     points: usize,
     orbitals: usize,
     tolerance: f64,
-    green: &mut [f64],
+    retarded: &mut [f64],
     lesser: &mut [f64],
     kernel: &mut [f64],
-    mixed: &mut [f64],
+    lesser_advanced: &mut [f64],
     block: DenseMatrix,
     times2: &[f64],
     free2: &[f64],
-    sigma2: &[f64],
-    source2: &[f64],
+    self_energy2: &[f64],
+    lesser_self_energy2: &[f64],
     points2: usize,
     orbitals2: usize,
     tolerance2: f64,
-    green2: &mut [f64],
+    retarded2: &mut [f64],
     lesser2: &mut [f64],
     kernel2: &mut [f64],
-    mixed2: &mut [f64],
+    lesser_advanced2: &mut [f64],
     block2: DenseMatrix,
     question: Question,
 ) -> BothRuns
-    ensures { λ r. ⌜ (let a = runOf points orbitals tolerance (now (times .entry)) (now (free .entry)) (now (sigma .entry)) (now (source .entry)) (now (green .entry)) (now (lesser .entry)) (now (kernel .entry)) (now (mixed .entry)) in
-        let b = runOf points2 orbitals2 tolerance2 (now (times2 .entry)) (now (free2 .entry)) (now (sigma2 .entry)) (now (source2 .entry)) (now (green2 .entry)) (now (lesser2 .entry)) (now (kernel2 .entry)) (now (mixed2 .entry)) in
-        let x = tells (r .first) (now (green .exit)) (now (lesser .exit)) (now (kernel .exit)) (now (mixed .exit)) in
-        let y = tells (r .second) (now (green2 .exit)) (now (lesser2 .exit)) (now (kernel2 .exit)) (now (mixed2 .exit)) in
-        (x ≡ told a question block) × (y ≡ told b question block2) × Blind a b question block block2 x y) ⌝ }
+    ensures { λ r. ⌜ (let a = runOf points orbitals tolerance (now (times .entry)) (now (free .entry)) (now («self_energy» .entry)) (now («lesser_self_energy» .entry)) (now (retarded .entry)) (now (lesser .entry)) (now (kernel .entry)) (now («lesser_advanced» .entry)) in
+        let b = runOf points2 orbitals2 tolerance2 (now (times2 .entry)) (now (free2 .entry)) (now («self_energy2» .entry)) (now («lesser_self_energy2» .entry)) (now (retarded2 .entry)) (now (lesser2 .entry)) (now (kernel2 .entry)) (now («lesser_advanced2» .entry)) in
+        let x = answersIn (r .first) (now (retarded .exit)) (now (lesser .exit)) (now (kernel .exit)) (now («lesser_advanced» .exit)) in
+        let y = answersIn (r .second) (now (retarded2 .exit)) (now (lesser2 .exit)) (now (kernel2 .exit)) (now («lesser_advanced2» .exit)) in
+        (x ≡ runAnswers a question block) × (y ≡ runAnswers b question block2) × Blind a b question block block2 x y) ⌝ }
 {
     let first = run_and_ask(
         times,
         free,
-        sigma,
-        source,
+        self_energy,
+        lesser_self_energy,
         points,
         orbitals,
         tolerance,
-        green,
+        retarded,
         lesser,
         kernel,
-        mixed,
+        lesser_advanced,
         question,
         block,
     );
     let second = run_and_ask(
         times2,
         free2,
-        sigma2,
-        source2,
+        self_energy2,
+        lesser_self_energy2,
         points2,
         orbitals2,
         tolerance2,
-        green2,
+        retarded2,
         lesser2,
         kernel2,
-        mixed2,
+        lesser_advanced2,
         question,
         block2,
     );
@@ -171,45 +172,45 @@ pub fn two_runs(
 pub fn two_dysons(
     times: &[f64],
     free: &[f64],
-    sigma: &[f64],
+    self_energy: &[f64],
     points: usize,
     orbitals: usize,
     tolerance: f64,
-    green: &mut [f64],
+    retarded: &mut [f64],
     kernel: &mut [f64],
     times2: &[f64],
     free2: &[f64],
-    sigma2: &[f64],
+    self_energy2: &[f64],
     points2: usize,
     orbitals2: usize,
     tolerance2: f64,
-    green2: &mut [f64],
+    retarded2: &mut [f64],
     kernel2: &mut [f64],
 ) -> BothVerdicts
-    ensures { λ r. ⌜ (let a = callOf points orbitals tolerance (now (times .entry)) (now (free .entry)) (now (sigma .entry)) (now (green .entry)) (now (kernel .entry)) in
-        let b = callOf points2 orbitals2 tolerance2 (now (times2 .entry)) (now (free2 .entry)) (now (sigma2 .entry)) (now (green2 .entry)) (now (kernel2 .entry)) in
-        let x = solves (r .first) (now (green .exit)) (now (kernel .exit)) in
-        let y = solves (r .second) (now (green2 .exit)) (now (kernel2 .exit)) in
+    ensures { λ r. ⌜ (let a = callOf points orbitals tolerance (now (times .entry)) (now (free .entry)) (now («self_energy» .entry)) (now (retarded .entry)) (now (kernel .entry)) in
+        let b = callOf points2 orbitals2 tolerance2 (now (times2 .entry)) (now (free2 .entry)) (now («self_energy2» .entry)) (now (retarded2 .entry)) (now (kernel2 .entry)) in
+        let x = solvedIn (r .first) (now (retarded .exit)) (now (kernel .exit)) in
+        let y = solvedIn (r .second) (now (retarded2 .exit)) (now (kernel2 .exit)) in
         (x ≡ dysonOf a) × (y ≡ dysonOf b) × DysonDemanded a b x y) ⌝ }
 {
     let first = retarded_dyson_with_tolerance(
         times,
         free,
-        sigma,
+        self_energy,
         points,
         orbitals,
         tolerance,
-        green,
+        retarded,
         kernel,
     );
     let second = retarded_dyson_with_tolerance(
         times2,
         free2,
-        sigma2,
+        self_energy2,
         points2,
         orbitals2,
         tolerance2,
-        green2,
+        retarded2,
         kernel2,
     );
     BothVerdicts { first, second }

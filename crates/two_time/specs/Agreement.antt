@@ -1,12 +1,10 @@
 -- One lemma over n, the points and the interval, which serves every sum over times: two weighted sums whose terms agree in the interval agree.
 -- Assumes nothing.
-use mathlib.Core.Path.{_≡_, ap₂, _∙_}
-use Prim.Native.Nat.{ℕ, _+_, _≤_, _<_}
-use native.Mathlib.Omega.{arith}
+use Rattle.lists.specs.Prelude.{_≡_, ap₂, _∙_, ℕ, _+_, _≤_, _<_, arith}
 use Rattle.complex.specs.Sum.{sumFrom}
 use Rattle.complex.specs.Agreement.{sum-agree}
-use Rattle.matrix.specs.Operations.{product, scaled}
-use Rattle.matrix.specs.Agreement.{Agree, product-agree}
+use Rattle.block.specs.Operations.{product, scaled}
+use Rattle.block.specs.Agreement.{Agree, product-agree}
 use Rattle.two_time.specs.WeightedSum.{Terms, productAt, termAt, partialSum, weightedSum}
 
 -- two sums over one interval, whose starts, weights and factors agree

@@ -1,8 +1,6 @@
 -- A run with three points and two orbitals that closed cases share: inputs and expected bits by reference/expected.py, cases c and d.
-use mathlib.Core.List.{List, [], _∷_, map}
-use Prim.Native.Nat.{ℕ}
+use Rattle.lists.specs.Prelude.{List, [], _∷_, map, ℕ, Float, binary64, toBits}
 use lib.Ieee as Ieee
-use lib.Ieee.{Float, binary64, toBits}
 
 -- the numbers of these bit patterns, and back
 abbrev pub floats : List ℕ → List Float
@@ -78,8 +76,8 @@ lesserSelfEnergy = floats (
     0x3fe8000000000000 ∷ 0x3fe0000000000000 ∷ 0x3fe8000000000000 ∷ 0x3fe0000000000000 ∷ 0x3fe8000000000000 ∷ 0x3ff8000000000000 ∷ 0x3ffc000000000000 ∷ 0x3ff8000000000000 ∷
     0x3ff0000000000000 ∷ 0 ∷ 0x3ff0000000000000 ∷ 0 ∷ 0x3ff0000000000000 ∷ 0x3ff0000000000000 ∷ 0x4000000000000000 ∷ 0x3ff0000000000000 ∷ [])
 
-abbrev pub mixedBits : List ℕ
-mixedBits =
+abbrev pub lesserAdvancedBits : List ℕ
+lesserAdvancedBits =
     0 ∷ 0 ∷ 0 ∷ 0 ∷ 0 ∷ 0 ∷ 0 ∷ 0 ∷
     0x3ff6600000000000 ∷ 0x4001980000000000 ∷ 0x4010680000000000 ∷ 0x40111c0000000000 ∷ 0x4008f80000000000 ∷ 0x4011500000000000 ∷ 0x4023060000000000 ∷ 0x4020400000000000 ∷
     0x40554d1000000000 ∷ 0xc0494b6000000000 ∷ 0x40635f0000000000 ∷ 0xc063c04800000000 ∷ 0x40661c9800000000 ∷ 0xc05cb7b000000000 ∷ 0x4073d97c00000000 ∷ 0xc075db3800000000 ∷

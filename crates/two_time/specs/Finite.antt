@@ -1,19 +1,13 @@
--- What line 10 passing says of a function that is laid out: each sum is finite, and so is every number of its list. Assumes nothing.
-use mathlib.Core.Path.{_≡_, sym, subst}
-use mathlib.Core.Bool.{Bool, true, _&&_}
-use Prim.Native.Nat.{ℕ, zero, suc, _+_, _<_}
-use native.Mathlib.Omega.{arith}
-use lib.ListN.{length, getD}
-use lib.Ieee.{Float, nan}
+-- What check 10 passing says of a function that is laid out: each sum is finite, and so is every number of its list. Assumes nothing.
+use Rattle.lists.specs.Prelude.{_≡_, Bool, true, ℕ, zero, suc, _<_, arith, length, getD, Float, nan}
 use Rattle.lists.specs.Indexed.{join, allBelow}
 use Rattle.lists.specs.Agreement.{both, all-each}
 use Rattle.lists.specs.Reading.{each-in-join}
 use Rattle.complex.specs.declared.Complex.{Complex}
 use Rattle.complex.specs.Arithmetic.{finite, cfinite}
 use Rattle.complex.specs.Numbers.{pair}
-use Rattle.matrix.specs.Block.{layOut}
+use Rattle.block.specs.Block.{layOut}
 use Rattle.two_time.specs.Layout.{TwoTime, layOutAll, everywhere}
-use Rattle.two_time.specs.WeightedSum.{Terms, productAt, termAt, partialSum, weightedSum, finiteSum}
 
 -- what holds everywhere holds of each entry
 pub everywhere-each : (points n : ℕ) (p : ℕ → ℕ → ℕ → ℕ → Bool) → everywhere points n p ≡ true
@@ -24,18 +18,6 @@ everywhere-each points n p h t u a b ht hu ha hb =
     (all-each n (λ c. allBelow n (λ d. p t u c d))
     (all-each points (λ v. allBelow n (λ c. allBelow n (λ d. p t v c d)))
     (all-each points (λ s. allBelow points (λ v. allBelow n (λ c. allBelow n (λ d. p s v c d)))) h t ht) u hu) a ha) b hb
-
--- a sum of at least one term is its last running sum
-pub sum-finite : (n : ℕ) (x : Terms) (a b last : ℕ) → x .count ≡ suc last → finiteSum n x a b ≡ true → cfinite (weightedSum n x a b) ≡ true
-unfolding finiteSum weightedSum
-sum-finite n x a b last e h =
-    let p : Bool = cfinite (productAt n x (x .from + last) a b) in
-    let q : Bool = cfinite (termAt n x (x .from + last) a b) in
-    let r : Bool = cfinite (partialSum n x (suc last) a b) in
-    let ends : p && (q && r) ≡ true =
-    all-each (x .count)
-    (λ k. cfinite (productAt n x (x .from + k) a b) && (cfinite (termAt n x (x .from + k) a b) && cfinite (partialSum n x (suc k) a b))) h last (omega arith) in
-    subst (λ (k : ℕ). cfinite (partialSum n x k a b) ≡ true) (sym e) (both q r (both p (q && r) ends .1) .1)
 
 -- both numbers of a pair
 pair-finite : (z : Complex) → cfinite z ≡ true → (j : ℕ) → j < 2 → finite (getD (pair z) j nan) ≡ true

@@ -1,14 +1,9 @@
 -- Document 01, "Kept, renewed, left behind": "A two-time function is a lent slice of binary64 numbers: block (t, t') row by row, in a block
 -- entry (a, b) row by row, real part before imaginary."
-use Prim.Native.Nat.{ℕ, _+_, _*_}
-use mathlib.Core.Bool.{Bool, cond, _&&_}
-use mathlib.Core.List.{List}
-use lib.Dec.{leb, ltb}
-use lib.ListN.{length}
-use lib.Ieee.{Float}
+use Rattle.lists.specs.Prelude.{ℕ, _+_, _*_, Bool, cond, _&&_, List, leb, ltb, length, Float}
 use Rattle.lists.specs.Indexed.{join, allBelow}
 use Rattle.complex.specs.Numbers.{entryAt}
-use Rattle.matrix.specs.Block.{Entries, layOut}
+use Rattle.block.specs.Block.{Entries, layOut}
 use Rattle.two_time.specs.declared.layout.Stored.{Stored}
 use Rattle.two_time.specs.declared.layout.Stored.the-variants.{Entry, Outside}
 
@@ -24,7 +19,7 @@ place stride orbitals t u a b = 2 * (((t * stride + u) * orbitals + a) * orbital
 abbrev pub readAs : ℕ → ℕ → List Float → TwoTime
 readAs stride orbitals xs t u a b = entryAt xs (place stride orbitals t u a b)
 
--- within the limits of line 2, (t, u) is a place of a function with that stride and (a, b) an entry of its blocks
+-- within the limits of check 2, (t, u) is a place of a function with that stride and (a, b) an entry of its blocks
 unfoldable pub isPlace : ℕ → ℕ → ℕ → ℕ → ℕ → ℕ → Bool
 isPlace stride orbitals t u a b = (leb stride 256 && leb orbitals 16) && ((ltb t stride && ltb u stride) && (ltb a orbitals && ltb b orbitals))
 

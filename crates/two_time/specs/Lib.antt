@@ -1,20 +1,20 @@
--- Document 01, two-time functions: where an entry stands, the one weighted sum and what is summed, the support test, and closed cases.
+-- Document 01, two-time functions. What contracts cite: where an entry stands; the one weighted sum, what is summed at a place, and the outcome of
+-- the sums; checks 1 to 7 of a call. A shared example and closed cases. Then laws: of places, of a function that is laid out and read back, of slices
+-- written part by part, of checks 1 to 7 and what a call answers after them, of sums that are finite on the way, and of sums that agree.
 pub mod Layout
 pub mod WeightedSum
-pub mod Support
 pub mod Sums
 pub mod Calls
 pub mod Outcome
 pub mod Example
 pub mod Cases
-pub mod Reading
-pub mod Agreement
 pub mod Places
+pub mod ReadBack
+pub mod Parts
+pub mod SizeChecks
+pub mod Checks
 pub mod OneTest
-pub mod Filling
-pub mod Reaching
-pub mod SizeLines
-pub mod Working
-pub mod Scale
-pub mod AskingSupport
 pub mod Finite
+pub mod Agreement
+pub mod Lengths
+pub mod Computation

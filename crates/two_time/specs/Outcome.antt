@@ -1,37 +1,32 @@
--- The outcome of a call that lays the sums at all places out in a lent slice and asks its sizes alone.
-use mathlib.Core.Path.{_≡_, refl, sym, ap, _∙_}
-use Prim.Native.Nat.{ℕ}
-use mathlib.Core.Bool.{Bool, true, false}
-use mathlib.Core.List.{List, [], _∷_}
-use lib.ListN.{length, replicate}
-use lib.Ieee.{Float}
-use Rattle.complex.specs.Arithmetic.{plusZero}
-use Rattle.lists.specs.Agreement.{never}
+-- The outcome of a call that lays the sums at all places out in a slice and asks its sizes alone.
+use Rattle.lists.specs.Prelude.{_≡_, refl, sym, _∙_, ℕ, Bool, true, false, cond, List, [], _∷_, length, Float}
+use Rattle.refusal.specs.declared.Refusal.{Refusal}
 use Rattle.refusal.specs.declared.Verdict.{Verdict}
 use Rattle.refusal.specs.declared.Verdict.the-variants.{Pass, Refused}
+use Rattle.refusal.specs.Verdict.{zeroed}
 use Rattle.two_time.specs.declared.sums.Sums.{Sums}
 use Rattle.two_time.specs.declared.sums.Summed.{Summed}
 use Rattle.two_time.specs.declared.sums.Summed.the-variants.{Finite, Overflow, Unfit}
 use Rattle.two_time.specs.Layout.{lengthOf}
-use Rattle.two_time.specs.Sums.{sumsNumbers, sumsFine}
-use Rattle.two_time.specs.Calls.{sizeLines}
-use Rattle.two_time.specs.SizeLines.{SizesPassed, sizes-pass, long-also, long-none}
+use Rattle.two_time.specs.Sums.{sumsNumbers, sumsFinite}
+use Rattle.two_time.specs.Calls.{sizeChecks}
+use Rattle.two_time.specs.SizeChecks.{SizesPassed, sizes-pass, long-also, long-none}
 
 -- the answer of `weighted_sums`, and its slice afterwards
-pub record SumsLeft : Type 0 where
+pub record SumsOutcome : Type 0 where
   pub answer : Summed
   pub out : List Float
 
--- the answer: where lines 1 to 3 refuse nothing is summed
+-- the answer: where checks 1 to 3 refuse nothing is summed
 unfoldable pub summedAnswer : Verdict → Bool → Summed
-summedAnswer (Refused r) fine = Unfit
+summedAnswer (Refused r) finite = Unfit
 summedAnswer Pass true = Finite
 summedAnswer Pass false = Overflow
 
--- what a lent slice holds afterwards
+-- what a slice holds afterwards
 unfoldable pub summedOut : Summed → List Float → List Float → List Float
 summedOut Finite made before = made
-summedOut Overflow made before = replicate (length before) plusZero
+summedOut Overflow made before = zeroed before
 summedOut Unfit made before = before
 
 -- the sums are there
@@ -40,44 +35,50 @@ allSummed Finite = true
 allSummed Overflow = false
 allSummed Unfit = false
 
--- what an answer says once lines 1 to 3 pass: all was finite and made, or something was not and +0 is left
-module _ (v : Verdict) (fine : Bool) (passed : v ≡ Pass) (answer : Summed) (answered : answer ≡ summedAnswer v fine) where
-  pub left-finite : allSummed answer ≡ true → (fine ≡ true) × ((made before after : List Float) → after ≡ summedOut (summedAnswer v fine) made before → after ≡ made)
+-- what an answer says once checks 1 to 3 pass: whether all is finite, and so what each slice holds
+module _ (v : Verdict) (finite : Bool) (passed : v ≡ Pass) (answer : Summed) (answered : answer ≡ summedAnswer v finite) where
+  pub by-flag : (ok : Bool) → ok ≡ allSummed answer → (finite ≡ ok) × ((made before : List Float) → summedOut (summedAnswer v finite) made before ≡ cond ok made (zeroed before))
   unfolding summedAnswer summedOut allSummed
-  left-finite h = by-flag fine refl
+  by-flag ok h = rw (h, answered, passed) (cases finite)
     where
-      by-flag : (f : Bool) → fine ≡ f → (fine ≡ true) × ((made before after : List Float) → after ≡ summedOut (summedAnswer v fine) made before → after ≡ made)
-      by-flag true e = (e, λ made before after s. s ∙ rw (passed, e))
-      by-flag false e = let lost : answer ≡ Overflow = answered ∙ rw (passed, e) in never (sym (ap allSummed lost) ∙ h)
+      cases : (f : Bool) → (f ≡ allSummed (summedAnswer Pass f))
+          × ((made before : List Float) → summedOut (summedAnswer Pass f) made before ≡ cond (allSummed (summedAnswer Pass f)) made (zeroed before))
+      cases true = (refl, λ made before. refl)
+      cases false = (refl, λ made before. refl)
 
-  pub left-overflow : allSummed answer ≡ false → (fine ≡ false) × ((made before after : List Float) → after ≡ summedOut (summedAnswer v fine) made before → after ≡ replicate (length before) plusZero)
-  unfolding summedAnswer summedOut allSummed
-  left-overflow h = by-flag fine refl
-    where
-      by-flag : (f : Bool) → fine ≡ f → (fine ≡ false) × ((made before after : List Float) → after ≡ summedOut (summedAnswer v fine) made before → after ≡ replicate (length before) plusZero)
-      by-flag true e = let there : answer ≡ Finite = answered ∙ rw (passed, e) in never (sym h ∙ ap allSummed there)
-      by-flag false e = (e, λ made before after s. s ∙ rw (passed, e))
+  pub outcome-finite : allSummed answer ≡ true → (finite ≡ true) × ((made before after : List Float) → after ≡ summedOut (summedAnswer v finite) made before → after ≡ made)
+  outcome-finite h = let t = by-flag true (sym h) in (t .0, λ made before after s. s ∙ t .1 made before)
+
+  pub outcome-overflow : allSummed answer ≡ false → (finite ≡ false) × ((made before after : List Float) → after ≡ summedOut (summedAnswer v finite) made before → after ≡ zeroed before)
+  outcome-overflow h = let t = by-flag false (sym h) in (t .0, λ made before after s. s ∙ t .1 made before)
+
+-- how a call ends that asks its sizes alone: its answer, and what each slice holds, of what was made for it and what it held before
+pub record SumsEnded (v : Verdict) (finite : Bool) (answer : Summed) (holds : List Float → List Float → List Float) : Type 0 where
+  pub answered : answer ≡ summedAnswer v finite
+  pub slice : (made before : List Float) → holds made before ≡ summedOut (summedAnswer v finite) made before
+
+module _ {v : Verdict} (finite : Bool) where
+  pub ends-unfit : {r : Refusal} → v ≡ Refused r → SumsEnded v finite Unfit (λ made before. before)
+  unfolding summedAnswer summedOut
+  ends-unfit p = record { answered = rw p; slice = λ made before. rw p }
+
+  pub ends-finite : v ≡ Pass → finite ≡ true → SumsEnded v finite Finite (λ made before. made)
+  unfolding summedAnswer summedOut
+  ends-finite p e = record { answered = rw (p, e); slice = λ made before. rw (p, e) }
+
+  pub ends-overflow : v ≡ Pass → finite ≡ false → SumsEnded v finite Overflow (λ made before. zeroed before)
+  unfolding summedAnswer summedOut
+  ends-overflow p e = record { answered = rw (p, e); slice = λ made before. rw (p, e) }
 
 module _ (sums : Sums) (points orbitals : ℕ) (times left right out : List Float) where
   -- `weighted_sums`
-  unfoldable pub summed : SumsLeft
+  unfoldable pub summed : SumsOutcome
   summed =
-      let answer = summedAnswer (sizeLines points orbitals true (left ∷ right ∷ out ∷ [])) (sumsFine sums points orbitals times left right) in
+      let answer = summedAnswer (sizeChecks points orbitals true (left ∷ right ∷ out ∷ [])) (sumsFinite sums points orbitals times left right) in
       record { answer = answer; out = summedOut answer (sumsNumbers sums points orbitals times left right) out }
 
-  -- what the outcome says of slices that have their length
-  module _ {fits : Bool} {others : List (List Float)} (z : SizesPassed points orbitals fits others)
-      (left-long : length left ≡ lengthOf points orbitals) (right-long : length right ≡ lengthOf points orbitals) (out-long : length out ≡ lengthOf points orbitals)
-      (answer : Summed) (after : List Float) (answered : answer ≡ summed .answer) (holds : after ≡ summed .out) where
-    sizes : sizeLines points orbitals true (left ∷ right ∷ out ∷ []) ≡ Pass
-    sizes =
-        let count = lengthOf points orbitals in
-        sizes-pass _ z (long-also count left _ left-long (long-also count right _ right-long (long-also count out _ out-long (long-none count))))
-
-    pub sums-finite : allSummed answer ≡ true → (sumsFine sums points orbitals times left right ≡ true) × (after ≡ sumsNumbers sums points orbitals times left right)
-    unfolding summed
-    sums-finite h = let told = left-finite _ _ sizes answer answered h in (told .0, told .1 _ _ after holds)
-
-    pub sums-overflow : allSummed answer ≡ false → (sumsFine sums points orbitals times left right ≡ false) × (after ≡ replicate (length out) plusZero)
-    unfolding summed
-    sums-overflow h = let told = left-overflow _ _ sizes answer answered h in (told .0, told .1 _ out after holds)
+  -- what its answer says of slices that have their length
+  pub sums-said : SizesPassed points orbitals true (left ∷ right ∷ out ∷ []) → {answer : Summed} {after : List Float} → answer ≡ summed .answer → after ≡ summed .out
+      → (ok : Bool) → ok ≡ allSummed answer → (sumsFinite sums points orbitals times left right ≡ ok) × (after ≡ cond ok (sumsNumbers sums points orbitals times left right) (zeroed out))
+  unfolding summed
+  sums-said z a h ok e = let t = by-flag _ _ (sizes-pass _ z (z .long)) _ a ok e in (t .0, h ∙ t .1 _ out)

@@ -1,16 +1,12 @@
--- Where entries stand, within the limits of N and n: every place lies in its function, and every number on the way to it fits. Assumes nothing.
-use mathlib.Core.Path.{_≡_, ap}
-use Prim.Native.Nat.{ℕ, _+_, _-_, _*_, _≤_, _<_}
-use native.Mathlib.Nat.{le-trans, add-zero, add-mul, suc-mul, mul-le-mul-left, mul-le-mul-right, mul-assoc}
-use native.Mathlib.Omega.{arith}
-use lib.Arith.{digits-lt}
-use lib.Dec.{leb, ltb}
-use mathlib.Core.Bool.{true, _&&_}
-use borrow.Author.Tests.{leb-true, ltb-true, le-leb, lt-ltb}
+-- Where entries stand, within the limits of N and n: every place lies in its function, every number on the way to it fits, and whether an entry is
+-- there is asked by numbers that fit, N and n cut where they are past their limits anyway. Assumes nothing.
+use Rattle.lists.specs.Prelude.{_≡_, refl, ap, ℕ, _+_, _-_, _*_, _≤_, _<_, min, min-eq-left, le-trans, add-zero, add-mul, suc-mul, mul-le-mul-left, mul-le-mul-right}
+use Rattle.lists.specs.Prelude.{mul-assoc, arith, digits-lt, leb, ltb, Bool, true, false, _&&_, List, length, Float, leb-true, ltb-true, le-leb, lt-ltb}
 use Rattle.lists.specs.Agreement.{both}
-use Rattle.two_time.specs.Layout.{place, isPlace, lengthOf}
+use Rattle.two_time.specs.declared.layout.Stored.the-variants.{Entry}
+use Rattle.two_time.specs.Layout.{place, isPlace, lengthOf, readAs, storedAt}
 
--- (t, u) is a place of a function with that stride, (a, b) an entry of its blocks, and both are within the limits of line 2
+-- (t, u) is a place of a function with that stride, (a, b) an entry of its blocks, and both are within the limits of check 2
 pub record Placed (stride orbitals t u a b : ℕ) : Type 0 where
   pub first : t < stride
   pub second : u < stride
@@ -104,3 +100,23 @@ block-inside {stride} {n} {t} {s} h i len e l =
   where
     square : (n : ℕ) → 0 < n → (n - 1) * n + n ≡ n * n
     square n h = rw (← suc-mul (n - 1) n) (ap (λ (m : ℕ). m * n) (omega arith))
+
+-- ---- whether an entry is there
+
+-- later flags count only where the first is set
+pub and-agree : (x y y' : Bool) → (x ≡ true → y ≡ y') → x && y ≡ x && y'
+and-agree true y y' h = h refl
+and-agree false y y' h = refl
+
+-- a function's length with N and n cut to their limits
+pub cut-length : {stride n t u a b : ℕ} → Placed stride n t u a b → lengthOf (min stride 256) (min n 16) ≡ lengthOf stride n
+cut-length p = rw (min-eq-left (p .stride-most), min-eq-left (p .orbitals-most))
+
+pub within-asked : (stride n : ℕ) (xs : List Float) (t u a b : ℕ)
+    → isPlace stride n t u a b && leb (lengthOf (min stride 256) (min n 16)) (length xs) ≡ isPlace stride n t u a b && leb (lengthOf stride n) (length xs)
+within-asked stride n xs t u a b = and-agree _ _ _ (λ h. let p : Placed stride n t u a b = is-placed stride n t u a b h in rw (cut-length p))
+
+-- an entry that is there
+pub read-placed : {stride n t u a b : ℕ} (xs : List Float) → Placed stride n t u a b → lengthOf stride n ≤ length xs → storedAt stride n xs t u a b ≡ Entry (readAs stride n xs t u a b)
+unfolding storedAt
+read-placed xs p l = rw (placed-is p, le-leb _ _ l)

@@ -1,13 +1,10 @@
 -- Document 01: the terms of every sum over times at a place (t, u), and the sums at all places.
-use Prim.Native.Nat.{ℕ, suc, _-_}
-use mathlib.Core.Bool.{Bool}
-use mathlib.Core.List.{List}
-use lib.Ieee.{Float}
-use Rattle.matrix.specs.Block.{Entries}
-use Rattle.matrix.specs.Operations.{zeros, adjoint}
+use Rattle.lists.specs.Prelude.{ℕ, suc, _-_, Bool, List, Float}
+use Rattle.block.specs.Block.{Entries}
+use Rattle.block.specs.Operations.{zeros, adjoint}
 use Rattle.grid.specs.Weights.{fullWeight, intervalWeight}
 use Rattle.two_time.specs.declared.sums.Sums.{Sums}
-use Rattle.two_time.specs.declared.sums.Sums.the-variants.{Full, Causal, Mixed, Lesser, Advanced}
+use Rattle.two_time.specs.declared.sums.Sums.the-variants.{Full, Causal, LesserAdvanced, Lesser, AntiCausal}
 use Rattle.two_time.specs.Layout.{TwoTime, readAs, layOutAll, everywhere}
 use Rattle.two_time.specs.WeightedSum.{Terms, weightedSum, finiteSum}
 
@@ -24,9 +21,9 @@ unfoldable pub termsAt : Sums → ℕ → List Float → TwoTime → TwoTime →
 termsAt Full points times x y t u =
     record { start = zeros; weight = fullWeight points times; left = λ s. x t s; right = λ s. y s u; from = 0; count = points }
 termsAt Causal points times x y t u = interval times u t (λ s. x t s) (λ s. y s u)
-termsAt Mixed points times x y t u = interval times 0 u (λ s. x t s) (λ s. adjoint (y u s))
+termsAt LesserAdvanced points times x y t u = interval times 0 u (λ s. x t s) (λ s. adjoint (y u s))
 termsAt Lesser points times x y t u = interval times 0 t (λ s. x t s) (λ s. y s u)
-termsAt Advanced points times x y t u = interval times t u (λ s. x t s) (λ s. y s u)
+termsAt AntiCausal points times x y t u = interval times t u (λ s. x t s) (λ s. y s u)
 
 -- Dyson: "G(i,j) for j ≤ i starts as free(i,j) and, for s from j to i−1, adds interval weight (s, j, i) times K(i,s)·G(s,j)."
 abbrev pub dysonTerms : List Float → TwoTime → TwoTime → TwoTime → ℕ → ℕ → Terms
@@ -38,13 +35,13 @@ module _ (sums : Sums) (points orbitals : ℕ) (times : List Float) (x y : TwoTi
   unfoldable pub sumsOf : TwoTime
   sumsOf t u = weightedSum orbitals (termsAt sums points times x y t u)
 
-  unfoldable pub sumsFinite : Bool
-  sumsFinite = everywhere points orbitals (λ t u a b. finiteSum orbitals (termsAt sums points times x y t u) a b)
+  unfoldable pub sumsOfFinite : Bool
+  sumsOfFinite = everywhere points orbitals (λ t u a b. finiteSum orbitals (termsAt sums points times x y t u) a b)
 
 -- the same of lent numbers, laid out
 module _ (sums : Sums) (points orbitals : ℕ) (times left right : List Float) where
   unfoldable pub sumsNumbers : List Float
   sumsNumbers = layOutAll points orbitals (sumsOf sums points orbitals times (readAs points orbitals left) (readAs points orbitals right))
 
-  unfoldable pub sumsFine : Bool
-  sumsFine = sumsFinite sums points orbitals times (readAs points orbitals left) (readAs points orbitals right)
+  unfoldable pub sumsFinite : Bool
+  sumsFinite = sumsOfFinite sums points orbitals times (readAs points orbitals left) (readAs points orbitals right)

@@ -1,13 +1,11 @@
 -- Document 01, convolutions: "Each term is product, then scale, then add, s ascending". Every sum over times is this one, and beside its
 -- value stands whether every block made for it is finite.
-use Prim.Native.Nat.{ℕ, suc, _+_}
-use mathlib.Core.Bool.{Bool, _&&_}
-use lib.Ieee.{Float}
+use Rattle.lists.specs.Prelude.{ℕ, suc, _+_, Bool, _&&_, Float}
 use Rattle.lists.specs.Indexed.{allBelow}
 use Rattle.complex.specs.Arithmetic.{real, cfinite}
 use Rattle.complex.specs.Sum.{sumFrom}
-use Rattle.matrix.specs.Block.{Entries}
-use Rattle.matrix.specs.Operations.{product, scaled}
+use Rattle.block.specs.Block.{Entries}
+use Rattle.block.specs.Operations.{product, scaled}
 
 -- a sum over s = from, from + 1, .., `count` of them: what it starts at, and the weight and the two factors of each term
 pub record Terms : Type 0 where
@@ -33,7 +31,7 @@ partialSum orbitals x k a b = sumFrom (x .start a b) (λ s. termAt orbitals x s 
 unfoldable pub weightedSum : ℕ → Terms → Entries
 weightedSum orbitals x = partialSum orbitals x (x .count)
 
--- entry (a, b) of every product, scaled product and running sum is finite (line 10)
+-- entry (a, b) of every product, scaled product and running sum is finite (check 10)
 unfoldable pub finiteSum : ℕ → Terms → ℕ → ℕ → Bool
 finiteSum orbitals x a b =
     allBelow (x .count)

@@ -1,25 +1,17 @@
 // Where an entry of a two-time function stands in its slice (document 01, "Kept, renewed, left behind"). A row of blocks has
 // `stride` of them.
-ghost use mathlib.Core.Path.{_≡_};
-ghost use Prim.Native.Nat.{_+_, _*_, _<_, _≤_, min};
-ghost use lib.ListN.{length, replicate, set};
+ghost use Rattle.lists.specs.Prelude.{_≡_, _+_, _*_, _<_, _≤_, min, length, replicate};
 ghost use Rattle.complex.specs.Arithmetic.{plusZero};
-ghost use Rattle.complex.specs.Numbers.{entryAt};
 ghost use Rattle.two_time.specs.Layout.{place, isPlace, readAs, storedAt, lengthOf};
 ghost use Rattle.two_time.specs.Places.{Placed};
 use complex::Complex;
+use refusal::checks::least;
 
 // What a slice holds at a place of a function.
 pub enum Stored {
     Entry(Complex),
     // The indices, N, n or the slice do not reach.
     Outside,
-}
-
-pub(crate) fn least(x: usize, y: usize) -> usize
-    ensures { λ r. ⌜ r ≡ min x y ⌝ }
-{
-    if x < y { x } else { y }
 }
 
 // How many numbers a function has, 2·N·N·n·n. N and n are cut to their limits, so that the product fits.
@@ -32,23 +24,15 @@ pub fn function_length(points: usize, orbitals: usize) -> usize
 }
 
 // Where the real part of entry (a, b) of block (t, u) stands.
-pub(crate) fn place(stride: usize, orbitals: usize, t: usize, u: usize, a: usize, b: usize) -> usize
+fn place(stride: usize, orbitals: usize, t: usize, u: usize, a: usize, b: usize) -> usize
     requires { ⌜ Placed stride orbitals t u a b ⌝ }
     ensures { λ r. ⌜ (r ≡ place stride orbitals t u a b) × (r + 1 < lengthOf stride orbitals) ⌝ }
 {
     2 * (((t * stride + u) * orbitals + a) * orbitals + b)
 }
 
-// The complex number whose real part stands at i.
-pub(crate) fn number_at(xs: &[f64], i: usize) -> Complex
-    requires { ⌜ i + 1 < length (now xs) ⌝ }
-    ensures { λ r. ⌜ r ≡ entryAt (now (xs .entry)) i ⌝ }
-{
-    Complex::new(xs[i], xs[i + 1])
-}
-
 // Entry (a, b) of block (t, u).
-pub(crate) fn entry(
+fn entry(
     xs: &[f64],
     stride: usize,
     orbitals: usize,
@@ -61,18 +45,12 @@ pub(crate) fn entry(
     requires { ⌜ lengthOf stride orbitals ≤ length (now xs) ⌝ }
     ensures { λ r. ⌜ r ≡ readAs stride orbitals (now (xs .entry)) t u a b ⌝ }
 {
-    number_at(xs, place(stride, orbitals, t, u, a, b))
+    let i = place(stride, orbitals, t, u, a, b);
+    Complex::new(xs[i], xs[i + 1])
 }
 
 // Whether (t, u) is a place and (a, b) an entry there, within the limits of N and n.
-pub(crate) fn is_place(
-    stride: usize,
-    orbitals: usize,
-    t: usize,
-    u: usize,
-    a: usize,
-    b: usize,
-) -> bool
+fn is_place(stride: usize, orbitals: usize, t: usize, u: usize, a: usize, b: usize) -> bool
     ensures { λ r. ⌜ r ≡ isPlace stride orbitals t u a b ⌝ }
 {
     let limits = (stride <= 256) & (orbitals <= 16);
@@ -96,15 +74,6 @@ pub fn read(
         return Stored::Entry(entry(xs, stride, orbitals, t, u, a, b));
     }
     Stored::Outside
-}
-
-// Writes z as the p-th complex number.
-pub(crate) fn put(xs: &mut [f64], p: usize, z: Complex)
-    requires { ⌜ 2 * p + 1 < length (now xs) ⌝ }
-    ensures { λ _. ⌜ now (xs .exit) ≡ set (set (now (xs .entry)) (2 * p) (z .re)) (2 * p + 1) (z .im) ⌝ }
-{
-    xs[2 * p] = z.re;
-    xs[2 * p + 1] = z.im;
 }
 
 // Leaves +0 throughout.

@@ -1,5 +1,5 @@
 // What is summed over times, and what became of the sums (document 01, convolutions): the crates `lanes` and `sums` have the loops.
-ghost use mathlib.Core.Path.{_≡_};
+ghost use Rattle.lists.specs.Prelude.{_≡_};
 ghost use Rattle.two_time.specs.Outcome.{allSummed};
 
 // What is summed at every place (t, t').
@@ -9,11 +9,11 @@ pub enum Sums {
     // s from t' to t, by the weights of that interval; nothing where t < t'.
     Causal,
     // s from 0 to t' over left(t,s) and the adjoint of right(t',s), by the weights of that interval.
-    Mixed,
+    LesserAdvanced,
     // s from 0 to t, by the weights of that interval.
     Lesser,
     // s from t to t', by the weights of that interval; nothing where t' < t.
-    Advanced,
+    AntiCausal,
 }
 
 // What became of sums.

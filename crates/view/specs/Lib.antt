@@ -1,4 +1,7 @@
--- Document 01, a view of one two-time function: what reading an entry answers, closed cases, and the laws that its proof cites.
+-- Document 01, "a view of one two-time function: the lent numbers, N and n".
+-- Behind the contract of `entry`: Calls, the checks of an entry in their order, and what stands there.
 pub mod Calls
+-- Closed cases: an entry, and each refusal.
 pub mod Cases
-pub mod Reading
+-- Laws: where the checks pass the entry is stored, and the answer is what was read.
+pub mod EntryRead

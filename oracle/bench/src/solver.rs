@@ -54,33 +54,33 @@ fn support(bench: &mut Bench, inputs: Inputs<1>) -> Times {
 /// G, and K, which the port does not give: there it is a convolution of its own.
 pub fn retarded_dyson_with_tolerance(bench: &mut Bench, points: usize, orbitals: usize) -> Times {
     let inputs = Inputs::new(points, orbitals, [true; 2]);
-    let (grid, [free, sigma]) = (inputs.grid(), inputs.built());
-    let here = |green: &mut [f64], kernel: &mut [f64]| {
-        let [free, sigma] = black_box(&inputs.functions);
-        here::retarded_dyson_with_tolerance(&inputs.times, free, sigma, points, orbitals, TOLERANCE, green, kernel)
+    let (grid, [free, self_energy]) = (inputs.grid(), inputs.built());
+    let here = |retarded: &mut [f64], kernel: &mut [f64]| {
+        let [free, self_energy] = black_box(&inputs.functions);
+        here::retarded_dyson_with_tolerance(&inputs.times, free, self_energy, points, orbitals, TOLERANCE, retarded, kernel)
     };
-    let port = || keldysh_green::retarded_dyson_with_tolerance(&grid, black_box(&free), &sigma, TOLERANCE);
-    let (mut green, mut kernel) = (inputs.room(), inputs.room());
-    assert_eq!(here(&mut green, &mut kernel).number, 0);
-    bench.same(&green, &numbers(&port().unwrap()));
-    bench.same(&kernel, &numbers(&keldysh_green::causal_volterra_convolution(&grid, &free, &sigma).unwrap()));
-    bench.measure(|| here(&mut green, &mut kernel), port, || (inputs.grid(), inputs.built()))
+    let port = || keldysh_green::retarded_dyson_with_tolerance(&grid, black_box(&free), &self_energy, TOLERANCE);
+    let (mut retarded, mut kernel) = (inputs.room(), inputs.room());
+    assert_eq!(here(&mut retarded, &mut kernel).number, 0);
+    bench.same(&retarded, &numbers(&port().unwrap()));
+    bench.same(&kernel, &numbers(&keldysh_green::causal_volterra_convolution(&grid, &free, &self_energy).unwrap()));
+    bench.measure(|| here(&mut retarded, &mut kernel), port, || (inputs.grid(), inputs.built()))
 }
 
 /// G^R, G^< and X, and K alike. The port has no transient run: there it is composed of its operations.
 pub fn transient_run(bench: &mut Bench, points: usize, orbitals: usize) -> Times {
     let inputs = Inputs::new(points, orbitals, [true, true, false]);
-    let (grid, [free, sigma, source]) = (inputs.grid(), inputs.built());
-    let here = |[green, lesser, kernel, mixed]: &mut [Vec<f64>; 4]| {
-        let [free, sigma, source] = black_box(&inputs.functions);
-        here::transient_run(&inputs.times, free, sigma, source, points, orbitals, TOLERANCE, green, lesser, kernel, mixed)
+    let (grid, [free, self_energy, lesser_self_energy]) = (inputs.grid(), inputs.built());
+    let here = |[retarded, lesser, kernel, lesser_advanced]: &mut [Vec<f64>; 4]| {
+        let [free, self_energy, lesser_self_energy] = black_box(&inputs.functions);
+        here::transient_run(&inputs.times, free, self_energy, lesser_self_energy, points, orbitals, TOLERANCE, retarded, lesser, kernel, lesser_advanced)
     };
-    let port = || shared::transient_run(&grid, black_box(&free), &sigma, &source, TOLERANCE);
+    let port = || shared::transient_run(&grid, black_box(&free), &self_energy, &lesser_self_energy, TOLERANCE);
     let mut out = [(); 4].map(|()| inputs.room());
     assert_eq!(here(&mut out).number, 0);
     let made = port().unwrap();
-    let kernel = keldysh_green::causal_volterra_convolution(&grid, &free, &sigma).unwrap();
-    for (out, made) in out.iter().zip([&made.green, &made.lesser, &kernel, &made.mixed]) {
+    let kernel = keldysh_green::causal_volterra_convolution(&grid, &free, &self_energy).unwrap();
+    for (out, made) in out.iter().zip([&made.retarded, &made.lesser, &kernel, &made.lesser_advanced]) {
         bench.same(out, &numbers(made));
     }
     drop(made);

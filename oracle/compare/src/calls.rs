@@ -161,32 +161,32 @@ fn check_retarded_support(call: &Call) -> Outcome {
 
 fn retarded_dyson_with_tolerance(call: &Call) -> Outcome {
     let (points, orbitals, times, operands, tolerance) = (call.points, call.orbitals, &call.times, call.operands(), call.tolerance);
-    let [mut green, mut kernel] = lent(call.made());
-    let [free, sigma] = operands;
-    let answer = here::retarded_dyson_with_tolerance(times, free, sigma, points, orbitals, tolerance, &mut green, &mut kernel);
+    let [mut retarded, mut kernel] = lent(call.made());
+    let [free, self_energy] = operands;
+    let answer = here::retarded_dyson_with_tolerance(times, free, self_energy, points, orbitals, tolerance, &mut retarded, &mut kernel);
     let theirs = judge::retarded_dyson_with_tolerance(points, orbitals, times, operands, tolerance, call.made());
-    filled(answer, [green, kernel], theirs)
+    filled(answer, [retarded, kernel], theirs)
 }
 
 fn transient_run(call: &Call) -> Outcome {
     let (points, orbitals, times, operands, tolerance) = (call.points, call.orbitals, &call.times, call.operands(), call.tolerance);
-    let [mut green, mut lesser, mut kernel, mut mixed] = lent(call.made());
-    let [free, sigma, lesser_sigma] = operands;
+    let [mut retarded, mut lesser, mut kernel, mut lesser_advanced] = lent(call.made());
+    let [free, self_energy, lesser_self_energy] = operands;
     let answer = here::transient_run(
         times,
         free,
-        sigma,
-        lesser_sigma,
+        self_energy,
+        lesser_self_energy,
         points,
         orbitals,
         tolerance,
-        &mut green,
+        &mut retarded,
         &mut lesser,
         &mut kernel,
-        &mut mixed,
+        &mut lesser_advanced,
     );
     let theirs = judge::transient_run(points, orbitals, times, operands, tolerance, call.made());
-    filled(answer, [green, lesser, kernel, mixed], theirs)
+    filled(answer, [retarded, lesser, kernel, lesser_advanced], theirs)
 }
 
 fn particle_number(call: &Call) -> Outcome {

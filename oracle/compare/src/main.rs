@@ -14,8 +14,8 @@ mod sides;
 mod source;
 mod stages;
 mod tally;
-mod told;
 mod tolerances;
+mod written;
 
 use sides::Outcome;
 use std::ops::Range;
@@ -48,7 +48,7 @@ fn jobs(calls: u64, seed: u64) -> Vec<Job> {
         stages::jobs(calls / 2, seed),
         tolerances::jobs(calls / 4, seed),
         exhaustive::jobs(),
-        told::jobs(seed),
+        written::jobs(seed),
         random::jobs(calls, seed),
     ];
     parts.into_iter().flatten().collect()

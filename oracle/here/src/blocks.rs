@@ -1,4 +1,4 @@
-//! The operations on blocks, and a chain of products, which `crates/matrix_export` exports.
+//! The operations on blocks, and a chain of products, which `crates/block_exports` exports.
 use crate::{answer, decided, measured, Answer};
 
 /// 16 by 16 entries of two parts.
@@ -27,7 +27,7 @@ impl Block {
 }
 
 mod exported {
-    #[link(name = "matrix_export", kind = "static")]
+    #[link(name = "leechgrommet", kind = "static")]
     extern "C" {
         pub fn leechgrommet_product_chain(a: *const f64, a_len: usize, b: *const f64, b_len: usize, size: usize, turns: usize) -> f64;
 
@@ -402,11 +402,11 @@ pub fn block_subtract(left: &Block, right: &Block, out: &mut Block) -> Answer {
 
 /// The sum of the diagonal, by its real and its imaginary part.
 pub fn block_trace(x: &Block) -> Result<[f64; 2], Answer> {
-    measured(|value, places, part| block_trace_told(x, value, places, part))
+    measured(|value, places, part| block_trace_written(x, value, places, part))
 }
 
-/// The same with slices of any lengths for what is told.
-pub fn block_trace_told(x: &Block, value: &mut [f64], places: &mut [usize], part: &mut [f64]) -> u8 {
+/// The same with slices of any lengths for what is written.
+pub fn block_trace_written(x: &Block, value: &mut [f64], places: &mut [usize], part: &mut [f64]) -> u8 {
     unsafe {
         exported::leechgrommet_block_trace(
             x.rows,
@@ -488,7 +488,7 @@ mod tests {
         (answer, Block::of(0, 0, &[]))
     }
 
-    fn told(call: impl FnOnce(&mut Block) -> Answer) -> (Answer, Block) {
+    fn written(call: impl FnOnce(&mut Block) -> Answer) -> (Answer, Block) {
         let mut out = Block::room();
         (call(&mut out), out)
     }
@@ -503,28 +503,28 @@ mod tests {
     #[test]
     fn made() {
         let row = Block::of(1, 2, &[1.0, 2.0, 3.0, 4.0]);
-        assert_eq!(told(|out| block_from_numbers(1, 2, &[1.0, 2.0, 3.0, 4.0], out)), (ACCEPTED, row.clone()));
-        assert_eq!(told(|out| block_from_numbers(1, 2, &[1.0, 2.0], out)), refused(Answer { number: 3, ..ACCEPTED }));
-        assert_eq!(told(|out| block_from_numbers(1, 1, &[1.0, f64::NAN], out)), refused(Answer { number: 7, first: 1, ..ACCEPTED }));
-        assert_eq!(told(|out| block_identity(2, out)), (ACCEPTED, Block::of(2, 2, &[1.0, 0.0, 0.0, 0.0, 0.0, 0.0, 1.0])));
-        assert_eq!(told(|out| block_zero(2, out)), (ACCEPTED, Block::of(2, 2, &[])));
-        assert_eq!(told(|out| block_zero(17, out)), refused(Answer { number: 2, ..ACCEPTED }));
-        assert_eq!(told(|out| block_from_scalar([1.0, 2.0], out)), (ACCEPTED, Block::of(1, 1, &[1.0, 2.0])));
-        assert_eq!(told(|out| block_from_scalar([1.0, f64::NAN], out)), refused(Answer { number: 7, first: 1, ..ACCEPTED }));
-        assert_eq!(told(|out| block_identity(0, out)), refused(Answer { number: 1, ..ACCEPTED }));
-        assert_eq!(told(|out| block_identity(17, out)), refused(Answer { number: 2, ..ACCEPTED }));
+        assert_eq!(written(|out| block_from_numbers(1, 2, &[1.0, 2.0, 3.0, 4.0], out)), (ACCEPTED, row.clone()));
+        assert_eq!(written(|out| block_from_numbers(1, 2, &[1.0, 2.0], out)), refused(Answer { number: 3, ..ACCEPTED }));
+        assert_eq!(written(|out| block_from_numbers(1, 1, &[1.0, f64::NAN], out)), refused(Answer { number: 7, first: 1, ..ACCEPTED }));
+        assert_eq!(written(|out| block_identity(2, out)), (ACCEPTED, Block::of(2, 2, &[1.0, 0.0, 0.0, 0.0, 0.0, 0.0, 1.0])));
+        assert_eq!(written(|out| block_zero(2, out)), (ACCEPTED, Block::of(2, 2, &[])));
+        assert_eq!(written(|out| block_zero(17, out)), refused(Answer { number: 2, ..ACCEPTED }));
+        assert_eq!(written(|out| block_from_scalar([1.0, 2.0], out)), (ACCEPTED, Block::of(1, 1, &[1.0, 2.0])));
+        assert_eq!(written(|out| block_from_scalar([1.0, f64::NAN], out)), refused(Answer { number: 7, first: 1, ..ACCEPTED }));
+        assert_eq!(written(|out| block_identity(0, out)), refused(Answer { number: 1, ..ACCEPTED }));
+        assert_eq!(written(|out| block_identity(17, out)), refused(Answer { number: 2, ..ACCEPTED }));
         let column = Block::of(2, 1, &[1.0, -2.0, 3.0, -4.0]);
-        assert_eq!(told(|out| block_adjoint(&row, out)), (ACCEPTED, column.clone()));
-        assert_eq!(told(|out| block_scale(&row, [0.0, 1.0], out)), (ACCEPTED, Block::of(1, 2, &[-2.0, 1.0, -4.0, 3.0])));
-        assert_eq!(told(|out| block_scale(&row, [f64::MAX, 0.0], out)), refused(Answer { number: 10, ..ACCEPTED }));
+        assert_eq!(written(|out| block_adjoint(&row, out)), (ACCEPTED, column.clone()));
+        assert_eq!(written(|out| block_scale(&row, [0.0, 1.0], out)), (ACCEPTED, Block::of(1, 2, &[-2.0, 1.0, -4.0, 3.0])));
+        assert_eq!(written(|out| block_scale(&row, [f64::MAX, 0.0], out)), refused(Answer { number: 10, ..ACCEPTED }));
         // |1 + 2i|² + |3 + 4i|²
-        assert_eq!(told(|out| block_multiply(&row, &column, out)), (ACCEPTED, Block::of(1, 1, &[30.0, 0.0])));
-        assert_eq!(told(|out| block_multiply(&row, &row, out)), refused(Answer { number: 3, ..ACCEPTED }));
-        assert_eq!(told(|out| block_add(&row, &row, out)), (ACCEPTED, Block::of(1, 2, &[2.0, 4.0, 6.0, 8.0])));
-        assert_eq!(told(|out| block_subtract(&row, &row, out)), (ACCEPTED, Block::of(1, 2, &[])));
+        assert_eq!(written(|out| block_multiply(&row, &column, out)), (ACCEPTED, Block::of(1, 1, &[30.0, 0.0])));
+        assert_eq!(written(|out| block_multiply(&row, &row, out)), refused(Answer { number: 3, ..ACCEPTED }));
+        assert_eq!(written(|out| block_add(&row, &row, out)), (ACCEPTED, Block::of(1, 2, &[2.0, 4.0, 6.0, 8.0])));
+        assert_eq!(written(|out| block_subtract(&row, &row, out)), (ACCEPTED, Block::of(1, 2, &[])));
         let not_finite = Block::of(1, 2, &[1.0, 1.0, 1.0, f64::INFINITY]);
-        assert_eq!(told(|out| block_add(&row, &not_finite, out)), refused(Answer { number: 7, operand: 1, first: 3, ..ACCEPTED }));
-        assert_eq!(told(|out| block_subtract(&row, &column, out)), refused(Answer { number: 3, ..ACCEPTED }));
+        assert_eq!(written(|out| block_add(&row, &not_finite, out)), refused(Answer { number: 7, operand: 1, first: 3, ..ACCEPTED }));
+        assert_eq!(written(|out| block_subtract(&row, &column, out)), refused(Answer { number: 3, ..ACCEPTED }));
     }
 
     #[test]

@@ -2,7 +2,7 @@
 use crate::{answer, decided, measured, Answer};
 
 mod exported {
-    #[link(name = "solver_export", kind = "static")]
+    #[link(name = "leechgrommet", kind = "static")]
     extern "C" {
         pub fn leechgrommet_consistency_report(
             retarded: *const f64,
@@ -78,11 +78,11 @@ mod exported {
 
 /// The six residuals: retarded and advanced causality, advanced adjoint, lesser and greater anti-Hermiticity, spectral identity.
 pub fn consistency_report(components: [&[f64]; 4], points: usize, orbitals: usize) -> Result<[f64; 6], Answer> {
-    measured(|residuals, places, part| consistency_report_told(components, points, orbitals, residuals, places, part))
+    measured(|residuals, places, part| consistency_report_written(components, points, orbitals, residuals, places, part))
 }
 
-/// The same with slices of any lengths for what is told.
-pub fn consistency_report_told(
+/// The same with slices of any lengths for what is written.
+pub fn consistency_report_written(
     components: [&[f64]; 4],
     points: usize,
     orbitals: usize,
@@ -115,11 +115,11 @@ pub fn consistency_report_told(
 
 /// Whether six residuals, in the report's order, are at most the tolerance.
 pub fn is_consistent(residuals: [f64; 6], tolerance: f64) -> Result<bool, Answer> {
-    decided(|decided, places, part| is_consistent_told(residuals, tolerance, decided, places, part))
+    decided(|decided, places, part| is_consistent_written(residuals, tolerance, decided, places, part))
 }
 
-/// The same with slices of any lengths for what is told.
-pub fn is_consistent_told(residuals: [f64; 6], tolerance: f64, decided: &mut [u8], places: &mut [usize], part: &mut [f64]) -> u8 {
+/// The same with slices of any lengths for what is written.
+pub fn is_consistent_written(residuals: [f64; 6], tolerance: f64, decided: &mut [u8], places: &mut [usize], part: &mut [f64]) -> u8 {
     unsafe {
         exported::leechgrommet_is_consistent(
             residuals[0],

@@ -1,4 +1,4 @@
-//! The functions that `crates/solver_export` exports, over slices, and those of `norm_export` and `matrix_export`.
+//! The functions that `crates/two_time_exports` and `crates/block_exports` export, over slices.
 mod blocks;
 mod keldysh;
 mod norm;
@@ -6,11 +6,13 @@ mod observed;
 
 pub use blocks::{block_add, block_adjoint, block_from_numbers, block_from_scalar, block_get, block_identity, block_is_hermitian};
 pub use blocks::{
-    block_max_difference, block_multiply, block_scale, block_subtract, block_trace, block_trace_told, block_zero, product_chain, Block,
+    block_max_difference, block_multiply, block_scale, block_subtract, block_trace, block_trace_written, block_zero, product_chain, Block,
 };
-pub use keldysh::{consistency_report, consistency_report_told, is_consistent, is_consistent_told, langreth_product};
+pub use keldysh::{consistency_report, consistency_report_written, is_consistent, is_consistent_written, langreth_product};
 pub use norm::norm;
-pub use observed::{bond_flow_into, density_matrix, density_matrix_told, one_body_expectation, particle_number, particle_number_told};
+pub use observed::{
+    bond_flow_into, density_matrix, density_matrix_written, one_body_expectation, particle_number, particle_number_written,
+};
 
 /// An answer: the refusal's number with its places, or 0 where the call is accepted.
 #[derive(Debug, Clone, Copy, PartialEq)]
@@ -62,7 +64,7 @@ type Convolution = unsafe extern "C" fn(
 ) -> u8;
 
 mod exported {
-    #[link(name = "solver_export", kind = "static")]
+    #[link(name = "leechgrommet", kind = "static")]
     extern "C" {
         pub fn leechgrommet_time_convolution(
             times: *const f64,
@@ -115,13 +117,13 @@ mod exported {
             times_len: usize,
             free: *const f64,
             free_len: usize,
-            sigma: *const f64,
-            sigma_len: usize,
+            self_energy: *const f64,
+            self_energy_len: usize,
             points: usize,
             orbitals: usize,
             tolerance: f64,
-            green: *mut f64,
-            green_len: usize,
+            retarded: *mut f64,
+            retarded_len: usize,
             kernel: *mut f64,
             kernel_len: usize,
             places: *mut usize,
@@ -135,21 +137,21 @@ mod exported {
             times_len: usize,
             free: *const f64,
             free_len: usize,
-            sigma: *const f64,
-            sigma_len: usize,
-            source: *const f64,
-            source_len: usize,
+            self_energy: *const f64,
+            self_energy_len: usize,
+            lesser_self_energy: *const f64,
+            lesser_self_energy_len: usize,
             points: usize,
             orbitals: usize,
             tolerance: f64,
-            green: *mut f64,
-            green_len: usize,
+            retarded: *mut f64,
+            retarded_len: usize,
             lesser: *mut f64,
             lesser_len: usize,
             kernel: *mut f64,
             kernel_len: usize,
-            mixed: *mut f64,
-            mixed_len: usize,
+            lesser_advanced: *mut f64,
+            lesser_advanced_len: usize,
             places: *mut usize,
             places_len: usize,
             part: *mut f64,
@@ -208,11 +210,11 @@ pub fn check_retarded_support(xs: &[f64], points: usize, orbitals: usize, tolera
 pub fn retarded_dyson_with_tolerance(
     times: &[f64],
     free: &[f64],
-    sigma: &[f64],
+    self_energy: &[f64],
     points: usize,
     orbitals: usize,
     tolerance: f64,
-    green: &mut [f64],
+    retarded: &mut [f64],
     kernel: &mut [f64],
 ) -> Answer {
     answer(|places, part| unsafe {
@@ -221,13 +223,13 @@ pub fn retarded_dyson_with_tolerance(
             times.len(),
             free.as_ptr(),
             free.len(),
-            sigma.as_ptr(),
-            sigma.len(),
+            self_energy.as_ptr(),
+            self_energy.len(),
             points,
             orbitals,
             tolerance,
-            green.as_mut_ptr(),
-            green.len(),
+            retarded.as_mut_ptr(),
+            retarded.len(),
             kernel.as_mut_ptr(),
             kernel.len(),
             places.as_mut_ptr(),
@@ -243,15 +245,15 @@ pub fn retarded_dyson_with_tolerance(
 pub fn transient_run(
     times: &[f64],
     free: &[f64],
-    sigma: &[f64],
-    source: &[f64],
+    self_energy: &[f64],
+    lesser_self_energy: &[f64],
     points: usize,
     orbitals: usize,
     tolerance: f64,
-    green: &mut [f64],
+    retarded: &mut [f64],
     lesser: &mut [f64],
     kernel: &mut [f64],
-    mixed: &mut [f64],
+    lesser_advanced: &mut [f64],
 ) -> Answer {
     answer(|places, part| unsafe {
         exported::leechgrommet_transient_run(
@@ -259,21 +261,21 @@ pub fn transient_run(
             times.len(),
             free.as_ptr(),
             free.len(),
-            sigma.as_ptr(),
-            sigma.len(),
-            source.as_ptr(),
-            source.len(),
+            self_energy.as_ptr(),
+            self_energy.len(),
+            lesser_self_energy.as_ptr(),
+            lesser_self_energy.len(),
             points,
             orbitals,
             tolerance,
-            green.as_mut_ptr(),
-            green.len(),
+            retarded.as_mut_ptr(),
+            retarded.len(),
             lesser.as_mut_ptr(),
             lesser.len(),
             kernel.as_mut_ptr(),
             kernel.len(),
-            mixed.as_mut_ptr(),
-            mixed.len(),
+            lesser_advanced.as_mut_ptr(),
+            lesser_advanced.len(),
             places.as_mut_ptr(),
             places.len(),
             part.as_mut_ptr(),
@@ -342,33 +344,33 @@ mod tests {
 
     #[test]
     fn dyson() {
-        let (times, retarded) = ([0.0, 1.0], [1.0, 0.0, 0.0, 0.0, 1.0, 0.0, 1.0, 0.0]);
-        let (mut green, mut kernel) = ([5.0; 8], [6.0; 8]);
+        let (times, step) = ([0.0, 1.0], [1.0, 0.0, 0.0, 0.0, 1.0, 0.0, 1.0, 0.0]);
+        let (mut retarded, mut kernel) = ([5.0; 8], [6.0; 8]);
         let mut solve =
-            |sigma: &[f64], tolerance| retarded_dyson_with_tolerance(&times, &retarded, sigma, 2, 1, tolerance, &mut green, &mut kernel);
+            |self_energy: &[f64], tolerance| retarded_dyson_with_tolerance(&times, &step, self_energy, 2, 1, tolerance, &mut retarded, &mut kernel);
         assert_eq!(solve(&[1.0; 8], 0.5), Answer { number: 9, operand: 1, second: 1, part: 1.0, ..ACCEPTED });
-        assert_eq!(solve(&retarded, 0.0), Answer { number: 8, ..ACCEPTED });
-        assert_eq!(solve(&retarded, 0.5), ACCEPTED);
+        assert_eq!(solve(&step, 0.0), Answer { number: 8, ..ACCEPTED });
+        assert_eq!(solve(&step, 0.5), ACCEPTED);
         // K(1,0) = 1/2·1 + 1/2·1, and G(1,0) = 1 + 1/2·K(1,0)·G(0,0).
         assert_eq!(kernel, [0.0, 0.0, 0.0, 0.0, 1.0, 0.0, 0.0, 0.0]);
-        assert_eq!(green, [1.0, 0.0, 0.0, 0.0, 1.5, 0.0, 1.0, 0.0]);
+        assert_eq!(retarded, [1.0, 0.0, 0.0, 0.0, 1.5, 0.0, 1.0, 0.0]);
     }
 
     #[test]
     fn transient() {
-        let (times, retarded) = ([0.0, 1.0], [1.0, 0.0, 0.0, 0.0, 1.0, 0.0, 1.0, 0.0]);
-        let (mut green, mut lesser, mut kernel, mut mixed) = ([5.0; 8], [6.0; 8], [7.0; 8], [8.0; 8]);
-        let mut run = |source: &[f64]| {
-            transient_run(&times, &retarded, &retarded, source, 2, 1, 0.5, &mut green, &mut lesser, &mut kernel, &mut mixed)
+        let (times, step) = ([0.0, 1.0], [1.0, 0.0, 0.0, 0.0, 1.0, 0.0, 1.0, 0.0]);
+        let (mut retarded, mut lesser, mut kernel, mut lesser_advanced) = ([5.0; 8], [6.0; 8], [7.0; 8], [8.0; 8]);
+        let mut run = |lesser_self_energy: &[f64]| {
+            transient_run(&times, &step, &step, lesser_self_energy, 2, 1, 0.5, &mut retarded, &mut lesser, &mut kernel, &mut lesser_advanced)
         };
-        let mut source = [0.0, 1.0, 0.0, 1.0, 0.0, 1.0, 0.0, f64::NAN];
-        assert_eq!(run(&source), Answer { number: 7, operand: 2, first: 7, ..ACCEPTED });
-        source[7] = 1.0;
-        assert_eq!(run(&source), ACCEPTED);
+        let mut lesser_self_energy = [0.0, 1.0, 0.0, 1.0, 0.0, 1.0, 0.0, f64::NAN];
+        assert_eq!(run(&lesser_self_energy), Answer { number: 7, operand: 2, first: 7, ..ACCEPTED });
+        lesser_self_energy[7] = 1.0;
+        assert_eq!(run(&lesser_self_energy), ACCEPTED);
         assert_eq!(kernel, [0.0, 0.0, 0.0, 0.0, 1.0, 0.0, 0.0, 0.0]);
-        assert_eq!(green, [1.0, 0.0, 0.0, 0.0, 1.5, 0.0, 1.0, 0.0]);
+        assert_eq!(retarded, [1.0, 0.0, 0.0, 0.0, 1.5, 0.0, 1.0, 0.0]);
         // X(t,1) = 1/2·i·3/2 + 1/2·i·1, and G^<(1,1) = 1/2·3/2·X(0,1) + 1/2·1·X(1,1).
-        assert_eq!(mixed, [0.0, 0.0, 0.0, 1.25, 0.0, 0.0, 0.0, 1.25]);
+        assert_eq!(lesser_advanced, [0.0, 0.0, 0.0, 1.25, 0.0, 0.0, 0.0, 1.25]);
         assert_eq!(lesser, [0.0, 0.0, 0.0, 0.0, 0.0, 0.0, 0.0, 1.5625]);
         assert_eq!(particle_number(&lesser, 2, 1, 1, 0.5), Ok(1.5625));
     }

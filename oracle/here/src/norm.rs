@@ -1,7 +1,7 @@
-//! The norm, which `crates/norm_export` exports.
+//! The norm, which `crates/block_exports` exports.
 
 mod exported {
-    #[link(name = "norm_export", kind = "static")]
+    #[link(name = "leechgrommet", kind = "static")]
     extern "C" {
         pub fn leechgrommet_norm(re: f64, im: f64) -> f64;
     }

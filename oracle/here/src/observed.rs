@@ -3,7 +3,7 @@ use crate::blocks::{filled, Block};
 use crate::{measured, Answer};
 
 mod exported {
-    #[link(name = "solver_export", kind = "static")]
+    #[link(name = "leechgrommet", kind = "static")]
     extern "C" {
         pub fn leechgrommet_particle_number(
             lesser: *const f64,
@@ -82,12 +82,12 @@ fn observe(call: impl FnOnce(&mut [f64; 1], &mut [usize; 3], &mut [f64; 1]) -> u
 
 /// The density matrix at a time.
 pub fn density_matrix(lesser: &[f64], points: usize, orbitals: usize, time: usize, out: &mut Block) -> Answer {
-    filled(out, |shape, out, places, part| density_matrix_told(lesser, points, orbitals, time, shape, out, places, part))
+    filled(out, |shape, out, places, part| density_matrix_written(lesser, points, orbitals, time, shape, out, places, part))
 }
 
-/// The same with slices of any lengths for what is told.
+/// The same with slices of any lengths for what is written.
 #[allow(clippy::too_many_arguments)]
-pub fn density_matrix_told(
+pub fn density_matrix_written(
     lesser: &[f64],
     points: usize,
     orbitals: usize,
@@ -117,12 +117,12 @@ pub fn density_matrix_told(
 }
 
 pub fn particle_number(lesser: &[f64], points: usize, orbitals: usize, time: usize, tolerance: f64) -> Result<f64, Answer> {
-    observe(|value, places, part| particle_number_told(lesser, points, orbitals, time, tolerance, value, places, part))
+    observe(|value, places, part| particle_number_written(lesser, points, orbitals, time, tolerance, value, places, part))
 }
 
-/// The same with slices of any lengths for what is told.
+/// The same with slices of any lengths for what is written.
 #[allow(clippy::too_many_arguments)]
-pub fn particle_number_told(
+pub fn particle_number_written(
     lesser: &[f64],
     points: usize,
     orbitals: usize,

@@ -11,7 +11,7 @@ pub fn full_weights(points: usize, times: &[f64], lent: [usize; 1]) -> Filled<1>
     Ok([grid(points, times, &lent)?.weights().to_vec()])
 }
 
-pub fn interval_weight(points: usize, times: &[f64], point: usize, start: usize, end: usize) -> Answer<f64> {
+pub fn checked_interval_weight(points: usize, times: &[f64], point: usize, start: usize, end: usize) -> Answer<f64> {
     let grid = grid(points, times, &[])?;
     // The port has no such refusal, and may read past the times.
     require(end < points, 11)?;
@@ -24,7 +24,7 @@ pub fn check_times(points: usize, times: &[f64]) -> Answer<()> {
 }
 
 /// Lines 4 to 6 of two times or more.
-pub fn time_lines(times: &[f64]) -> Answer<()> {
+pub fn check_grid(times: &[f64]) -> Answer<()> {
     RealTimeGrid::try_new(times.to_vec()).map(|_| ()).map_err(refusal)
 }
 
@@ -36,7 +36,7 @@ pub fn full_weight(times: &[f64], index: usize) -> f64 {
 
 /// The weight of a point in an interval that may end past the times. Where a time past the end is asked for it is a NaN: the port would
 /// read past the times.
-pub fn trapezoid_weight(times: &[f64], point: usize, start: usize, end: usize) -> f64 {
+pub fn interval_weight(times: &[f64], point: usize, start: usize, end: usize) -> f64 {
     let grid = RealTimeGrid::try_new(times.to_vec()).expect("a grid");
     let inside = start < end && (start..=end).contains(&point);
     if inside && times.len() <= end.min(point.saturating_add(1)) {
@@ -80,10 +80,10 @@ fn dyson(
     lent: [usize; 2],
     solve: impl Fn(&RealTimeGrid, &TwoTimeMatrix, &TwoTimeMatrix) -> keldysh_green::Result<TwoTimeMatrix>,
 ) -> Filled<2> {
-    let (grid, [free, sigma]) = functions_of_times(points, orbitals, times, operands, &lent)?;
-    let green = solve(&grid, &free, &sigma).map_err(refusal)?;
-    let kernel = keldysh_green::causal_volterra_convolution(&grid, &free, &sigma).map_err(refusal)?;
-    Ok([&green, &kernel].map(numbers))
+    let (grid, [free, self_energy]) = functions_of_times(points, orbitals, times, operands, &lent)?;
+    let retarded = solve(&grid, &free, &self_energy).map_err(refusal)?;
+    let kernel = keldysh_green::causal_volterra_convolution(&grid, &free, &self_energy).map_err(refusal)?;
+    Ok([&retarded, &kernel].map(numbers))
 }
 
 /// Operands: free propagator, self-energy.
@@ -100,17 +100,17 @@ pub fn retarded_dyson_with_tolerance(
     tolerance: f64,
     lent: [usize; 2],
 ) -> Filled<2> {
-    dyson(points, orbitals, times, operands, lent, |grid, free, sigma| {
-        keldysh_green::retarded_dyson_with_tolerance(grid, free, sigma, tolerance)
+    dyson(points, orbitals, times, operands, lent, |grid, free, self_energy| {
+        keldysh_green::retarded_dyson_with_tolerance(grid, free, self_energy, tolerance)
     })
 }
 
 /// G^R, G^<, K, X. Operands: free propagator, retarded self-energy, Σ^<.
 pub fn transient_run(points: usize, orbitals: usize, times: &[f64], operands: [&[f64]; 3], tolerance: f64, lent: [usize; 4]) -> Filled<4> {
-    let (grid, [free, sigma, source]) = functions_of_times(points, orbitals, times, operands, &lent)?;
-    let made = shared::transient_run(&grid, &free, &sigma, &source, tolerance).map_err(refusal)?;
-    let kernel = keldysh_green::causal_volterra_convolution(&grid, &free, &sigma).map_err(refusal)?;
-    Ok([&made.green, &made.lesser, &kernel, &made.mixed].map(numbers))
+    let (grid, [free, self_energy, lesser_self_energy]) = functions_of_times(points, orbitals, times, operands, &lent)?;
+    let made = shared::transient_run(&grid, &free, &self_energy, &lesser_self_energy, tolerance).map_err(refusal)?;
+    let kernel = keldysh_green::causal_volterra_convolution(&grid, &free, &self_energy).map_err(refusal)?;
+    Ok([&made.retarded, &made.lesser, &kernel, &made.lesser_advanced].map(numbers))
 }
 
 pub fn density_matrix(points: usize, orbitals: usize, lesser: &[f64], time: usize) -> Answer<Block> {

@@ -8,9 +8,9 @@ pub mod stages;
 pub use blocks::{add, adjoint, from_numbers, from_scalar, get, identity, is_hermitian, max_difference, multiply, norm, scale, subtract};
 pub use blocks::{trace, zero, Block};
 pub use functions::{bond_flow_into, density_matrix, one_body_expectation, particle_number};
-pub use functions::{causal_volterra_convolution, consistency_report, full_weights, interval_weight, is_consistent, langreth_product};
+pub use functions::{causal_volterra_convolution, checked_interval_weight, consistency_report, full_weights, is_consistent, langreth_product};
 pub use functions::{check_retarded_support, retarded_dyson, retarded_dyson_with_tolerance, time_convolution, transient_run, Filled};
-pub use functions::{check_times, full_weight, half_step, time_lines, trapezoid_weight};
+pub use functions::{check_grid, check_times, full_weight, half_step, interval_weight};
 
 /// A refusal: its number and its places, which are 0 where its line has none.
 #[derive(Debug, Clone, Copy, PartialEq)]

@@ -58,7 +58,7 @@ impl Work {
         })
     }
 
-    fn green(&self, free: &TwoTimeMatrix, kernel: &TwoTimeMatrix) -> Made {
+    fn retarded(&self, free: &TwoTimeMatrix, kernel: &TwoTimeMatrix) -> Made {
         let (points, mut blocks) = (free.time_points(), Vec::new());
         function("G", free, |t, u| {
             let start = if t < u { zero(free.orbitals())? } else { free.get(t, u)?.clone() };
@@ -90,18 +90,18 @@ pub fn causal_volterra_convolution(points: usize, orbitals: usize, times: &[f64]
 }
 
 pub fn retarded_dyson(points: usize, orbitals: usize, times: &[f64], operands: [&[f64]; 2]) -> Option<Stage> {
-    let (work, [free, sigma]) = work(points, orbitals, times, operands);
-    let made = || work.green(&free, &work.causal("K", &free, &sigma)?);
+    let (work, [free, self_energy]) = work(points, orbitals, times, operands);
+    let made = || work.retarded(&free, &work.causal("K", &free, &self_energy)?);
     made().err()
 }
 
 pub fn transient_run(points: usize, orbitals: usize, times: &[f64], operands: [&[f64]; 3]) -> Option<Stage> {
-    let (work, [free, sigma, source]) = work(points, orbitals, times, operands);
+    let (work, [free, self_energy, lesser_self_energy]) = work(points, orbitals, times, operands);
     let made = || {
-        let green = work.green(&free, &work.causal("K", &free, &sigma)?)?;
-        let advanced = function("G^A", &free, |t, u| Ok(green.get(u, t)?.adjoint()))?;
-        let mixed = function("X", &free, |t, u| work.over(&source, &advanced, [t, u], [0, u]))?;
-        function("G^<", &free, |t, u| work.over(&green, &mixed, [t, u], [0, t]))
+        let retarded = work.retarded(&free, &work.causal("K", &free, &self_energy)?)?;
+        let advanced = function("G^A", &free, |t, u| Ok(retarded.get(u, t)?.adjoint()))?;
+        let lesser_advanced = function("X", &free, |t, u| work.over(&lesser_self_energy, &advanced, [t, u], [0, u]))?;
+        function("G^<", &free, |t, u| work.over(&retarded, &lesser_advanced, [t, u], [0, t]))
     };
     made().err()
 }

@@ -32,16 +32,16 @@ pub fn answer(function: u64, x: &mut Inputs) -> String {
         23 => answered(judge::max_difference(&x.block(0), &x.block(1)), number),
         24 => answered(judge::is_hermitian(&x.block(0), x.tolerance), decided),
         25 => full_weights(x),
-        26 => interval_weight(x),
+        26 => checked_interval_weight(x),
         27 => identity_times(x),
         28 => answered(adjoint_plus_is_hermitian(x), decided),
         29 => block(judge::from_scalar(x.numbers())),
         30 => block(judge::zero(x.place())),
         31 => accepted(judge::check_times(x.points, &x.times)),
-        32 => accepted(judge::time_lines(&x.times)),
+        32 => accepted(judge::check_grid(&x.times)),
         33 => half_step(x),
         34 => full_weight(x),
-        35 => trapezoid_weight(x),
+        35 => interval_weight(x),
         function => panic!("no function {function}"),
     }
 }
@@ -138,9 +138,9 @@ fn full_weights(x: &mut Inputs) -> String {
     filled(judge::full_weights(x.points, &x.times, lengths(&lent)), lent, false)
 }
 
-fn interval_weight(x: &mut Inputs) -> String {
+fn checked_interval_weight(x: &mut Inputs) -> String {
     let (point, start, end) = (x.place(), x.place(), x.place());
-    answered(judge::interval_weight(x.points, &x.times, point, start, end), number)
+    answered(judge::checked_interval_weight(x.points, &x.times, point, start, end), number)
 }
 
 fn half_step(x: &mut Inputs) -> String {
@@ -153,7 +153,7 @@ fn full_weight(x: &mut Inputs) -> String {
     number(judge::full_weight(&x.times, index))
 }
 
-fn trapezoid_weight(x: &mut Inputs) -> String {
+fn interval_weight(x: &mut Inputs) -> String {
     let (point, start, end) = (x.place(), x.place(), x.place());
-    number(judge::trapezoid_weight(&x.times, point, start, end))
+    number(judge::interval_weight(&x.times, point, start, end))
 }

@@ -3,23 +3,23 @@ use keldysh_green::{kept::interval_sum, retarded_dyson_with_tolerance, RealTimeG
 
 /// G^R, G^< and X.
 pub struct Transient {
-    pub green: TwoTimeMatrix,
+    pub retarded: TwoTimeMatrix,
     pub lesser: TwoTimeMatrix,
-    pub mixed: TwoTimeMatrix,
+    pub lesser_advanced: TwoTimeMatrix,
 }
 
 /// X(t,t') sums Σ^<(t,s)·G^A(s,t') to t', then G^<(t,t') sums G^R(t,s)·X(s,t') to t. G^A(s,t') is the adjoint of G^R(t',s).
 pub fn transient_run(
     grid: &RealTimeGrid,
     free: &TwoTimeMatrix,
-    sigma: &TwoTimeMatrix,
-    source: &TwoTimeMatrix,
+    self_energy: &TwoTimeMatrix,
+    lesser_self_energy: &TwoTimeMatrix,
     tolerance: f64,
 ) -> Result<Transient> {
     let (points, orbitals) = (grid.len(), free.orbitals());
-    let green = retarded_dyson_with_tolerance(grid, free, sigma, tolerance)?;
-    let advanced = TwoTimeMatrix::try_from_fn(points, orbitals, |s, u| Ok(green.get(u, s)?.adjoint()))?;
-    let mixed = TwoTimeMatrix::try_from_fn(points, orbitals, |t, u| interval_sum(grid, source, &advanced, [t, u], [0, u]))?;
-    let lesser = TwoTimeMatrix::try_from_fn(points, orbitals, |t, u| interval_sum(grid, &green, &mixed, [t, u], [0, t]))?;
-    Ok(Transient { green, lesser, mixed })
+    let retarded = retarded_dyson_with_tolerance(grid, free, self_energy, tolerance)?;
+    let advanced = TwoTimeMatrix::try_from_fn(points, orbitals, |s, u| Ok(retarded.get(u, s)?.adjoint()))?;
+    let lesser_advanced = TwoTimeMatrix::try_from_fn(points, orbitals, |t, u| interval_sum(grid, lesser_self_energy, &advanced, [t, u], [0, u]))?;
+    let lesser = TwoTimeMatrix::try_from_fn(points, orbitals, |t, u| interval_sum(grid, &retarded, &lesser_advanced, [t, u], [0, t]))?;
+    Ok(Transient { retarded, lesser, lesser_advanced })
 }

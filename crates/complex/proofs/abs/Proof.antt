@@ -1,21 +1,12 @@
--- `complex::abs` meets its contract, by cases on the number and its sign: below zero the sign is turned, a zero gives +0, and any other
+-- `complex::abs` meets its contract, by cases on the number and its sign: below zero the sign is cleared, a zero gives +0, and any other
 -- number is its own size. That a zero is written in one way is what its format says. Assumes nothing.
-use mathlib.Core.Path.{_≡_, refl, sym, _∙_}
-use mathlib.Core.Bool.{Bool, true, false, _&&_}
-use Prim.Native.Nat.{ℕ, zero, suc, _+_, _*_, _^_, _≤_, _<_}
-use native.Mathlib.Nat.{zero-mul, one-mul, mul-one, mul-pos, zero-lt-suc}
-use native.Mathlib.Omega.{arith}
-use lib.IntN.{ℤ, pos, negsuc}
-use lib.Pow.{pow-lt}
-use lib.Ieee.{Float, nan, inf, fin, lt, eq, neg, ofBits, binary64, fits, up, down, level}
+use Rattle.lists.specs.Prelude.{_≡_, refl, sym, _∙_, true, false, ℕ, zero, suc, _+_, _*_, _^_, _≤_, _<_, zero-mul, one-mul, mul-one, mul-pos, zero-lt-suc, arith, ℤ, pos}
+use Rattle.lists.specs.Prelude.{negsuc, pow-lt, Float, nan, inf, fin, lt, eq, neg, ofBits, binary64, fits, up, down, level, ltb-true, ltb-false, eqb-true}
 use lib.Ieee.Fits.{up-pos}
-use borrow.Author.Tests.{ltb-true, ltb-false, eqb-true}
+use Rattle.lists.specs.Agreement.{never, both}
 use Rattle.complex.specs.Arithmetic.{size, plusZero}
 use Rattle.complex.proofs.abs.Statement.{statement}
 use Rattle.complex.proofs.abs.Tie as tie
-
-never : {P : Type 0} → false ≡ true → P
-never e = absurd (let z : _≡_ {A = ℕ} 0 1 = cc in omega arith)
 
 below : (x : Float) → lt x plusZero ≡ true → neg x ≡ size x
 unfolding lt neg size ofBits
@@ -33,17 +24,13 @@ plain (pos zero) h = refl
 plain (pos (suc k)) h = absurd (let l : 1 < 2 ^ suc k = pow-lt {i = 0} (zero-lt-suc k) in omega (arith, mul-one (2 ^ suc k)))
 plain (negsuc k) h = absurd (let l : 1 < 2 ^ suc k = pow-lt {i = 0} (zero-lt-suc k) in omega (arith, one-mul (2 ^ suc k)))
 
-left : (a b : Bool) → a && b ≡ true → a ≡ true
-left true b h = refl
-left false b h = never h
-
 none : (x : Float) → fits binary64 x ≡ true → eq x plusZero ≡ true → plusZero ≡ size x
 unfolding eq size ofBits fits
 none nan f h = never h
 none (inf s) f h = never h
 none (fin s zero e) f h = rw (plain e (eqb-true _ _ f))
 none (fin s (suc m) e) f h =
-    let l : suc m * up e * 1 ≡ 0 * down e = eqb-true _ _ (left _ _ h) in
+    let l : suc m * up e * 1 ≡ 0 * down e = eqb-true _ _ (both _ _ h .0) in
     absurd (omega (arith, zero-mul (down e), mul-pos (zero-lt-suc m) (up-pos e)))
 
 level-zero : (a b : ℕ) → a ≡ 0 → b ≡ 0 → level true a false b ≡ true
@@ -61,14 +48,10 @@ above (fin true m e) h k =
     let b : 0 * down e ≡ 0 = omega arith in
     never (sym (sym (level-zero (m * up e * 1) (0 * down e) a b) ∙ k))
 
-returns : tie.Need-returns
-returns c = below _ (c .if1 .taken)
-
-returns-2 : tie.Need-returns-2
-returns-2 c = none _ (c .before .before .good .0 .1) (c .if2 .taken)
-
-returns-3 : tie.Need-returns-3
-returns-3 c = above _ (c .before .if1 .left) (c .if2 .left)
-
 pub abs-spec : {M : Type 1} → statement M
-abs-spec = tie.close (tie.spec returns returns-2 returns-3)
+abs-spec =
+    tie.close
+    (tie.spec
+    (λ c. below _ (c .if1 .taken))  -- returns
+    (λ c. none _ (c .before .before .good .0 .1) (c .if2 .taken))  -- returns-2
+    (λ c. above _ (c .before .if1 .left) (c .if2 .left)))  -- returns-3

@@ -1,8 +1,6 @@
 -- `complex::is_finite` meets its contract: a number between the infinities is no NaN and neither of them. By cases, each of which computes.
 -- Assumes nothing.
-use mathlib.Core.Path.{_≡_, refl}
-use mathlib.Core.Bool.{true, false, _&&_}
-use lib.Ieee.{Float, nan, inf, fin, lt, div, neg, ofBits, binary64}
+use Rattle.lists.specs.Prelude.{_≡_, refl, true, false, _&&_, Float, nan, inf, fin, lt, div, neg, ofBits, binary64}
 use Rattle.complex.specs.Arithmetic.{finite, plusZero, one}
 use Rattle.complex.proofs.is_finite.Statement.{statement}
 use Rattle.complex.proofs.is_finite.Tie as tie
@@ -14,8 +12,5 @@ between (inf true) = refl
 between (inf false) = refl
 between (fin s m e) = refl
 
-returns : tie.Need-returns
-returns c = between (c .args .x)
-
 pub is-finite-spec : {M : Type 1} → statement M
-is-finite-spec = tie.close (tie.spec returns)
+is-finite-spec = tie.close (tie.spec (λ c. between (c .args .x)))

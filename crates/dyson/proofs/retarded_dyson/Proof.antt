@@ -1,7 +1,6 @@
 -- `dyson::retarded_dyson` meets its contract: the tolerance is the binary64 nearest to 1e-12. Assumes nothing.
-use lib.Dec.{lit≤}
-use borrow.Author.Needs.{needs}
-use Rattle.norm.specs.Sizes.{at-most-infinity}
+use Rattle.lists.specs.Prelude.{lit≤, needs}
+use Rattle.complex.specs.Bits.{at-most-infinity}
 use Rattle.dyson.specs.Calls.{dyson}
 use Rattle.dyson.proofs.retarded_dyson.Statement.{statement}
 use Rattle.dyson.proofs.retarded_dyson.Tie as tie

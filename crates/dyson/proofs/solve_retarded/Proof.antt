@@ -1,44 +1,36 @@
 -- `dyson::solve_retarded` meets its contract: unfit, finite, or not finite with both slices cleared. Assumes nothing.
-use mathlib.Core.Path.{_≡_, sym, ap, _∙_}
-use mathlib.Core.Bool.{true}
-use mathlib.Core.List.{[], _∷_}
-use Prim.Native.Nat.{ℕ}
-use lib.ListN.{replicate}
-use denote.Ref.{now}
-use borrow.Author.Needs.{needs}
-use borrow.Author.Tests.{not-true, not-false}
-use Rattle.complex.specs.Arithmetic.{plusZero}
-use Rattle.two_time.specs.Layout.{lengthOf}
+use Rattle.lists.specs.Prelude.{_≡_, sym, ap, _∙_, true, false, [], _∷_, arith, now, needs, not-true, not-false}
+use Rattle.refusal.specs.declared.Verdict.the-variants.{Pass}
 use Rattle.two_time.specs.declared.sums.Sums.the-variants.{Causal}
-use Rattle.two_time.specs.Sums.{sumsFine}
-use Rattle.two_time.specs.Calls.{sizeLines}
-use Rattle.two_time.specs.SizeLines.{sizes-asked, sizes-pass, fits-more, long-first, long-also, long-none}
-use Rattle.dyson.specs.Retarded.{retardedNumbers, retardedFine}
-use Rattle.dyson.specs.Calls.{kernelOf}
-use Rattle.dyson.specs.Outcome.{unfit, sizes, kernel-made, kernel-overflows, accepted, green-overflows}
+use Rattle.two_time.specs.Sums.{sumsFinite}
+use Rattle.two_time.specs.Calls.{sizeChecks}
+use Rattle.two_time.specs.Outcome.{sums-said, ends-unfit, ends-finite, ends-overflow}
+use Rattle.two_time.specs.SizeChecks.{SizesPassed, sizes-asked, sizes-passed}
+use Rattle.two_time.specs.Lengths.{lengths, none-asked, also-asked}
+use Rattle.two_time.specs.Checks.{cleared}
+use Rattle.dyson.specs.Retarded.{retardedNumbers}
+use Rattle.dyson.specs.Calls.{Equation, equationOf, kernelOf, solvedFinite, solvedRetarded}
+use Rattle.dyson.specs.Checks.{kernel-fails, kernel-made}
 use Rattle.dyson.proofs.solve_retarded.Statement.{statement}
 use Rattle.dyson.proofs.solve_retarded.Tie as tie
 
-abbrev start : tie.After-sizes → tie.Start
-start c = c .before .before .before .before .before .before .before .before .before .before .before .before
+abbrev start : tie.After-check-sizes → tie.Start
+start c = c .before .before .before .before .before .before .before .before .before
 
--- the verdict is that of lines 1 to 3
-asked : (c : tie.After-sizes) → let x = start c .args in
-    c .sizes .result ≡ sizeLines (x .points) (x .orbitals) true (now (x .free) ∷ now (x .self-energy) ∷ now (x .green) ∷ now (x .kernel) ∷ [])
-asked c =
-    let x = start c .args in
-    let h = c .before in
-    sizes-asked (x .points) (x .orbitals) _ true _ _
-    (fits-more _ _ _ _ _ _ (h .before .before .before .before .before .has-length .ensures) (fits-more _ _ _ _ _ _ (h .before .before .before .before .has-length2 .ensures)
-    (fits-more _ _ _ _ _ _ (h .before .before .has-length3 .ensures) (h .has-length4 .ensures))))
-    (c .sizes .ensures)
+abbrev equation : tie.Start → Equation
+equation s = let x = s .args in equationOf (x .points) (x .orbitals) (now (x .times)) (now (x .free)) (now (x .self-energy))
+
+-- the verdict is that of checks 1 to 3
+checked : (c : tie.After-check-sizes) → let x = start c .args in
+    c .check-sizes .result ≡ sizeChecks (x .points) (x .orbitals) true (now (x .free) ∷ now (x .self-energy) ∷ now (x .retarded) ∷ now (x .kernel) ∷ [])
+checked c = sizes-asked _ _ _ true _ _ (c .before .all-fit .ensures) (c .check-sizes .ensures)
 
 returns : tie.Need-returns
+unfolding solvedRetarded
 returns c =
     let s = c .before .before in
-    let x = start s .args in
-    let k = unfit (x .points) (x .orbitals) (now (x .times)) (now (x .free)) (now (x .self-energy)) (now (x .green)) (now (x .kernel)) _ (asked s) _ (c .enum-told2 .given .1) in
-    (k .answered, k .green, k .scratch)
+    let e = ends-unfit (solvedFinite (equation (start s))) (sym (checked s) ∙ c .enum-told2 .given .1) in
+    (e .answered, e .slice _ _, e .slice _ _)
 
 -- the places before the convolution's answer
 abbrev convolved : tie.After-is-finite → tie.After-weighted-sums
@@ -47,85 +39,85 @@ convolved f = f .before .before .before
 abbrev told : tie.After-is-finite → tie.After-enum-told
 told f = convolved f .before .before
 
-abbrev sized : tie.After-is-finite → tie.After-sizes
-sized f = told f .before .before
+abbrev at : tie.After-is-finite → tie.Start
+at f = start (told f .before .before)
+
+passed : (f : tie.After-is-finite) → let x = at f .args in
+    sizeChecks (x .points) (x .orbitals) true (now (x .free) ∷ now (x .self-energy) ∷ now (x .retarded) ∷ now (x .kernel) ∷ []) ≡ Pass
+passed f = sym (checked (told f .before .before)) ∙ told f .enum-told .given .1
+
+sizes : (f : tie.After-is-finite) → let x = at f .args in
+    SizesPassed (x .points) (x .orbitals) true (now (x .free) ∷ now (x .self-energy) ∷ now (x .retarded) ∷ now (x .kernel) ∷ [])
+sizes f = sizes-passed _ _ _ _ (passed f)
+
+operands : (f : tie.After-is-finite) → let x = at f .args in SizesPassed (x .points) (x .orbitals) true (now (x .free) ∷ now (x .self-energy) ∷ now (x .kernel) ∷ [])
+operands f = let l = lengths (sizes f) in also-asked (omega arith) (also-asked (omega arith) (also-asked (omega arith) (none-asked (sizes f))))
 
 returns-2 : tie.Need-returns-2
+unfolding solvedRetarded
 returns-2 c =
     let clear = c .before .before in
     let i = clear .before .before in
     let f = i .before in
     let w = convolved f in
-    let s = sized f in
-    let x = start s .args in
-    let k = kernel-overflows (x .points) (x .orbitals) (now (x .times)) (now (x .free)) (now (x .self-energy)) (now (x .green)) (now (x .kernel)) _ (asked s) (told f .enum-told .given .1)
-    _ _ (w .weighted-sums .ensures .0) (w .weighted-sums .ensures .1) (sym (f .is-finite .ensures) ∙ not-true _ (i .if1 .taken)) in
-    (k .answered, clear .clear .ensures ∙ k .green, k .scratch)
+    let k = sums-said Causal _ _ _ _ _ _ (operands f) (w .weighted-sums .ensures .0) (w .weighted-sums .ensures .1) false (sym (not-true _ (i .if1 .taken)) ∙ f .is-finite .ensures) in
+    let e = ends-overflow _ (passed f) (kernel-fails (equation (at f)) (k .0)) in
+    (e .answered, clear .clear .ensures ∙ e .slice _ _, k .1 ∙ e .slice _ _)
 
 forward-requires : tie.Need-forward-requires
 forward-requires c κs =
     let f = c .before .before .before in
-    let w = convolved f in
-    let s = sized f in
-    let x = start s .args in
-    let z = sizes (x .points) (x .orbitals) (now (x .times)) (now (x .free)) (now (x .self-energy)) (now (x .green)) (now (x .kernel)) _ (asked s) (told f .enum-told .given .1) in
-    let count = lengthOf (x .points) (x .orbitals) in
-    let l = long-first count (now (x .free)) _ (z .long) in
-    let e = long-first count (now (x .self-energy)) _ (l .1) in
-    let g = long-first count (now (x .green)) _ (e .1) in
-    let k = long-first count (now (x .kernel)) _ (g .1) in
-    sizes-pass _ z (long-also count (now (x .free)) _ (l .0) (long-also count _ _ (w .weighted-sums .kept .1 .1 .1 .1 .1 .1 .0 ∙ k .0) (long-also count (now (x .green)) _ (g .0) (long-none count))))
+    let l = lengths (sizes f) in
+    let kernel = convolved f .weighted-sums .kept .1 .1 .1 .1 .1 .1 .0 in
+    also-asked (omega arith) (also-asked (omega arith) (also-asked (omega arith) (none-asked (sizes f))))
 
 -- K is made
-made : (c : tie.Else1) → let s = sized (c .before) in let x = start s .args in
-    (sumsFine Causal (x .points) (x .orbitals) (now (x .times)) (now (x .free)) (now (x .self-energy)) ≡ true)
-    × (convolved (c .before) .weighted-sums .last .1 .1 .1 .1 .1 .1 .0 ≡ kernelOf (x .points) (x .orbitals) (now (x .times)) (now (x .free)) (now (x .self-energy)))
+made : (c : tie.Else1) → let q = equation (at (c .before)) in
+    (sumsFinite Causal (q .points) (q .orbitals) (q .times) (q .free) (q .selfEnergy) ≡ true) × (convolved (c .before) .weighted-sums .last .1 .1 .1 .1 .1 .1 .0 ≡ kernelOf q)
 made c =
     let f = c .before in
     let w = convolved f in
-    let s = sized f in
-    let x = start s .args in
-    kernel-made (x .points) (x .orbitals) (now (x .times)) (now (x .free)) (now (x .self-energy)) (now (x .green)) (now (x .kernel)) _ (asked s) (told f .enum-told .given .1)
-    _ _ (w .weighted-sums .ensures .0) (w .weighted-sums .ensures .1) (sym (f .is-finite .ensures) ∙ not-false _ (c .if1 .left))
+    sums-said Causal _ _ _ _ _ _ (operands f) (w .weighted-sums .ensures .0) (w .weighted-sums .ensures .1) true (sym (not-false _ (c .if1 .left)) ∙ f .is-finite .ensures)
+
+-- G is finite, or not
+module _ (g : tie.After-forward) where
+  abbrev else1 : tie.Else1
+  else1 = g .before .before .before
+
+  abbrev q : Equation
+  q = equation (at (else1 .before))
+
+  solved : solvedFinite q ≡ g .forward .result
+  solved = kernel-made q (made else1 .0) (made else1 .1) (g .forward .ensures .0)
 
 returns-3 : tie.Need-returns-3
+unfolding solvedRetarded
 returns-3 c =
     let g = c .before .before .before in
-    let k = g .before .before .before in
-    let s = sized (k .before) in
-    let x = start s .args in
-    let m = made k in
-    let a = accepted (x .points) (x .orbitals) (now (x .times)) (now (x .free)) (now (x .self-energy)) (now (x .green)) (now (x .kernel)) _ (asked s) (told (k .before) .enum-told .given .1)
-    (m .0) (sym (g .forward .ensures .0 ∙ ap (retardedFine (x .points) (x .orbitals) (now (x .times)) (now (x .free))) (m .1)) ∙ c .if2 .taken) in
-    (a .answered, g .forward .ensures .1 (c .if2 .taken) ∙ ap (retardedNumbers (x .points) (x .orbitals) (now (x .times)) (now (x .free))) (m .1) ∙ a .green, m .1 ∙ a .scratch)
+    let m = made (else1 g) in
+    let e = ends-finite _ (passed (else1 g .before)) (solved g ∙ c .if2 .taken) in
+    (e .answered, g .forward .ensures .1 (c .if2 .taken) ∙ ap (retardedNumbers _ _ _ _) (m .1) ∙ e .slice _ _, m .1 ∙ e .slice _ _)
 
 returns-4 : tie.Need-returns-4
+unfolding solvedRetarded
 returns-4 c =
     let second = c .before .before in
     let first = second .before .before .before .before in
     let test = first .before .before in
     let g = test .before .before .before in
-    let k = g .before .before .before in
-    let w = convolved (k .before) in
-    let s = sized (k .before) in
-    let x = start s .args in
-    let m = made k in
-    let o = green-overflows (x .points) (x .orbitals) (now (x .times)) (now (x .free)) (now (x .self-energy)) (now (x .green)) (now (x .kernel)) _ (asked s) (told (k .before) .enum-told .given .1)
-    (m .0) (sym (g .forward .ensures .0 ∙ ap (retardedFine (x .points) (x .orbitals) (now (x .times)) (now (x .free))) (m .1)) ∙ test .if2 .left) in (
-      o .answered,
-      first .clear2 .ensures ∙ ap (λ (l : ℕ). replicate l plusZero) (g .forward .kept .1 .1 .1 .1 .1 .0) ∙ o .green,
-      second .clear3 .ensures ∙ ap (λ (l : ℕ). replicate l plusZero) (w .weighted-sums .kept .1 .1 .1 .1 .1 .1 .0) ∙ o .scratch,
+    let f = else1 g .before in
+    let e = ends-overflow _ (passed f) (solved g ∙ test .if2 .left) in (
+      e .answered,
+      cleared (first .clear2 .ensures) (g .forward .kept .1 .1 .1 .1 .1 .0) ∙ e .slice _ _,
+      cleared (second .clear3 .ensures) (convolved f .weighted-sums .kept .1 .1 .1 .1 .1 .1 .0) ∙ e .slice _ _,
     )
 
 pub solve-retarded-spec : {M : Type 1} → statement M
 solve-retarded-spec =
     tie.close
     (tie.spec
-    (λ c κs. search needs)  -- has-length-requires
-    (λ c κs. search needs)  -- has-length-requires-2
-    (λ c κs. search needs)  -- has-length-requires-3
-    (λ c κs. search needs)  -- has-length-requires-4
-    (λ c κs. search needs)  -- sizes-requires
+    (λ c κs. search needs)  -- all-fit-requires
+    (λ c κs. search needs)  -- check-sizes-requires
     (λ c. search needs)  -- enum-told
     (λ c. search needs)  -- enum-told-2
     (λ c. search needs)  -- same-length

@@ -1,11 +1,7 @@
--- `grid::fill` meets its contract: after i turns the first i weights are written over, and the others are as they were. Assumes nothing.
-use mathlib.Core.Path.{_≡_}
-use Prim.Native.Nat.{_≤_, _-_}
-use native.Mathlib.Omega.{arith}
-use lib.ListN.{length, length-set}
-use borrow.Author.Needs.{needs}
+-- `grid::fill` meets its contract: after i steps the first i weights are written over, and the others are as they were. Assumes nothing.
+use Rattle.lists.specs.Prelude.{_≡_, _≤_, _-_, arith, length, length-set, needs}
 use Rattle.lists.specs.Filling.{over}
-use Rattle.lists.specs.Singles.{singles, singles-none, singles-turn, singles-end}
+use Rattle.lists.specs.Singles.{singles, singles-none, singles-step, singles-end}
 use Rattle.grid.specs.Weights.{fullWeight}
 use Rattle.grid.proofs.fill.Statement.{statement}
 use Rattle.grid.proofs.fill.Tie as tie
@@ -21,7 +17,7 @@ loop-again c =
     let i = c .before .before .loop .inv in (
       omega arith,
       simp length-set (i .1),
-      rw (i .2, c .full-weight .ensures) (singles-turn _ (fullWeight _ _) (c .before .before .loop .i) (omega arith)),
+      rw (i .2, c .full-weight .ensures) (singles-step _ (fullWeight _ _) (c .before .before .loop .i) (omega arith)),
     )
 
 pub fill-spec : {M : Type 1} → statement M
@@ -29,11 +25,8 @@ fill-spec =
     tie.close
     (tie.spec Inv μ
     (λ c. (search needs, search needs, singles-none _ _))  -- loop-holds
-    (λ c κs. search needs)  -- full-weight-requires
-    (λ c. search needs)  -- mul-weights
-    (λ c. search needs)  -- slice-write-weights
-    (λ c. search needs)  -- add-i
-    (λ c. search needs)  -- loop-less
+    (λ c κs. search needs) (λ c. search needs) (λ c. search needs)  -- full-weight-requires, mul-weights, slice-write-weights
+    (λ c. search needs) (λ c. search needs)  -- add-i, loop-less
     loop-again
     (λ c. search needs)  -- same-length
     (λ c. singles-end _ _ _ (c .before .loop .inv .0) (c .loop-test .left) (c .before .loop .inv .2)))  -- returns

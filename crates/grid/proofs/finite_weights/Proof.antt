@@ -1,13 +1,9 @@
--- `grid::finite_weights` meets its contract: with fewer times than points a weight is a NaN, and else after i turns the first i are tested. Assumes nothing.
-use mathlib.Core.Path.{_≡_, refl, _∙_}
-use Prim.Native.Nat.{_≤_, _-_}
-use native.Mathlib.Nat.{le-antisymm}
-use native.Mathlib.Omega.{arith}
-use borrow.Author.Needs.{needs}
+-- `grid::finite_weights` meets its contract: with fewer times than points a weight is a NaN, and else after i steps the first i are tested. Assumes nothing.
+use Rattle.lists.specs.Prelude.{_≡_, refl, _∙_, _≤_, _-_, le-antisymm, arith, needs}
 use Rattle.lists.specs.Indexed.{allBelow}
-use Rattle.lists.specs.Turns.{all-more}
+use Rattle.lists.specs.Steps.{all-more}
 use Rattle.complex.specs.Arithmetic.{finite}
-use Rattle.refusal.specs.Lines.{finiteWeights}
+use Rattle.refusal.specs.Checks.{finiteWeights}
 use Rattle.grid.specs.Weights.{fullWeight}
 use Rattle.grid.specs.Past.{few-times}
 use Rattle.grid.proofs.finite_weights.Statement.{statement}
@@ -27,9 +23,7 @@ finite-weights-spec =
     (λ c κs. search needs)  -- numbered-requires
     (λ c. rw (few-times (c .before .before .before .args .times .now) (c .before .before .before .args .points) (c .before .if1 .taken)) (c .numbered .ensures))  -- returns
     (λ c. (search needs, refl))  -- loop-holds
-    (λ c κs. search needs)  -- full-weight-requires
-    (λ c κs. search needs)  -- is-finite-requires
-    (λ c. search needs)  -- add-i
+    (λ c κs. search needs) (λ c κs. search needs) (λ c. search needs)  -- full-weight-requires, is-finite-requires, add-i
     (λ c. search needs)  -- loop-less
     (λ c. (omega arith, rw (c .is-finite .ensures, c .before .full-weight .ensures, c .before .before .before .loop .inv .1, all-more)))  -- loop-again
     (λ c κs. search needs)  -- numbered-requires-2

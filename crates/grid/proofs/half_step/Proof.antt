@@ -1,5 +1,5 @@
 -- `grid::half_step` meets its contract, which computes once `halfStep` is opened. Assumes nothing.
-use borrow.Author.Needs.{needs}
+use Rattle.lists.specs.Prelude.{needs}
 use Rattle.grid.specs.Weights.{halfStep}
 use Rattle.grid.proofs.half_step.Statement.{statement}
 use Rattle.grid.proofs.half_step.Tie as tie

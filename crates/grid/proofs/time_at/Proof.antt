@@ -1,8 +1,5 @@
 -- `grid::time_at` meets its contract: past the end it answers a NaN. Assumes nothing.
-use mathlib.Core.Path.{sym, _∙_}
-use lib.ListN.{List·getD-eq-default}
-use lib.Ieee.{nan}
-use borrow.Author.Needs.{needs}
+use Rattle.lists.specs.Prelude.{sym, _∙_, List·getD-eq-default, nan, needs}
 use Rattle.grid.specs.Past.{nan-made}
 use Rattle.grid.proofs.time_at.Statement.{statement}
 use Rattle.grid.proofs.time_at.Tie as tie
@@ -11,7 +8,5 @@ pub time-at-spec : {M : Type 1} → statement M
 time-at-spec =
     tie.close
     (tie.spec
-    (λ c. search needs)  -- mul-result
-    (λ c. search needs)  -- shared-slice-read-result
-    (λ c. search needs)  -- returns
+    (λ c. search needs) (λ c. search needs) (λ c. search needs)  -- mul-result, shared-slice-read-result, returns
     (λ c. nan-made ∙ sym (List·getD-eq-default (c .before .args .times .now) nan (c .if1 .left))))  -- returns-2

@@ -1,14 +1,5 @@
 -- `groups::group_totals` meets its contract: the loop from the first s to the last serves every lane. Assumes nothing.
-use mathlib.Core.Path.{_≡_, sym, ap, _∙_}
-use mathlib.Core.List.{List}
-use Prim.Native.Nat.{_+_, _*_, _<_}
-use native.Mathlib.Nat.{le-refl}
-use native.Mathlib.Omega.{arith}
-use lib.Arith.{digits-lt}
-use lib.ListN.{length, length-replicate}
-use lib.Ieee.{Float}
-use denote.Ref.{now}
-use borrow.Author.Needs.{needs}
+use Rattle.lists.specs.Prelude.{_≡_, sym, ap, _∙_, List, _+_, _*_, _<_, le-refl, arith, digits-lt, length, length-replicate, Float, now, needs}
 use Rattle.complex.specs.declared.Complex.{Complex}
 use Rattle.complex.specs.Arithmetic.{czero, plusZero}
 use Rattle.two_time.specs.Layout.{readAs}
@@ -16,7 +7,7 @@ use Rattle.two_time.specs.WeightedSum.{Terms}
 use Rattle.terms.specs.Spans.{Spanned, spanned}
 use Rattle.lanes.specs.Lanes.{laneAt}
 use Rattle.rows.specs.Parts.{lane-zero}
-use Rattle.groups.specs.Turns.{termsOf, partialAt, turns-all}
+use Rattle.groups.specs.PartialSums.{termsOf, partialAt, steps-all}
 use Rattle.groups.specs.PlaceSums.{begins}
 use Rattle.groups.proofs.group_totals.Statement.{statement}
 use Rattle.groups.proofs.group_totals.Tie as tie
@@ -32,10 +23,7 @@ long w = ap length (start w .pre .1 .1) ∙ length-replicate 512 plusZero
 
 returns : tie.Need-returns
 returns c =
-    let r = c .before .before in
-    let w = r .before .before in
-    let s = start w in
-    let x = s .args in
+    let r = c .before .before in let w = r .before .before in let s = start w in let x = s .args in
     let n = x .orbitals in (
       r .sum-group .ensures .0,
       λ a p b ha hp hb.
@@ -43,14 +31,13 @@ returns c =
           let lane : p * n + b < 16 = omega (arith, digits-lt hp hb, s .pre .0 .6) in
           r .sum-group .ensures .1 a p b ha hp hb
           ∙ ap (λ (z : Complex). partialAt n (at z) (w .span-of .result .last) a b) (ap (λ (xs : List Float). laneAt xs a (p * n + b)) (s .pre .1 .1) ∙ lane-zero a (p * n + b) (omega (arith, ha, s .pre .0 .3)) lane)
-          ∙ turns-all n (at czero) a b (w .span-of .result .last) (span w .enough (now (x .times)) (readAs (x .points) n (now (x .left))) (readAs (x .points) n (now (x .right))) p hp)
+          ∙ steps-all n (at czero) a b (w .span-of .result .last) (span w .enough (now (x .times)) (readAs (x .points) n (now (x .left))) (readAs (x .points) n (now (x .right))) p hp)
           ∙ begins (x .sums) (x .points) n (now (x .times)) (now (x .left)) (now (x .right)) (x .t) (x .u + p) a b,
     )
 
 pub group-totals-spec : {M : Type 1} → statement M
 group-totals-spec =
-    tie.close
-    (tie.spec
+    tie.close (tie.spec
     (λ c κs. search needs)  -- span-of-requires
     (λ c κs. let w = c .before in let p = start w .pre in let z = span w in ((p .0 .0, le-refl _, p .0 .1, p .0 .2, p .0 .3, p .0 .4, p .0 .5, p .0 .6), ((z .ordered, z .most, z .reach), (z .least _ _ _, (p .1 .0 .0, p .1 .0 .1, p .1 .0 .2, long w)))))  -- sum-group-requires
     (λ c. let r = c .before .before in r .sum-group .ensures .0 ∙ sym (long (r .before .before)))  -- same-length

@@ -1,9 +1,5 @@
 -- `groups::is_below` meets its contract. Assumes nothing.
-use mathlib.Core.Path.{_≡_, sym, _∙_}
-use mathlib.Core.Bool.{true, false}
-use native.Mathlib.Omega.{arith}
-use borrow.Author.Needs.{needs}
-use borrow.Author.Tests.{not-true, not-false}
+use Rattle.lists.specs.Prelude.{_≡_, sym, _∙_, true, false, arith, needs, not-true, not-false}
 use Rattle.groups.specs.Groups.{isGroup, Grouped, grouped}
 use Rattle.groups.proofs.is_below.Statement.{statement}
 use Rattle.groups.proofs.is_below.Tie as tie
@@ -22,8 +18,7 @@ returns c =
 
 pub is-below-spec : {M : Type 1} → statement M
 is-below-spec =
-    tie.close
-    (tie.spec
+    tie.close (tie.spec
     (λ c κs. search needs)  -- is-group-requires
     returns
     (λ c. let z = sizes c in omega (arith, z .fit, z .points-most))  -- add-result

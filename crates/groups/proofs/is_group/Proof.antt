@@ -1,10 +1,5 @@
 -- `groups::is_group` meets its contract. Assumes nothing.
-use mathlib.Core.Path.{_≡_}
-use mathlib.Core.Bool.{Bool, true, false, _&&_}
-use Prim.Native.Nat.{_≤_, _<_}
-use native.Mathlib.Omega.{arith}
-use lib.Dec.{leb, ltb}
-use borrow.Author.Tests.{not-true, not-false, leb-true, ltb-true}
+use Rattle.lists.specs.Prelude.{_≡_, Bool, true, false, _&&_, _≤_, _<_, arith, leb, ltb, not-true, not-false, leb-true, ltb-true}
 use Rattle.lists.specs.Agreement.{both}
 use Rattle.two_time.specs.Places.{product-most}
 use Rattle.groups.specs.Groups.{isGroup}
@@ -35,8 +30,7 @@ returns-2 c = rw (passed c)
 
 pub is-group-spec : {M : Type 1} → statement M
 is-group-spec =
-    tie.close
-    (tie.spec
+    tie.close (tie.spec
     returns
     (λ c. let z = sizes c in omega arith)  -- add-result
     (λ c. let z = sizes c in let m = product-most (c .before .args .places) (c .before .args .orbitals) (z .3) (z .1) in omega arith)  -- mul-result

@@ -1,13 +1,5 @@
 -- `lanes::write_group` meets its contract: unfit, finite, or not finite with the slice cleared. Assumes nothing.
-use mathlib.Core.Path.{_≡_, sym, ap, _∙_}
-use mathlib.Core.Bool.{Bool, true, false, _&&_}
-use Prim.Native.Nat.{ℕ, _*_, _≤_}
-use native.Mathlib.Omega.{arith}
-use lib.Dec.{leb, eqb}
-use lib.ListN.{length, replicate}
-use denote.Ref.{now}
-use borrow.Author.Needs.{needs}
-use borrow.Author.Tests.{not-true, not-false, leb-true, eqb-true}
+use Rattle.lists.specs.Prelude.{_≡_, sym, ap, _∙_, Bool, true, false, _&&_, ℕ, _*_, _≤_, arith, leb, eqb, length, replicate, now, needs, not-true, not-false, leb-true, eqb-true}
 use Rattle.lists.specs.Agreement.{both}
 use Rattle.complex.specs.Arithmetic.{plusZero}
 use Rattle.two_time.specs.Outcome.{summedOut}
@@ -50,8 +42,7 @@ returns-2 c = let e : long (start (c .before)) ≡ false = not-true _ (c .if2 .t
 
 write-blocks-requires : tie.Need-write-blocks-requires
 write-blocks-requires c κs =
-    let e = c .before .before in
-    let x = start e .args in
+    let e = c .before .before in let x = start e .args in
     let b = both (leb (x .places * x .orbitals) 16) _ (not-false _ (c .before .if2 .left)) in
     let l = both (eqb (length (now (x .totals))) 512) _ (b .1) in
     (sizes e .0, leb-true _ _ (b .0), eqb-true _ _ (l .0), eqb-true _ _ (l .1))
@@ -59,36 +50,28 @@ write-blocks-requires c κs =
 returns-3 : tie.Need-returns-3
 unfolding written summedOut
 returns-3 c =
-    let w = c .before .before .before in
-    let e = w .before .before in
-    let fine = sym (w .write-blocks .ensures .0) ∙ c .if3 .taken in
+    let w = c .before .before .before in let e = w .before .before in
+    let finite = sym (w .write-blocks .ensures .0) ∙ c .if3 .taken in
     let fits : long (start (e .before)) ≡ true = not-false _ (e .if2 .left) in
-    (rw (few (e .before), fits, fine), rw (few (e .before), fits, fine) (w .write-blocks .ensures .1 (c .if3 .taken)))
+    (rw (few (e .before), fits, finite), rw (few (e .before), fits, finite) (w .write-blocks .ensures .1 (c .if3 .taken)))
 
 returns-4 : tie.Need-returns-4
 unfolding written summedOut
 returns-4 c =
-    let d = c .before .before in
-    let i = d .before .before in
-    let w = i .before .before .before in
-    let e = w .before .before in
-    let fine = sym (w .write-blocks .ensures .0) ∙ i .if3 .left in
+    let d = c .before .before in let i = d .before .before in let w = i .before .before .before in let e = w .before .before in
+    let finite = sym (w .write-blocks .ensures .0) ∙ i .if3 .left in
     let fits : long (start (e .before)) ≡ true = not-false _ (e .if2 .left) in
-    (rw (few (e .before), fits, fine), rw (few (e .before), fits, fine) (d .clear .ensures ∙ ap (λ (m : ℕ). replicate m plusZero) (w .write-blocks .kept .1 .1 .1 .1 .0)))
+    (rw (few (e .before), fits, finite), rw (few (e .before), fits, finite) (d .clear .ensures ∙ ap (λ (m : ℕ). replicate m plusZero) (w .write-blocks .kept .1 .1 .1 .1 .0)))
 
 pub write-group-spec : {M : Type 1} → statement M
 write-group-spec =
-    tie.close
-    (tie.spec
+    tie.close (tie.spec
     returns
-    (λ c. let z = sizes c in omega arith)  -- mul-width
-    (λ c. let z = sizes c in omega arith)  -- mul-width-2
+    (λ c. let z = sizes c in omega arith) (λ c. let z = sizes c in omega arith)  -- mul-width, mul-width-2
     (λ c. let z = sizes c in omega arith)  -- mul-fits
     (λ c. let z = sizes c in let m = product-most (start c .args .places) (start c .args .orbitals) (z .1) (z .0) in omega arith)  -- mul-if2
-    returns-2
-    write-blocks-requires
+    returns-2 write-blocks-requires
     (λ c. search needs)  -- same-length
     returns-3
-    (λ c κs. search needs)  -- clear-requires
-    (λ c. search needs)  -- same-length-2
+    (λ c κs. search needs) (λ c. search needs)  -- clear-requires, same-length-2
     returns-4)

@@ -1,7 +1,6 @@
 -- `largest::half_bits` meets its contract. Assumes nothing.
-use borrow.Author.Needs.{needs}
-use borrow.Author.Tests.{lt-ltb, le-ltb}
-use Rattle.largest.specs.Halves.{halfBits}
+use Rattle.lists.specs.Prelude.{needs, lt-ltb, le-ltb}
+use Rattle.largest.specs.Digits.{halfBits}
 use Rattle.largest.proofs.half_bits.Statement.{statement}
 use Rattle.largest.proofs.half_bits.Tie as tie
 

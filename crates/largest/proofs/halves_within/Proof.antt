@@ -1,15 +1,10 @@
 -- `largest::halves_within` meets its contract: both sums are read from the bits. Assumes nothing.
-use mathlib.Core.Path.{_≡_, sym, ap, ap₂, _∙_, subst}
-use mathlib.Core.Bool.{true, false}
-use Prim.Native.Nat.{ℕ, _%_, _^_}
-use lib.Dec.{T}
-use lib.Ieee.{Float, binary64, le, ne, fits, ofBits, toBits}
-use borrow.Author.Needs.{needs}
+use Rattle.lists.specs.Prelude.{_≡_, sym, ap, ap₂, _∙_, subst, true, false, ℕ, _%_, _^_, T, Float, binary64, le, ne, fits, ofBits, toBits, needs}
 use Rattle.lists.specs.Agreement.{never, neither, both}
 use Rattle.complex.specs.Arithmetic.{add, size}
-use Rattle.norm.specs.Sizes.{equals-itself}
-use Rattle.largest.specs.Unsigned.{size-of-bits, bits-of-number}
-use Rattle.largest.specs.Halves.{half-of-number, halves-within}
+use Rattle.complex.specs.Bits.{equals-itself}
+use Rattle.largest.proofs.Unsigned.{size-of-bits, bits-of-number}
+use Rattle.largest.proofs.Halves.{half-of-number, halves-within}
 use Rattle.largest.proofs.halves_within.Statement.{statement}
 use Rattle.largest.proofs.halves_within.Tie as tie
 

@@ -1,6 +1,5 @@
 -- `largest::larger_norm_in_loop` meets its contract. Assumes nothing.
-use mathlib.Core.Path.{sym}
-use borrow.Author.Needs.{needs}
+use Rattle.lists.specs.Prelude.{sym, needs}
 use Rattle.largest.proofs.larger_norm_in_loop.Statement.{statement}
 use Rattle.largest.proofs.larger_norm_in_loop.Tie as tie
 

@@ -1,14 +1,6 @@
--- `matrix::padded` meets its contract: after i turns the first i numbers are copied. Assumes nothing.
-use mathlib.Core.Path.{_≡_, refl, sym, ap, _∙_}
-use mathlib.Core.List.{List}
-use Prim.Native.Nat.{ℕ, _-_, _≤_, _<_}
-use native.Mathlib.Nat.{le-antisymm}
-use native.Mathlib.Omega.{arith}
-use lib.ListN.{length, getD, set, take, replicate, length-replicate}
-use lib.Seq.{take-length}
-use lib.Ieee.{Float, nan}
-use denote.Ref.{now}
-use borrow.Author.Needs.{needs}
+-- `matrix::padded` meets its contract: after i steps the first i numbers are copied. Assumes nothing.
+use Rattle.lists.specs.Prelude.{_≡_, refl, sym, ap, _∙_, List, ℕ, _-_, _≤_, _<_, le-antisymm, arith, length, getD, set, take, replicate, length-replicate, take-length}
+use Rattle.lists.specs.Prelude.{Float, nan, now, needs}
 use Rattle.lists.specs.Filling.{over, over-none, over-copy, over-replicate}
 use Rattle.complex.specs.Arithmetic.{plusZero}
 use Rattle.matrix.proofs.padded.Statement.{statement}

@@ -1,5 +1,5 @@
 -- `matrix::refused` meets its contract, which computes. Assumes nothing.
-use mathlib.Core.Path.{refl}
+use Rattle.lists.specs.Prelude.{refl}
 use Rattle.matrix.proofs.refused.Statement.{statement}
 use Rattle.matrix.proofs.refused.Tie as tie
 

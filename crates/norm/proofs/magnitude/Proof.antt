@@ -1,10 +1,7 @@
 -- `norm::magnitude` meets its contract: only a NaN differs from itself. Assumes nothing.
-use mathlib.Core.Path.{_≡_, refl, sym, ap, subst}
-use Prim.Native.Nat.{_%_, _^_}
-use lib.Dec.{T}
-use lib.Ieee.{Float, nan, binary64, toBits}
+use Rattle.lists.specs.Prelude.{_≡_, refl, sym, ap, subst, _%_, _^_, T, Float, nan, binary64, toBits}
 use lib.Ieee.Compare.{differs-from-itself}
-use Rattle.norm.specs.Sizes.{equals-itself}
+use Rattle.complex.specs.Bits.{equals-itself}
 use Rattle.norm.proofs.magnitude.Statement.{statement}
 use Rattle.norm.proofs.magnitude.Tie as tie
 

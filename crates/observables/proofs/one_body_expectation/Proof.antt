@@ -1,32 +1,35 @@
--- `observables::one_body_expectation` meets its contract: past its lines the product is made, and its trace is the number. Assumes nothing.
-use mathlib.Core.Path.{_≡_, sym, ap₂, _∙_}
-use native.Mathlib.Nat.{le-of-eq}
-use denote.Ref.{now}
-use borrow.Author.Needs.{needs}
+-- `observables::one_body_expectation` meets its contract: past its checks the product is made, and its trace is the number. Assumes nothing.
+use Rattle.lists.specs.Prelude.{_≡_, sym, ap, ap₂, _∙_, le-of-eq, now, needs}
 use Rattle.refusal.specs.Verdict.{_then_}
 use Rattle.refusal.specs.Agreement.{then-pass}
-use Rattle.refusal.specs.Lines.{timeBelow}
-use Rattle.observables.specs.Calls.{lesserBlockLines}
-use Rattle.observables.specs.Lent.{Lent}
-use Rattle.observables.specs.Asking.{block-lent}
-use Rattle.observables.specs.Answering.{expectation-refused, product-refused, expectation-found}
+use Rattle.refusal.specs.Checks.{timeBelow, finiteWork}
+use Rattle.observables.specs.Calls.{lesserBlockChecks, oneBodyExpectation}
+use Rattle.block.specs.Operations.{allFinite}
+use Rattle.observables.specs.Density.{productOf}
+use Rattle.observables.specs.Passed.{Passed}
+use Rattle.observables.specs.LesserChecks.{block-at}
+use Rattle.observables.specs.Answers.{realObserved, first-refused, product-refused, product-passed}
 use Rattle.observables.proofs.one_body_expectation.Statement.{statement}
 use Rattle.observables.proofs.one_body_expectation.Tie as tie
 
 abbrev start : tie.After-then → tie.Start
 start c = c .before .before .before .before .before .before
 
--- the lines in their order
+-- the checks in their order
 asked : (c : tie.After-then) → let x = start c .args in
-    c .then .result ≡ (lesserBlockLines (x .points) (x .orbitals) (now (x .lesser)) (x .observable) then timeBelow (x .time) (x .points))
-asked c = c .then .ensures ∙ ap₂ _then_ (c .before .before .lesser-block-lines .ensures) (c .before .time-below .ensures)
+    c .then .result ≡ (lesserBlockChecks (x .points) (x .orbitals) (now (x .lesser)) (x .observable) then timeBelow (x .time-index) (x .points))
+asked c = c .then .ensures ∙ ap₂ _then_ (c .before .before .check-lesser-block .ensures) (c .before .time-below .ensures)
 
 -- what it says that they pass
-passed : (c : tie.After-enum-told) → let x = start (c .before .before) .args in Lent (x .points) (x .orbitals) (now (x .lesser)) (x .time)
+passed : (c : tie.After-enum-told) → let x = start (c .before .before) .args in Passed (x .points) (x .orbitals) (now (x .lesser)) (x .time-index)
 passed c =
-    let x = start (c .before .before) .args in
     let p = then-pass _ _ (sym (asked (c .before .before)) ∙ c .enum-told .given .1) in
-    block-lent (x .points) (x .orbitals) (now (x .lesser)) (x .observable) (x .time) (p .0) (p .1) .0
+    block-at _ _ _ (start (c .before .before) .args .observable) _ (p .0) (p .1) .0
+
+-- the product is asked
+worked : (c : tie.After-finite-work) → let x = start (c .before .before .before .before .before) .args in
+    c .finite-work .result ≡ finiteWork (allFinite (x .orbitals) (x .orbitals) (productOf (x .points) (x .orbitals) (x .observable .values) (now (x .lesser)) (x .time-index)))
+worked c = c .finite-work .ensures ∙ ap finiteWork (c .before .is-finite .ensures)
 
 -- the matrix as numbers
 first : tie.Need-slice-aggregate-is-finite
@@ -35,50 +38,29 @@ first c = search needs
 second : tie.Need-slice-aggregate-trace
 second c = search needs
 
-returns-2 : tie.Need-returns-2
-returns-2 c =
-    let told = c .before .before in
-    let w = told .before .before in
-    let f = w .before in
-    let e = f .before .before in
-    let s = e .before .before in
-    c .refused2 .ensures
-    ∙ product-refused _ _ _ _ _ (start s .args .observable) (asked s) (e .enum-told .given .1) (f .is-finite .ensures) (w .finite-work .ensures) _ (told .work .given .1)
-
-returns-3 : tie.Need-returns-3
-returns-3 c =
-    let t = c .before in
-    let told = t .before .before in
-    let w = told .before .before in
-    let f = w .before in
-    let e = f .before .before in
-    let s = e .before .before in
-    c .real-checked .ensures
-    ∙ expectation-found _ _ _ _ _ (start s .args .observable) (asked s) (e .enum-told .given .1) (f .is-finite .ensures) (w .finite-work .ensures) (told .enum-told2 .given .1) (t .trace .ensures)
-
 pub one-body-expectation-spec : {M : Type 1} → statement M
+unfolding oneBodyExpectation
 one-body-expectation-spec =
     tie.close
     (tie.spec
-    (λ c. search needs)  -- slice-aggregate-lesser-block-lines
-    (λ c κs. search needs)  -- lesser-block-lines-requires
-    (λ c κs. search needs)  -- time-below-requires
-    (λ c κs. search needs)  -- then-requires
-    (λ c. search needs)  -- enum-known-verdict
+    (λ c. search needs) (λ c κs. search needs)  -- slice-aggregate-check-lesser-block, check-lesser-block-requires
+    (λ c κs. search needs) (λ c κs. search needs) (λ c. search needs)  -- time-below-requires, then-requires, enum-known-verdict
     (λ c κs. search needs)  -- refused-requires
-    (λ c.
-    let told = c .before .before in
-    let s = told .before .before in
-    c .refused .ensures ∙ expectation-refused _ _ _ _ _ (start s .args .observable) (asked s) _ (told .verdict .given .1))  -- returns
+    (λ c. let v = c .before .before in c .refused .ensures ∙ first-refused _ _ _ (asked (v .before .before)) _ _ (v .verdict .given .1))  -- returns
     (λ c. search needs)  -- enum-told
     first
     (λ c κs. (passed (c .before), le-of-eq (first c)))  -- is-finite-requires
-    (λ c κs. search needs)  -- finite-work-requires
-    (λ c. search needs)  -- enum-known-work
-    (λ c κs. search needs)  -- refused-requires-2
-    returns-2
+    (λ c κs. search needs) (λ c. search needs) (λ c κs. search needs)  -- finite-work-requires, enum-known-work, refused-requires-2
+    (λ c.
+    let w = c .before .before in
+    let e = w .before .before .before .before .before in
+    c .refused2 .ensures ∙ product-refused _ _ _ _ _ _ (asked (e .before .before)) (e .enum-told .given .1) (worked (w .before .before)) _ (w .work .given .1))  -- returns-2
     (λ c. search needs)  -- enum-told-2
     second
     (λ c κs. (passed (c .before .before .before .before .before .before), le-of-eq (second c)))  -- trace-requires
     (λ c κs. search needs)  -- real-checked-requires
-    returns-3)
+    (λ c.
+    let w = c .before .before .before in
+    let e = w .before .before .before .before .before in
+    c .real-checked .ensures ∙ ap (realObserved _) (c .before .trace .ensures)
+    ∙ product-passed _ _ _ _ _ _ (asked (e .before .before)) (e .enum-told .given .1) (worked (w .before .before)) (w .enum-told2 .given .1)))  -- returns-3

@@ -1,8 +1,5 @@
 -- `replay::run` ends: the calls are counted up to a number. The numbers keep their count. Assumes nothing.
-use mathlib.Core.Path.{_≡_}
-use Prim.Native.Nat.{_≤_, _-_}
-use lib.ListN.{length}
-use borrow.Author.Needs.{needs}
+use Rattle.lists.specs.Prelude.{_≡_, _≤_, _-_, length, needs}
 use Rattle.replay.proofs.run.Statement.{statement}
 use Rattle.replay.proofs.run.Tie as tie
 

@@ -1,11 +1,5 @@
 -- `rows::add_packed` meets its contract: a term that fits goes to all rows, another to none. Assumes nothing.
-use mathlib.Core.Path.{_≡_, sym, ap₂, _∙_}
-use mathlib.Core.Bool.{Bool, true, _&&_}
-use lib.Dec.{eqb}
-use lib.ListN.{length}
-use denote.Ref.{now}
-use borrow.Author.Needs.{needs}
-use borrow.Author.Tests.{not-true, not-false}
+use Rattle.lists.specs.Prelude.{_≡_, sym, ap₂, _∙_, Bool, true, _&&_, eqb, length, now, needs, not-true, not-false}
 use Rattle.rows.specs.Rows.{packedFits, packedTotals}
 use Rattle.rows.specs.Fitting.{Fits, fits-when}
 use Rattle.rows.proofs.add_packed.Statement.{statement}
@@ -44,10 +38,8 @@ returns-2 c =
 
 pub add-packed-spec : {M : Type 1} → statement M
 add-packed-spec =
-    tie.close
-    (tie.spec
-    (λ c κs. search needs)  -- is-ranged-requires
-    (λ c κs. search needs)  -- has-block-requires
+    tie.close (tie.spec
+    (λ c κs. search needs) (λ c κs. search needs)  -- is-ranged-requires, has-block-requires
     returns
     (λ c κs. let f = fit (c .before) in ((f .ranged, f .few, f .rows-long, f .totals-long), (f .inside, f .short)))  -- add-rows-requires
     (λ c. c .before .before .add-rows .kept .1 .1 .1 .1 .1 .0)  -- same-length

@@ -1,12 +1,5 @@
--- `rows::add_products` meets its contract: before turn c the first c sums are made. Assumes nothing.
-use mathlib.Core.Path.{_≡_, refl, ap, ap₂, _∙_}
-use mathlib.Core.List.{List}
-use Prim.Native.Nat.{ℕ, _-_, _≤_}
-use native.Mathlib.Omega.{arith}
-use lib.ListN.{length}
-use lib.Ieee.{Float}
-use denote.Ref.{now}
-use borrow.Author.Needs.{needs}
+-- `rows::add_products` meets its contract: before step c the first c sums are made. Assumes nothing.
+use Rattle.lists.specs.Prelude.{_≡_, refl, ap, ap₂, _∙_, List, ℕ, _-_, _≤_, arith, length, Float, now, needs}
 use Rattle.complex.specs.declared.Complex.{Complex}
 use Rattle.complex.specs.Arithmetic.{cadd, cmul}
 use Rattle.rows.specs.Numbers.{numberAt, Mapped, mapped-none, mapped-next, mapped-end}
@@ -31,11 +24,7 @@ long l = l .loop .inv .1 .long ∙ start l .pre .1
 
 loop-again : tie.Need-loop-again Inv-loop μ-loop
 loop-again c =
-    let times = c .before in
-    let number = times .before in
-    let new = number .before in
-    let t = new .before .before .before in
-    let l = t .before in
+    let times = c .before in let number = times .before in let new = number .before in let t = new .before .before .before in let l = t .before in
     let x = start l .args in (
       omega arith,
       mapped-next (made (x .x) (now (x .row))) (l .loop .c) (now (x .sums)) (l .loop .sums) _ (c .plus .result) (l .loop .inv .1) (start l .pre .1) (omega arith)
@@ -45,26 +34,12 @@ loop-again c =
 
 pub add-products-spec : {M : Type 1} → statement M
 add-products-spec =
-    tie.close
-    (tie.spec
-    Inv-loop
-    μ-loop
+    tie.close (tie.spec Inv-loop μ-loop
     (λ c. (omega arith, mapped-none _ _))  -- loop-holds
-    (λ c. search needs)  -- mul-new
-    (λ c. search needs)  -- element-copy-out-new
-    (λ c. search needs)  -- add-new
-    (λ c. search needs)  -- mul-new-2
-    (λ c. search needs)  -- element-copy-out-new-2
-    (λ c κs. search needs)  -- new-requires
-    (λ c κs. search needs)  -- number-requires
-    (λ c κs. search needs)  -- times-requires
-    (λ c κs. search needs)  -- plus-requires
-    (λ c. search needs)  -- mul-sums
-    (λ c. search needs)  -- element-write-sums
-    (λ c. search needs)  -- add-sums
-    (λ c. search needs)  -- mul-sums-2
-    (λ c. search needs)  -- element-write-sums-2
-    (λ c. search needs)  -- add-c
-    (λ c. search needs)  -- loop-less
+    (λ c. search needs) (λ c. search needs) (λ c. search needs) (λ c. search needs)  -- mul-new, element-copy-out-new, add-new, mul-new-2
+    (λ c. search needs) (λ c κs. search needs) (λ c κs. search needs)  -- element-copy-out-new-2, new-requires, number-requires
+    (λ c κs. search needs) (λ c κs. search needs) (λ c. search needs)  -- times-requires, plus-requires, mul-sums
+    (λ c. search needs) (λ c. search needs) (λ c. search needs) (λ c. search needs)  -- element-write-sums, add-sums, mul-sums-2, element-write-sums-2
+    (λ c. search needs) (λ c. search needs)  -- add-c, loop-less
     loop-again
     (λ c. mapped-end _ (c .before .loop .c) _ _ _ (c .before .loop .inv .0) (c .loop-test .left) (c .before .loop .inv .1)))  -- returns

@@ -1,18 +1,10 @@
--- `rows::add_rows` meets its contract: before turn a the rows before a have the term and the others are as they were. Assumes nothing.
-use mathlib.Core.Path.{_≡_, refl, sym, ap, _∙_}
-use mathlib.Core.List.{List}
-use Prim.Native.Nat.{ℕ, _+_, _-_, _*_, _≤_, _<_}
-use native.Mathlib.Nat.{mul-left-comm}
-use native.Mathlib.Omega.{arith}
-use lib.ListN.{length}
-use lib.Ieee.{Float}
-use denote.Ref.{now}
-use borrow.Author.Needs.{needs}
+-- `rows::add_rows` meets its contract: before step a the rows before a have the term and the others are as they were. Assumes nothing.
+use Rattle.lists.specs.Prelude.{_≡_, refl, sym, ap, _∙_, List, ℕ, _+_, _-_, _*_, _≤_, _<_, mul-left-comm, arith, length, Float, now, needs}
 use Rattle.complex.specs.declared.Complex.{Complex}
 use Rattle.complex.specs.Arithmetic.{cmul}
 use Rattle.complex.specs.Numbers.{entryAt}
 use Rattle.complex.specs.Sum.{sumFrom}
-use Rattle.two_time.specs.Filling.{part-within}
+use Rattle.two_time.specs.Parts.{part-within}
 use Rattle.rows.specs.Numbers.{numberAt, mapped-as, number-zero}
 use Rattle.terms.specs.declared.Term.{Term}
 use Rattle.lanes.specs.Lanes.{laneAt}
@@ -34,7 +26,7 @@ abbrev μ-loop : tie.MeasureT-loop
 abbrev start : tie.At-loop Inv-loop μ-loop → tie.Start Inv-loop μ-loop
 start l = l .before .before .before .before
 
--- this turn's row of the left factor lies in its slice
+-- this step's row of the left factor lies in its slice
 inside : (t : tie.In-loop Inv-loop μ-loop) → let x = start (t .before) .args in x .i + t .before .loop .a * (2 * x .orbitals) + 2 * x .orbitals ≤ length (now (x .left))
 inside t =
     let s = start (t .before) in
@@ -43,15 +35,8 @@ inside t =
 
 loop-again : tie.Need-loop-again Inv-loop μ-loop
 loop-again c =
-    let g = c .before .before in
-    let r = g .before .before .before in
-    let t = r .before .before in
-    let l = t .before in
-    let s = start l in
-    let x = s .args in
-    let a = l .loop .a in
-    let i = l .loop .inv in
-    let term = x .term in
+    let g = c .before .before in let r = g .before .before .before in let t = r .before .before in let l = t .before in let s = start l in
+    let x = s .args in let a = l .loop .a in let i = l .loop .inv in let term = x .term in
     let few : a < 16 = omega (arith, t .loop-test .taken, s .pre .0 .1) in
     let product : (c : ℕ) → c < term .lanes → numberAt (r .row-products .last .1 .1 .1 .1 .0) c ≡ packedProduct (x .orbitals) (now (x .left)) (x .i) (now (x .rows)) a c =
     λ c h.
@@ -64,24 +49,17 @@ loop-again c =
 
 pub add-rows-spec : {M : Type 1} → statement M
 add-rows-spec =
-    tie.close
-    (tie.spec
-    Inv-loop
-    μ-loop
+    tie.close (tie.spec Inv-loop μ-loop
     (λ c. search needs)  -- mul-width
     (λ c. (omega arith, rowed-none _ _ _ (c .before .before .before .pre .0 .3)))  -- loop-holds
-    (λ c. search needs)  -- mul-at
-    (λ c. search needs)  -- add-end
+    (λ c. search needs) (λ c. search needs)  -- mul-at, add-end
     (λ c. let h = inside c in let s = start (c .before) in omega (arith, s .pre .1 .1))  -- mul-row-products
     (λ c. let h = inside c in let s = start (c .before) in omega (arith, s .pre .1 .1))  -- add-row-products
     (λ c κs. let s = start (c .before .before) in (s .pre .0 .1, s .pre .0 .2, inside (c .before), refl))  -- row-products-requires
-    (λ c. search needs)  -- mul-add-scaled
-    (λ c. search needs)  -- sub-add-scaled
-    (λ c. search needs)  -- part-add-scaled-start
+    (λ c. search needs) (λ c. search needs) (λ c. search needs)  -- mul-add-scaled, sub-add-scaled, part-add-scaled-start
     (λ c. let t = c .before .before .before in let s = start (t .before) in omega (arith, t .loop-test .taken, s .pre .0 .1, t .before .loop .inv .1 .long))  -- part-add-scaled-end
     (λ c κs. let t = c .before .before .before .before in let l = t .before in let s = start l in (s .pre .0 .0, part-length (l .loop .totals) (l .loop .a) _ (row-width (l .loop .a)) (l .loop .inv .1 .long) (omega (arith, t .loop-test .taken, s .pre .0 .1))))  -- add-scaled-requires
-    (λ c. search needs)  -- add-a
-    (λ c. search needs)  -- loop-less
+    (λ c. search needs) (λ c. search needs)  -- add-a, loop-less
     loop-again
     (λ c. c .before .loop .inv .1 .long ∙ sym (start (c .before) .pre .0 .3))  -- same-length
     (λ c. let i = c .before .loop .inv in rowed-all _ _ _ _ _ _ (i .0) (c .loop-test .left) (i .1)))  -- returns

@@ -1,9 +1,5 @@
 -- `rows::has_block` meets its contract. Assumes nothing.
-use Prim.Native.Nat.{_*_, _≤_}
-use native.Mathlib.Omega.{arith}
-use lib.ListN.{length}
-use denote.Ref.{now}
-use borrow.Author.Tests.{not-true, not-false}
+use Rattle.lists.specs.Prelude.{_*_, _≤_, arith, length, now, not-true, not-false}
 use Rattle.two_time.specs.Places.{product-most}
 use Rattle.rows.specs.Fitting.{begun, block-begun, block-none}
 use Rattle.rows.proofs.has_block.Statement.{statement}
@@ -18,10 +14,8 @@ sizes c =
 
 pub has-block-spec : {M : Type 1} → statement M
 has-block-spec =
-    tie.close
-    (tie.spec
+    tie.close (tie.spec
     (λ c. block-none _ _ _ (not-true _ (c .if1 .taken)))  -- returns
-    (λ c. let z = sizes c in omega arith)  -- mul-result
-    (λ c. let z = sizes c in omega arith)  -- mul-result-2
+    (λ c. let z = sizes c in omega arith) (λ c. let z = sizes c in omega arith)  -- mul-result, mul-result-2
     (λ c. let z = sizes c in omega arith)  -- add-result
     (λ c. block-begun _ _ _ (not-false _ (c .if1 .left))))  -- returns-2

@@ -1,5 +1,5 @@
 -- `rows::is_ranged` meets its contract. Assumes nothing.
-use mathlib.Core.Path.{refl}
+use Rattle.lists.specs.Prelude.{refl}
 use Rattle.rows.specs.Rows.{isRanged}
 use Rattle.rows.proofs.is_ranged.Statement.{statement}
 use Rattle.rows.proofs.is_ranged.Tie as tie

@@ -1,13 +1,5 @@
--- `rows::row_products` meets its contract: before turn k each lane has its first k products. Assumes nothing.
-use mathlib.Core.Path.{_≡_, sym, ap, ap₂, _∙_}
-use mathlib.Core.List.{List}
-use Prim.Native.Nat.{ℕ, _+_, _-_, _*_, _≤_, _<_}
-use native.Mathlib.Nat.{le-antisymm}
-use native.Mathlib.Omega.{arith}
-use lib.ListN.{length}
-use lib.Ieee.{Float}
-use denote.Ref.{now}
-use borrow.Author.Needs.{needs}
+-- `rows::row_products` meets its contract: before step k each lane has its first k products. Assumes nothing.
+use Rattle.lists.specs.Prelude.{_≡_, sym, ap, ap₂, _∙_, List, ℕ, _+_, _-_, _*_, _≤_, _<_, le-antisymm, arith, length, Float, now, needs}
 use Rattle.complex.specs.declared.Complex.{Complex}
 use Rattle.complex.specs.Arithmetic.{cadd, cmul}
 use Rattle.complex.specs.Numbers.{entryAt}
@@ -35,11 +27,7 @@ start l = l .before .before .before
 
 loop-again : tie.Need-loop-again Inv-loop μ-loop
 loop-again c =
-    let new = c .before .before .before in
-    let t = new .before .before .before in
-    let l = t .before in
-    let s = start l in
-    let x = s .args in
+    let new = c .before .before .before in let t = new .before .before .before in let l = t .before in let s = start l in let x = s .args in
     let k = l .loop .k in
     let i = l .loop .inv in (
       omega arith,
@@ -52,34 +40,18 @@ loop-again c =
 
 returns : tie.Need-returns Inv-loop μ-loop
 returns c =
-    let l = c .before in
-    let x = start l .args in
-    let i = l .loop .inv in
+    let l = c .before in let x = start l .args in let i = l .loop .inv in
     (i .1, λ b h. i .2 b h ∙ ap (sumAt (now (x .left)) (x .i) (now (x .rows)) (numberAt (now (x .sums)) b) b) (le-antisymm (i .0) (c .loop-test .left)))
 
 pub row-products-spec : {M : Type 1} → statement M
 row-products-spec =
-    tie.close
-    (tie.spec
-    Inv-loop
-    μ-loop
+    tie.close (tie.spec Inv-loop μ-loop
     (λ c. (omega arith, c .before .before .pre .3, λ b h. sym (sum-none _ _ 0)))  -- loop-holds
-    (λ c. search needs)  -- mul-j
-    (λ c. search needs)  -- add-j
-    (λ c. search needs)  -- mul-at
-    (λ c. search needs)  -- add-end
-    (λ c. search needs)  -- mul-new
-    (λ c. search needs)  -- shared-slice-read-new
-    (λ c. search needs)  -- add-new
-    (λ c. search needs)  -- mul-new-2
-    (λ c. search needs)  -- shared-slice-read-new-2
-    (λ c κs. search needs)  -- new-requires
-    (λ c. search needs)  -- mul-add-products
-    (λ c. search needs)  -- sub-add-products
-    (λ c. search needs)  -- part-add-products-start
-    (λ c. search needs)  -- part-add-products-end
+    (λ c. search needs) (λ c. search needs) (λ c. search needs) (λ c. search needs) (λ c. search needs)  -- mul-j, add-j, mul-at, add-end, mul-new
+    (λ c. search needs) (λ c. search needs) (λ c. search needs)  -- shared-slice-read-new, add-new, mul-new-2
+    (λ c. search needs) (λ c κs. search needs) (λ c. search needs)  -- shared-slice-read-new-2, new-requires, mul-add-products
+    (λ c. search needs) (λ c. search needs) (λ c. search needs)  -- sub-add-products, part-add-products-start, part-add-products-end
     (λ c κs. let t = c .before .before .before .before .before in let l = t .before in let s = start l in (part-length (now (s .args .rows)) (l .loop .k) _ (width (l .loop .k)) (s .pre .1) (omega arith), l .loop .inv .1))  -- add-products-requires
-    (λ c. search needs)  -- add-k
-    (λ c. search needs)  -- loop-less
+    (λ c. search needs) (λ c. search needs)  -- add-k, loop-less
     loop-again
     returns)

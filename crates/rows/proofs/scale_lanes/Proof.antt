@@ -1,12 +1,5 @@
--- `rows::scale_lanes` meets its contract: before turn c the lanes from lo to before c are made. Assumes nothing.
-use mathlib.Core.Path.{_≡_, sym, ap₂, _∙_}
-use mathlib.Core.List.{List}
-use Prim.Native.Nat.{ℕ, _-_, _≤_}
-use native.Mathlib.Omega.{arith}
-use lib.ListN.{length}
-use lib.Ieee.{Float}
-use denote.Ref.{now}
-use borrow.Author.Needs.{needs}
+-- `rows::scale_lanes` meets its contract: before step c the lanes from lo to before c are made. Assumes nothing.
+use Rattle.lists.specs.Prelude.{_≡_, sym, ap₂, _∙_, List, ℕ, _-_, _≤_, arith, length, Float, now, needs}
 use Rattle.complex.specs.declared.Complex.{Complex}
 use Rattle.complex.specs.Arithmetic.{real, cadd, cmul}
 use Rattle.rows.specs.Numbers.{numberAt, Mapped, mapped-next, mapped-end}
@@ -32,17 +25,9 @@ long l = l .loop .inv .2 .long ∙ start l .pre .2
 
 loop-again : tie.Need-loop-again Inv-loop μ-loop
 loop-again c =
-    let set = c .before .before in
-    let plus = set .before .before in
-    let times = plus .before in
-    let real' = times .before in
-    let number = real' .before in
-    let new = number .before .before in
-    let t = new .before .before .before in
-    let l = t .before in
-    let s = start l in
-    let x = s .args in
-    let k = l .loop .c in
+    let set = c .before .before in let plus = set .before .before in let times = plus .before in let real' = times .before in
+    let number = real' .before in let new = number .before .before in let t = new .before .before .before in let l = t .before in let s = start l in
+    let x = s .args in let k = l .loop .c in
     let f = made (x .weight) (now (x .sums)) in (
       omega arith,
       omega arith,
@@ -54,24 +39,14 @@ loop-again c =
 
 pub scale-lanes-spec : {M : Type 1} → statement M
 scale-lanes-spec =
-    tie.close
-    (tie.spec
-    Inv-loop
-    μ-loop
+    tie.close (tie.spec Inv-loop μ-loop
     (λ c. (omega arith, omega arith, from-none _ _ _))  -- loop-holds
-    (λ c. search needs)  -- mul-new
-    (λ c. search needs)  -- element-copy-out-new
-    (λ c. search needs)  -- add-new
-    (λ c. search needs)  -- mul-new-2
-    (λ c. search needs)  -- element-copy-out-new-2
-    (λ c κs. search needs)  -- new-requires
+    (λ c. search needs) (λ c. search needs) (λ c. search needs) (λ c. search needs)  -- mul-new, element-copy-out-new, add-new, mul-new-2
+    (λ c. search needs) (λ c κs. search needs)  -- element-copy-out-new-2, new-requires
     (λ c κs. let t = c .before .before .before .before in (omega (arith, t .loop-test .taken, start (t .before) .pre .1), long (t .before)))  -- number-requires
-    (λ c κs. search needs)  -- real-requires
-    (λ c κs. search needs)  -- times-requires
-    (λ c κs. search needs)  -- plus-requires
+    (λ c κs. search needs) (λ c κs. search needs) (λ c κs. search needs)  -- real-requires, times-requires, plus-requires
     (λ c κs. let t = c .before .before .before .before .before .before .before .before .before in (omega (arith, t .loop-test .taken, start (t .before) .pre .1), long (t .before)))  -- set-number-requires
-    (λ c. search needs)  -- add-c
-    (λ c. search needs)  -- loop-less
+    (λ c. search needs) (λ c. search needs)  -- add-c, loop-less
     loop-again
     (λ c. c .before .loop .inv .2 .long)  -- same-length
     (λ c. mapped-end _ (c .before .loop .c) _ _ _ (c .before .loop .inv .1) (c .loop-test .left) (c .before .loop .inv .2)))  -- returns

@@ -1,6 +1,4 @@
-use native.Mathlib.Omega.{arith}
-use lib.ListN.{length-set}
-use borrow.Author.Needs.{needs}
+use Rattle.lists.specs.Prelude.{arith, length-set, needs}
 use Rattle.rows.proofs.set_number.Statement.{statement}
 use Rattle.rows.proofs.set_number.Tie as tie
 use Rattle.rows.proofs.set_number.Reads as reads

@@ -1,10 +1,6 @@
--- `run_file::run_text` meets its contract: after t turns the lines of the first t times are written. Assumes nothing.
-use mathlib.Core.Path.{_≡_, refl, _∙_}
-use Prim.Native.Nat.{_≤_, _+_, _-_, _*_}
-use native.Mathlib.Omega.{arith}
-use lib.ListN.{length}
-use borrow.Author.Needs.{needs}
-use Rattle.run_file.specs.Writing.{Appended, no-word, both-words, as-text}
+-- `run_file::run_text` meets its contract: after t steps the lines of the first t times are written. Assumes nothing.
+use Rattle.lists.specs.Prelude.{_≡_, refl, _∙_, _≤_, _+_, _-_, _*_, arith, length, needs}
+use Rattle.run_file.specs.Appended.{Appended, no-word, both-words, as-text}
 use Rattle.run_file.specs.Lines.{timesText, no-times, time-more, all-times}
 use Rattle.run_file.proofs.run_text.Statement.{statement}
 use Rattle.run_file.proofs.run_text.Tie as tie
@@ -18,14 +14,14 @@ abbrev μ : tie.MeasureT-loop
 
 loop-again : tie.Need-loop-again Inv μ
 loop-again c =
-    let at = c .before .before .before .before .before .before .before .loop in
+    let at = c .before .before .before .before .before .before .loop in
     let i = at .inv in
     let written = c .before .before .time-line .ensures in
     let number = c .before .before .before .before .particle-number .ensures in (
       omega arith,
       c .before .before .time-line .kept .0 ∙ i .1,
       omega arith,
-      as-text (time-more _ _ _ (at .t) number (c .before .before .before .before .before .tolerance .ensures)) (both-words _ _ (i .3) (written .0)),
+      as-text (time-more _ _ _ (at .t) number) (both-words _ _ (i .3) (written .0)),
     )
 
 pub run-text-spec : {M : Type 1} → statement M
@@ -36,7 +32,6 @@ run-text-spec =
     (λ c. omega arith)  -- cast-run-line-2
     (λ c κs. search needs)  -- run-line-requires
     (λ c. (omega arith, refl, omega arith, as-text (no-times _ _ _) (no-word _ _)))  -- loop-holds
-    (λ c κs. search needs)  -- tolerance-requires
     (λ c κs. search needs)  -- particle-number-requires
     (λ c. omega arith)  -- cast-time-line
     (λ c κs. search needs)  -- time-line-requires

@@ -1,8 +1,5 @@
 -- `sums::group_places` meets its contract. Assumes nothing.
-use native.Mathlib.Nat.{div-mul-le-self, le-div-iff-mul-le, div-le-self, mul-le-mul-right}
-use Prim.Native.Nat.{_*_, _/_, _≤_, _<_}
-use native.Mathlib.Omega.{arith}
-use borrow.Author.Needs.{needs}
+use Rattle.lists.specs.Prelude.{div-mul-le-self, le-div-iff-mul-le, div-le-self, mul-le-mul-right, _*_, _/_, _≤_, _<_, arith, needs}
 use Rattle.sums.proofs.group_places.Statement.{statement}
 use Rattle.sums.proofs.group_places.Tie as tie
 
@@ -12,8 +9,7 @@ most s = let n = s .args .orbitals in (le-div-iff-mul-le {k = n} {x = 1} {y = 16
 
 pub group-places-spec : {M : Type 1} → statement M
 group-places-spec =
-    tie.close
-    (tie.spec
+    tie.close (tie.spec
     (λ c. search needs)  -- div-most
     (λ c.
     let m = most (c .before) in

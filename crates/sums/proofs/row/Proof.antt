@@ -1,40 +1,29 @@
 -- `sums::row` meets its contract: after the groups before u the first u blocks are finite and written. Assumes nothing.
-use mathlib.Core.Path.{_≡_, refl, sym, ap, _∙_}
-use mathlib.Core.Bool.{Bool, true}
-use mathlib.Core.List.{List, [], _∷_}
-use Prim.Native.Nat.{ℕ, _+_, _-_, _*_, _≤_, _<_}
-use native.Mathlib.Nat.{le-antisymm, mul-le-mul-right, add-mul}
-use native.Mathlib.Omega.{arith}
-use lib.ListN.{length, length-take, length-drop}
-use lib.Ieee.{Float}
-use denote.Ref.{now}
-use borrow.Author.Needs.{needs}
-use borrow.Author.Tests.{not-true, not-false}
-use borrow.Rule.Slice.PartMut.{midOf}
+use Rattle.lists.specs.Prelude.{_≡_, refl, sym, ap, _∙_, Bool, true, List, [], _∷_, ℕ, _+_, _-_, _*_, _≤_, _<_, le-antisymm, mul-le-mul-right, add-mul, arith, length}
+use Rattle.lists.specs.Prelude.{length-take, length-drop, Float, now, needs, not-true, not-false, midOf}
 use Rattle.lists.specs.Indexed.{allBelow, join}
 use Rattle.lists.specs.Agreement.{never}
 use Rattle.lists.specs.Reading.{length-join}
 use Rattle.lists.specs.Filling.{over, over-none, over-all, over-part}
-use Rattle.matrix.specs.Block.{layOut}
+use Rattle.block.specs.Block.{layOut}
 use Rattle.two_time.specs.declared.sums.Sums.{Sums}
 use Rattle.two_time.specs.Places.{product-most}
-use Rattle.two_time.specs.Filling.{length-block}
-use Rattle.two_time.specs.SizeLines.{SizesPassed, sizes-passed}
-use Rattle.groups.specs.PlaceSums.{sumAt, blockFine}
+use Rattle.block.specs.Length.{length-block}
+use Rattle.two_time.specs.SizeChecks.{SizesPassed, sizes-passed}
+use Rattle.groups.specs.PlaceSums.{sumAt, blockFinite}
 use Rattle.groups.specs.Groups.{Grouped, group-finite, group-overflow}
-use Rattle.sums.specs.Parts.{join-add, all-add, all-failed}
+use Rattle.lanes.specs.Filled.{Filled, filled-none, filled-more, filled-all, fails}
 use Rattle.sums.proofs.row.Statement.{statement}
 use Rattle.sums.proofs.row.Tie as tie
 
-abbrev fineAt : Sums → ℕ → ℕ → List Float → List Float → List Float → ℕ → ℕ → Bool
-fineAt sums points n times left right t u = blockFine sums points n times left right t u
+abbrev finiteAt : Sums → ℕ → ℕ → List Float → List Float → List Float → ℕ → ℕ → Bool
+finiteAt sums points n times left right t u = blockFinite sums points n times left right t u
 
 abbrev laid : Sums → ℕ → ℕ → List Float → List Float → List Float → ℕ → ℕ → List Float
 laid sums points n times left right t u = layOut n n (sumAt sums points n times left right t u)
 
 abbrev Inv-loop : tie.InvT-loop
-Inv-loop sums times left right points n t out₀ width u₀ out u =
-    (u ≤ points) × (length out ≡ length out₀) × (allBelow u (fineAt sums points n times left right t) ≡ true) × (out ≡ over out₀ (join u (laid sums points n times left right t)))
+Inv-loop sums times left right points n t out₀ width u₀ out u = Filled points (finiteAt sums points n times left right t) (laid sums points n times left right t) u out₀ out
 
 abbrev μ-loop : tie.MeasureT-loop
 μ-loop sums times left right points n t out₀ width u₀ out u = points - u
@@ -48,7 +37,7 @@ sizes s = sizes-passed _ _ _ _ (s .pre .0 .1)
 block : (s : tie.Start Inv-loop μ-loop) → s .args .orbitals * s .args .orbitals ≤ 256
 block s = product-most (s .args .orbitals) (s .args .orbitals) (sizes s .orbitals-most) (sizes s .orbitals-most)
 
--- this turn's group
+-- this step's group
 record Part (points n t u m len : ℕ) : Type 0 where
   there : Grouped points n t u m
   room : u * (2 * (n * n)) + m * (2 * (n * n)) ≤ len
@@ -67,25 +56,16 @@ part-of points n t u m len ht h some fit most few hp hn long =
 
 part : (w : tie.After-group-places Inv-loop μ-loop) → let l = w .before .before in let x = start l .args in Part (x .points) (x .orbitals) (x .t) (l .loop .u) (w .group-places .result) (length (l .loop .out))
 part w =
-    let t = w .before in
-    let l = t .before in
-    let s = start l in
-    let x = s .args in
-    let g = w .group-places .ensures in
-    let z = sizes s in
-    part-of (x .points) (x .orbitals) (x .t) (l .loop .u) (w .group-places .result) (length (l .loop .out)) (s .pre .0 .0) (t .loop-test .taken) (g .0) (g .1) (g .2) (g .3) (z .points-most) (z .orbitals-most) (l .loop .inv .1 ∙ s .pre .1)
+    let t = w .before in let l = t .before in let s = start l in let x = s .args in let g = w .group-places .ensures in let z = sizes s in
+    part-of (x .points) (x .orbitals) (x .t) (l .loop .u) (w .group-places .result) (length (l .loop .out)) (s .pre .0 .0) (t .loop-test .taken) (g .0) (g .1) (g .2) (g .3) (z .points-most) (z .orbitals-most) (l .loop .inv .long ∙ s .pre .1)
 
-length-laid : (sums : Sums) (points n : ℕ) (times left right : List Float) (t u k : ℕ) → length (join k (λ c. laid sums points n times left right t (u + c))) ≡ k * (2 * (n * n))
-length-laid sums points n times left right t u k = length-join k (2 * (n * n)) _ (λ q h. length-block n (sumAt sums points n times left right t (u + q)))
-
-length-first : (sums : Sums) (points n : ℕ) (times left right : List Float) (t k : ℕ) → length (join k (laid sums points n times left right t)) ≡ k * (2 * (n * n))
-length-first sums points n times left right t k = length-join k (2 * (n * n)) _ (λ q h. length-block n (sumAt sums points n times left right t q))
+wide : (sums : Sums) (points n : ℕ) (times left right : List Float) (t u : ℕ) → length (laid sums points n times left right t u) ≡ 2 * (n * n)
+wide sums points n times left right t u = length-block n (sumAt sums points n times left right t u)
 
 -- its part of the slice
 abbrev before : tie.After-group Inv-loop μ-loop → List Float
 before g =
-    let w = g .before .before in
-    let l = w .before .before in
+    let w = g .before .before in let l = w .before .before in
     let v = 2 * (start l .args .orbitals * start l .args .orbitals) in
     midOf (l .loop .u * v) (l .loop .u * v + w .group-places .result * v - l .loop .u * v) (l .loop .out)
 
@@ -94,79 +74,43 @@ before-long g = let z = part (g .before .before) in simp (length-take, length-dr
 
 returns : tie.Need-returns Inv-loop μ-loop
 returns c =
-    let f = c .before in
-    let g = f .before .before .before in
-    let w = g .before .before in
-    let l = w .before .before in
-    let s = start l in
-    let x = s .args in
+    let f = c .before in let g = f .before .before .before in let w = g .before .before in let l = w .before .before in let s = start l in let x = s .args in
     let z = part w in
-    let failed = group-overflow (x .sums) (x .points) (x .orbitals) (now (x .times)) (now (x .left)) (now (x .right)) (x .t) (l .loop .u) (w .group-places .result) (before g) (z .there) (s .pre .0 .1) (before-long g) _ _ (g .group .ensures .0) (g .group .ensures .1) (sym (f .is-finite .ensures) ∙ not-true _ (c .if1 .taken)) in
-    (sym (all-failed (fineAt (x .sums) (x .points) (x .orbitals) (now (x .times)) (now (x .left)) (now (x .right)) (x .t)) (l .loop .u) (w .group-places .result) (x .points) (z .there .fit) failed), λ h. never h)
+    fails _ (finiteAt (x .sums) (x .points) (x .orbitals) (now (x .times)) (now (x .left)) (now (x .right)) (x .t)) (laid (x .sums) (x .points) (x .orbitals) (now (x .times)) (now (x .left)) (now (x .right)) (x .t)) (l .loop .u) (w .group-places .result) _ (z .there .fit)
+    (group-overflow (x .sums) (x .points) (x .orbitals) (now (x .times)) (now (x .left)) (now (x .right)) (x .t) (l .loop .u) (w .group-places .result) (before g) (z .there) (s .pre .0 .1) (before-long g) _ _ (g .group .ensures .0) (g .group .ensures .1) (sym (f .is-finite .ensures) ∙ not-true _ (c .if1 .taken)))
 
 loop-again : tie.Need-loop-again Inv-loop μ-loop
 loop-again c =
-    let q = c .before in
-    let o = q .before .before in
-    let g = o .before in
-    let w = g .before .before in
-    let l = w .before .before in
-    let s = start l in
-    let x = s .args in
-    let i = l .loop .inv in
-    let u = l .loop .u in
-    let n = x .orbitals in
-    let m = w .group-places .result in
-    let f = laid (x .sums) (x .points) n (now (x .times)) (now (x .left)) (now (x .right)) (x .t) in
-    let p = fineAt (x .sums) (x .points) n (now (x .times)) (now (x .left)) (now (x .right)) (x .t) in
+    let q = c .before in let o = q .before .before in let g = o .before in let w = g .before .before in let l = w .before .before in let s = start l in let x = s .args in
+    let u = l .loop .u in let n = x .orbitals in let m = w .group-places .result in let v = 2 * (n * n) in
     let z = part w in
-    let told = group-finite (x .sums) (x .points) n (now (x .times)) (now (x .left)) (now (x .right)) (x .t) u m (before g) (z .there) (s .pre .0 .1) (before-long g) _ _ (g .group .ensures .0) (g .group .ensures .1) (sym (q .is-finite .ensures) ∙ not-false _ (c .if1 .left)) in (
-      z .there .fit,
-      o .out .given .1 ∙ i .1,
-      all-add u p m ∙ rw (i .2) (told .0),
-      rw (i .3, told .1, join-add u f m)
-          (over-part (now (x .out)) (join u f) (join m (λ k. f (u + k))) (u * (2 * (n * n))) (u * (2 * (n * n)) + m * (2 * (n * n)) - u * (2 * (n * n)))
-          (length-first (x .sums) (x .points) n (now (x .times)) (now (x .left)) (now (x .right)) (x .t) u) (length-laid (x .sums) (x .points) n (now (x .times)) (now (x .left)) (now (x .right)) (x .t) u m ∙ omega arith)),
-    )
+    let made = group-finite (x .sums) (x .points) n (now (x .times)) (now (x .left)) (now (x .right)) (x .t) u m (before g) (z .there) (s .pre .0 .1) (before-long g) _ _ (g .group .ensures .0) (g .group .ensures .1) (sym (q .is-finite .ensures) ∙ not-false _ (c .if1 .left)) in
+    filled-more (x .points) (finiteAt (x .sums) (x .points) n (now (x .times)) (now (x .left)) (now (x .right)) (x .t)) (laid (x .sums) (x .points) n (now (x .times)) (now (x .left)) (now (x .right)) (x .t)) v
+    (wide (x .sums) (x .points) n (now (x .times)) (now (x .left)) (now (x .right)) (x .t)) (now (x .out)) u m (u * v + m * v - u * v) (l .loop .out) _ (l .loop .inv) (z .there .fit) (made .0) (made .1) (omega arith) (o .out .given .1)
 
 returns-2 : tie.Need-returns-2 Inv-loop μ-loop
 returns-2 c =
-    let l = c .before in
-    let i = l .loop .inv in
-    let s = start l in
-    let x = s .args in
-    let f = laid (x .sums) (x .points) (x .orbitals) (now (x .times)) (now (x .left)) (now (x .right)) (x .t) in
-    let p = fineAt (x .sums) (x .points) (x .orbitals) (now (x .times)) (now (x .left)) (now (x .right)) (x .t) in
-    let e : l .loop .u ≡ x .points = le-antisymm (i .0) (c .loop-test .left) in (
-      sym (ap (λ (k : ℕ). allBelow k p) (sym e) ∙ i .2),
-      λ h. i .3 ∙ ap (λ (k : ℕ). over (now (x .out)) (join k f)) e ∙ over-all (now (x .out)) (join (x .points) f) (length-first (x .sums) (x .points) (x .orbitals) (now (x .times)) (now (x .left)) (now (x .right)) (x .t) (x .points) ∙ sym (s .pre .1)),
-    )
+    let l = c .before in let s = start l in let x = s .args in let n = x .orbitals in
+    filled-all (x .points) (finiteAt (x .sums) (x .points) n (now (x .times)) (now (x .left)) (now (x .right)) (x .t)) (laid (x .sums) (x .points) n (now (x .times)) (now (x .left)) (now (x .right)) (x .t)) (2 * (n * n))
+    (wide (x .sums) (x .points) n (now (x .times)) (now (x .left)) (now (x .right)) (x .t)) (now (x .out)) (l .loop .u) _ (l .loop .inv) (c .loop-test .left) (s .pre .1)
 
 pub row-spec : {M : Type 1} → statement M
-unfolding allBelow join
 row-spec =
-    tie.close
-    (tie.spec
-    Inv-loop
-    μ-loop
+    tie.close (tie.spec Inv-loop μ-loop
     (λ c. let b = block (c .before .before .before .before) in omega arith)  -- mul-width
     (λ c. let b = block (c .before .before .before .before) in omega arith)  -- mul-width-2
-    (λ c. (omega arith, refl, refl, sym (over-none _)))  -- loop-holds
+    (λ c. filled-none _ _ _ _)  -- loop-holds
     (λ c. let h = c .loop-test .taken in omega arith)  -- sub-group-places
     (λ c κs. let z = sizes (start (c .before)) in (omega (arith, c .loop-test .taken), z .orbitals-least, z .orbitals-most))  -- group-places-requires
-    (λ c. let z = part c in omega (arith, z .room, z .all))  -- mul-start
-    (λ c. let z = part c in omega (arith, z .room, z .all))  -- mul-end
-    (λ c. let z = part c in omega (arith, z .room, z .all))  -- add-end
-    (λ c. let z = part c in omega (arith, z .room, z .all))  -- mul-group
-    (λ c. let z = part c in omega (arith, z .room, z .all))  -- sub-group
-    (λ c. let z = part c in omega (arith, z .room, z .all))  -- part-group-start
+    (λ c. let z = part c in omega (arith, z .room, z .all)) (λ c. let z = part c in omega (arith, z .room, z .all))  -- mul-start, mul-end
+    (λ c. let z = part c in omega (arith, z .room, z .all)) (λ c. let z = part c in omega (arith, z .room, z .all))  -- add-end, mul-group
+    (λ c. let z = part c in omega (arith, z .room, z .all)) (λ c. let z = part c in omega (arith, z .room, z .all))  -- sub-group, part-group-start
     (λ c. let z = part c in omega (arith, z .room, z .all))  -- part-group-end
-    (λ c κs. search needs)  -- group-requires
-    (λ c κs. search needs)  -- is-finite-requires
-    (λ c. let o = c .before .before .before in o .out .given .1 ∙ o .before .before .before .before .before .loop .inv .1)  -- same-length
+    (λ c κs. search needs) (λ c κs. search needs)  -- group-requires, is-finite-requires
+    (λ c. let o = c .before .before .before in o .out .given .1 ∙ o .before .before .before .before .before .loop .inv .long)  -- same-length
     returns
     (λ c. let w = c .before .before .before .before .before .before in let z = part w in omega (arith, z .there .fit, z .there .points-most))  -- add-u
     (λ c. let z = part (c .before .before .before .before .before .before) in omega (arith, z .there .fit, z .there .some))  -- loop-less
     loop-again
-    (λ c. c .before .loop .inv .1)  -- same-length-2
+    (λ c. c .before .loop .inv .long)  -- same-length-2
     returns-2)

@@ -1,38 +1,30 @@
 -- `sums::weighted_sums` meets its contract: unfit, finite, or not finite with the slice cleared. Assumes nothing.
-use mathlib.Core.Path.{_≡_, sym, ap, _∙_}
-use mathlib.Core.Bool.{true}
-use mathlib.Core.List.{List, [], _∷_}
-use lib.Ieee.{Float}
-use Prim.Native.Nat.{ℕ}
-use lib.ListN.{replicate}
-use denote.Ref.{now}
-use borrow.Author.Needs.{needs}
+use Rattle.lists.specs.Prelude.{_≡_, sym, ap, _∙_, true, List, [], _∷_, Float, ℕ, replicate, now, needs}
 use Rattle.complex.specs.Arithmetic.{plusZero}
 use Rattle.refusal.specs.declared.Verdict.{Verdict}
 use Rattle.refusal.specs.declared.Verdict.the-variants.{Refused}
-use Rattle.two_time.specs.Calls.{sizeLines}
+use Rattle.two_time.specs.Calls.{sizeChecks}
 use Rattle.two_time.specs.Outcome.{summed, summedAnswer, summedOut}
-use Rattle.two_time.specs.SizeLines.{SizesPassed, sizes-passed, sizes-pass, sizes-asked, fits-more, long-first, long-also, long-none}
+use Rattle.two_time.specs.SizeChecks.{SizesPassed, sizes-passed, sizes-pass, sizes-asked, fits-more, long-first, long-also, long-none}
 use Rattle.sums.proofs.weighted_sums.Statement.{statement}
 use Rattle.sums.proofs.weighted_sums.Tie as tie
 
-abbrev start : tie.After-sizes → tie.Start
+abbrev start : tie.After-check-sizes → tie.Start
 start c = c .before .before .before .before .before .before .before .before .before
 
-abbrev slices : tie.After-sizes → List (List Float)
+abbrev slices : tie.After-check-sizes → List (List Float)
 slices c = let x = start c .args in now (x .left) ∷ now (x .right) ∷ now (x .out) ∷ []
 
-abbrev lines : tie.After-sizes → Verdict
-lines c = let x = start c .args in sizeLines (x .points) (x .orbitals) true (slices c)
+abbrev checks : tie.After-check-sizes → Verdict
+checks c = let x = start c .args in sizeChecks (x .points) (x .orbitals) true (slices c)
 
--- the verdict is that of lines 1 to 3
-asked : (c : tie.After-sizes) → c .sizes .result ≡ lines c
+-- the verdict is that of checks 1 to 3
+asked : (c : tie.After-check-sizes) → c .check-sizes .result ≡ checks c
 asked c =
-    let x = start c .args in
-    let h = c .before in
+    let x = start c .args in let h = c .before in
     sizes-asked (x .points) (x .orbitals) (slices c) true _ _
     (fits-more _ _ _ _ _ _ (h .before .before .before .has-length .ensures) (fits-more _ _ _ _ _ _ (h .before .before .has-length2 .ensures) (h .has-length3 .ensures)))
-    (c .sizes .ensures)
+    (c .check-sizes .ensures)
 
 -- what it says that they pass
 sizes : (c : tie.After-enum-told) → let s = c .before .before in SizesPassed (start s .args .points) (start s .args .orbitals) true (slices s)
@@ -40,12 +32,11 @@ sizes c = sizes-passed _ _ _ _ (sym (asked (c .before .before)) ∙ c .enum-told
 
 returns : tie.Need-returns
 unfolding summed summedAnswer summedOut
-returns c = let lines : lines (c .before .before) ≡ Refused _ = sym (asked (c .before .before)) ∙ c .enum-told2 .given .1 in (rw lines, rw lines)
+returns c = let checks : checks (c .before .before) ≡ Refused _ = sym (asked (c .before .before)) ∙ c .enum-told2 .given .1 in (rw checks, rw checks)
 
 fill-requires : tie.Need-fill-requires
 fill-requires c κs =
-    let e = c .before in
-    let z = sizes e in
+    let e = c .before in let z = sizes e in
     let l = long-first _ _ _ (z .long) in
     let r = long-first _ _ _ (l .1) in
     let o = long-first _ _ _ (r .1) in
@@ -54,38 +45,26 @@ fill-requires c κs =
 returns-2 : tie.Need-returns-2
 unfolding summed summedAnswer summedOut
 returns-2 c =
-    let f = c .before .before .before in
-    let e = f .before .before in
+    let f = c .before .before .before in let e = f .before .before in
     let pass = sym (asked (e .before .before)) ∙ e .enum-told .given .1 in
-    let fine = sym (f .fill .ensures .0) ∙ c .if1 .taken in
-    (rw (pass, fine), rw (pass, fine) (f .fill .ensures .1 (c .if1 .taken)))
+    let finite = sym (f .fill .ensures .0) ∙ c .if1 .taken in
+    (rw (pass, finite), rw (pass, finite) (f .fill .ensures .1 (c .if1 .taken)))
 
 returns-3 : tie.Need-returns-3
 unfolding summed summedAnswer summedOut
 returns-3 c =
-    let d = c .before .before in
-    let i = d .before .before in
-    let f = i .before .before .before in
-    let e = f .before .before in
+    let d = c .before .before in let i = d .before .before in let f = i .before .before .before in let e = f .before .before in
     let pass = sym (asked (e .before .before)) ∙ e .enum-told .given .1 in
-    let fine = sym (f .fill .ensures .0) ∙ i .if1 .left in
-    (rw (pass, fine), rw (pass, fine) (d .clear .ensures ∙ ap (λ (m : ℕ). replicate m plusZero) (f .fill .kept .1 .1 .1 .1 .1 .1 .0)))
+    let finite = sym (f .fill .ensures .0) ∙ i .if1 .left in
+    (rw (pass, finite), rw (pass, finite) (d .clear .ensures ∙ ap (λ (m : ℕ). replicate m plusZero) (f .fill .kept .1 .1 .1 .1 .1 .1 .0)))
 
 pub weighted-sums-spec : {M : Type 1} → statement M
 weighted-sums-spec =
-    tie.close
-    (tie.spec
-    (λ c κs. search needs)  -- has-length-requires
-    (λ c κs. search needs)  -- has-length-requires-2
-    (λ c κs. search needs)  -- has-length-requires-3
-    (λ c κs. search needs)  -- sizes-requires
-    (λ c. search needs)  -- enum-told
-    (λ c. search needs)  -- enum-told-2
-    (λ c. search needs)  -- same-length
-    returns
-    fill-requires
+    tie.close (tie.spec
+    (λ c κs. search needs) (λ c κs. search needs) (λ c κs. search needs)  -- has-length-requires, has-length-requires-2, has-length-requires-3
+    (λ c κs. search needs) (λ c. search needs) (λ c. search needs) (λ c. search needs)  -- check-sizes-requires, enum-told, enum-told-2, same-length
+    returns fill-requires
     (λ c. search needs)  -- same-length-2
     returns-2
-    (λ c κs. search needs)  -- clear-requires
-    (λ c. search needs)  -- same-length-3
+    (λ c κs. search needs) (λ c. search needs)  -- clear-requires, same-length-3
     returns-3)

@@ -1,5 +1,5 @@
 -- `terms::common_weight` meets its contract: each kind asks for its own weight. Assumes nothing.
-use borrow.Author.Needs.{needs}
+use Rattle.lists.specs.Prelude.{needs}
 use Rattle.terms.specs.Kinds.{commonWeight}
 use Rattle.terms.proofs.common_weight.Statement.{statement}
 use Rattle.terms.proofs.common_weight.Tie as tie
@@ -7,21 +7,12 @@ use Rattle.terms.proofs.common_weight.Tie as tie
 pub common-weight-spec : {M : Type 1} → statement M
 unfolding commonWeight
 common-weight-spec =
-    tie.close
-    (tie.spec
-    (λ c. search needs)  -- add-next
-    (λ c. search needs)  -- enum-told
-    (λ c κs. search needs)  -- full-weight-requires
+    tie.close (tie.spec
+    (λ c. search needs) (λ c. search needs) (λ c κs. search needs)  -- add-next, enum-told, full-weight-requires
     (λ c. search needs)
-    (λ c κs. search needs)  -- trapezoid-weight-requires
-    (λ c. search needs)
-    (λ c κs. search needs)
-    (λ c. search needs)
-    (λ c κs. search needs)
-    (λ c. search needs)
-    (λ c κs. search needs)
+    (λ c κs. search needs)  -- interval-weight-requires
+    (λ c. search needs) (λ c κs. search needs) (λ c. search needs) (λ c κs. search needs) (λ c. search needs) (λ c κs. search needs)
     (λ c. rw (c .before .enum-told .given .1) (search needs))  -- returns
-    (λ c. rw (c .before .enum-told2 .given .1) (search needs))
-    (λ c. rw (c .before .enum-told3 .given .1) (search needs))
+    (λ c. rw (c .before .enum-told2 .given .1) (search needs)) (λ c. rw (c .before .enum-told3 .given .1) (search needs))
     (λ c. rw (c .before .enum-told4 .given .1) (search needs))
     (λ c. rw (c .before .enum-told5 .given .1) (search needs)))

@@ -1,11 +1,5 @@
 -- `terms::span_fits` meets its contract. Assumes nothing.
-use mathlib.Core.Path.{_≡_, ap}
-use mathlib.Core.Bool.{Bool, _&&_}
-use Prim.Native.Nat.{ℕ, _+_, _-_, _≤_}
-use native.Mathlib.Decide.{decLt}
-use native.Mathlib.Omega.{arith}
-use lib.Dec.{leb, ltb}
-use borrow.Author.Tests.{le-leb, lt-leb}
+use Rattle.lists.specs.Prelude.{_≡_, ap, Bool, _&&_, ℕ, _+_, _-_, _≤_, decLt, arith, leb, ltb, le-leb, lt-leb}
 use Rattle.terms.proofs.span_fits.Statement.{statement}
 use Rattle.terms.proofs.span_fits.Tie as tie
 
@@ -19,7 +13,6 @@ room-after points u places h =
 
 pub span-fits-spec : {M : Type 1} → statement M
 span-fits-spec =
-    tie.close
-    (tie.spec
+    tie.close (tie.spec
     (λ c. let x = c .before .args in rw (lt-leb (x .u + x .places) (x .points) (omega (arith, c .if1 .taken))))  -- returns
     (λ c. let x = c .before .args in ap (λ (f : Bool). f && (ltb (x .t) (x .points) && leb (x .points) 256)) (room-after (x .points) (x .u) (x .places) (c .if1 .left))))  -- returns-2

@@ -1,10 +1,5 @@
 -- `terms::span_of` meets its contract. Assumes nothing.
-use mathlib.Core.Path.{_≡_, sym, _∙_}
-use mathlib.Core.Bool.{true, false, _&&_}
-use Prim.Native.Nat.{_+_, _≤_, _<_}
-use lib.Dec.{leb, ltb}
-use borrow.Author.Needs.{needs}
-use borrow.Author.Tests.{not-true, not-false, leb-true, ltb-true}
+use Rattle.lists.specs.Prelude.{_≡_, sym, _∙_, true, false, _&&_, _+_, _≤_, _<_, leb, ltb, needs, not-true, not-false, leb-true, ltb-true}
 use Rattle.lists.specs.Agreement.{both}
 use Rattle.terms.specs.Calls.{spanFits, spanOf}
 use Rattle.terms.proofs.span_of.Statement.{statement}
@@ -33,8 +28,7 @@ returns-2 c = rw (there (c .before .before), c .before .first-of .ensures, c .la
 
 pub span-of-spec : {M : Type 1} → statement M
 span-of-spec =
-    tie.close
-    (tie.spec
+    tie.close (tie.spec
     (λ c κs. search needs)  -- span-fits-requires
     returns
     (λ c κs. search needs)  -- first-of-requires

@@ -1,12 +1,5 @@
 -- `terms::term_of` meets its contract. Assumes nothing.
-use mathlib.Core.Path.{_≡_}
-use mathlib.Core.Bool.{true, false, _&&_}
-use Prim.Native.Nat.{ℕ, _*_, _≤_, _<_}
-use native.Mathlib.Omega.{arith}
-use lib.Dec.{leb, ltb}
-use denote.Ref.{now}
-use borrow.Author.Needs.{needs}
-use borrow.Author.Tests.{not-true, not-false, leb-true, ltb-true}
+use Rattle.lists.specs.Prelude.{_≡_, true, false, _&&_, ℕ, _*_, _≤_, _<_, arith, leb, ltb, now, needs, not-true, not-false, leb-true, ltb-true}
 use Rattle.lists.specs.Agreement.{both}
 use Rattle.two_time.specs.Places.{product-most}
 use Rattle.terms.specs.Kinds.{lanesBelow, lanesAbove}
@@ -58,16 +51,13 @@ returns-2 c =
 
 pub term-of-spec : {M : Type 1} → statement M
 term-of-spec =
-    tie.close
-    (tie.spec
+    tie.close (tie.spec
     returns
     (λ c κs. search needs)  -- places-before-requires
     (λ c. let z = sizes (c .before) in omega arith)  -- add-places-before
     (λ c κs. search needs)  -- places-before-requires-2
     (λ c κs. let z = sizes (c .before .before) in (z .0, z .1))  -- common-weight-requires
-    (λ c κs. search needs)  -- end-weight-of-requires
-    (λ c κs. search needs)  -- below-end-requires
-    (λ c κs. search needs)  -- above-start-requires
+    (λ c κs. search needs) (λ c κs. search needs) (λ c κs. search needs)  -- end-weight-of-requires, below-end-requires, above-start-requires
     (λ c. let x = start (passed c) .args in let h = cond-most (lanesBelow (x .sums)) (before c .places-before .result) in omega (arith, few c (c .before .below-end .result) (omega (arith, c .before .below-end .ensures, before c .places-before .ensures))))  -- mul-t23
     (λ c. omega (arith, few c (before c .places-before .result) (omega (arith, before c .places-before .ensures))))  -- mul-t24
     (λ c. omega (arith, few c (after c .places-before2 .result) (omega (arith, after c .places-before2 .ensures))))  -- mul-t25

@@ -1,8 +1,6 @@
 -- `transient::answer` is safe and ends: the text that it writes lies in the array. Assumes nothing.
-use mathlib.Core.Path.{sym}
-use lib.Seq.{length-take-le}
-use borrow.Author.Needs.{needs}
-use Rattle.run_file.specs.Running.{text-within}
+use Rattle.lists.specs.Prelude.{sym, length-take-le, needs}
+use Rattle.run_file.specs.FileRun.{text-within}
 use Rattle.transient.proofs.answer.Statement.{statement}
 use Rattle.transient.proofs.answer.Tie as tie
 

@@ -1,6 +1,5 @@
--- `transient_cases::main` ends: each argument is one turn. Assumes nothing.
-use Prim.Native.Nat.{_≤_, _-_}
-use borrow.Author.Needs.{needs}
+-- `transient_cases::main` ends: each argument is one step. Assumes nothing.
+use Rattle.lists.specs.Prelude.{_≤_, _-_, needs}
 use Rattle.transient_cases.proofs.main.Statement.{statement}
 use Rattle.transient_cases.proofs.main.Tie as tie
 

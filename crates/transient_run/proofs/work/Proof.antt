@@ -1,138 +1,103 @@
 -- `transient_run::work` meets its contract: each step's answer says whether what it makes is finite. Assumes nothing.
-use mathlib.Core.Path.{_≡_, sym, _∙_}
-use mathlib.Core.Bool.{true}
-use mathlib.Core.List.{List, [], _∷_}
-use lib.Ieee.{Float}
-use lib.ListN.{length}
-use denote.Ref.{now}
-use borrow.Author.Needs.{needs}
-use borrow.Author.Tests.{not-true, not-false}
+use Rattle.lists.specs.Prelude.{_≡_, sym, ap, ap₂, _∙_, Bool, true, false, cond, List, [], _∷_, arith, Float, now, needs, not-true, not-false}
 use Rattle.lists.specs.Agreement.{never}
-use Rattle.two_time.specs.declared.sums.Sums.the-variants.{Mixed}
-use Rattle.two_time.specs.Layout.{lengthOf}
-use Rattle.two_time.specs.Sums.{sumsFine}
-use Rattle.two_time.specs.SizeLines.{SizesPassed, sizes-passed, long-first}
-use Rattle.dyson.specs.Calls.{greenFine}
-use Rattle.dyson.specs.Outcome.{Left}
-use Rattle.transient_run.specs.Work.{workGreen, workKernel, workMixed, green-made, green-lost, mixed-made, mixed-lost, lesser-told}
+use Rattle.refusal.specs.Verdict.{zeroed}
+use Rattle.two_time.specs.declared.sums.Sums.the-variants.{LesserAdvanced, Lesser}
+use Rattle.two_time.specs.Sums.{sumsNumbers, sumsFinite}
+use Rattle.two_time.specs.Outcome.{sums-said}
+use Rattle.two_time.specs.SizeChecks.{SizesPassed}
+use Rattle.two_time.specs.Lengths.{lengths, none-asked, also-asked}
+use Rattle.dyson.specs.Calls.{Equation, equationOf, kernelOf, retardedOf, solvedFinite}
+use Rattle.dyson.specs.Checks.{solved-said}
+use Rattle.transient_run.specs.Calls.{Run, runOf}
+use Rattle.transient_run.specs.Finite.{retarded-fails, lesser-advanced-fails, lesser-says}
 use Rattle.transient_run.proofs.work.Statement.{statement}
 use Rattle.transient_run.proofs.work.Tie as tie
-
--- the slices have their length
-record Lent (s : tie.Start) : Type 0 where
-  sizes : SizesPassed (s .args .points) (s .args .orbitals) true (now (s .args .free) ∷ now (s .args .sigma) ∷ now (s .args .source) ∷ now (s .args .green) ∷ now (s .args .lesser) ∷ now (s .args .kernel) ∷ now (s .args .mixed) ∷ [])
-  free : length (now (s .args .free)) ≡ lengthOf (s .args .points) (s .args .orbitals)
-  sigma : length (now (s .args .sigma)) ≡ lengthOf (s .args .points) (s .args .orbitals)
-  source : length (now (s .args .source)) ≡ lengthOf (s .args .points) (s .args .orbitals)
-  green : length (now (s .args .green)) ≡ lengthOf (s .args .points) (s .args .orbitals)
-  lesser : length (now (s .args .lesser)) ≡ lengthOf (s .args .points) (s .args .orbitals)
-  kernel : length (now (s .args .kernel)) ≡ lengthOf (s .args .points) (s .args .orbitals)
-  mixed : length (now (s .args .mixed)) ≡ lengthOf (s .args .points) (s .args .orbitals)
-
-lent : (s : tie.Start) → Lent s
-lent s =
-    let x = s .args in
-    let count = lengthOf (x .points) (x .orbitals) in
-    let z = sizes-passed (x .points) (x .orbitals) true (now (x .free) ∷ now (x .sigma) ∷ now (x .source) ∷ now (x .green) ∷ now (x .lesser) ∷ now (x .kernel) ∷ now (x .mixed) ∷ []) (s .pre) in
-    let f = long-first count (now (x .free)) _ (z .long) in
-    let e = long-first count (now (x .sigma)) _ (f .1) in
-    let o = long-first count (now (x .source)) _ (e .1) in
-    let g = long-first count (now (x .green)) _ (o .1) in
-    let l = long-first count (now (x .lesser)) _ (g .1) in
-    let k = long-first count (now (x .kernel)) _ (l .1) in
-    let m = long-first count (now (x .mixed)) _ (k .1) in
-    record { sizes = z; free = f .0; sigma = e .0; source = o .0; green = g .0; lesser = l .0; kernel = k .0; mixed = m .0 }
 
 abbrev start : tie.After-solve-retarded → tie.Start
 start c = c .before .before .before .before .before .before .before .before .before .before .before
 
-abbrev solved : tie.After-is-finite → tie.After-solve-retarded
-solved c = c .before .before .before .before .before
+abbrev run : tie.Start → Float → Run
+run s tolerance =
+    let x = s .args in
+    runOf (x .points) (x .orbitals) tolerance (now (x .times)) (now (x .free)) (now (x .self-energy)) (now (x .lesser-self-energy)) (now (x .retarded)) (now (x .lesser)) (now (x .kernel)) (now (x .lesser-advanced))
 
-abbrev first : tie.After-weighted-sums → tie.Else1
-first c = c .before .before .before
+abbrev equation : tie.Start → Equation
+equation s = let x = s .args in equationOf (x .points) (x .orbitals) (now (x .times)) (now (x .free)) (now (x .self-energy))
 
-abbrev summed : tie.After-is-finite2 → tie.After-weighted-sums
-summed c = c .before .before .before
+-- K and G^R, by the first answer
+module _ (f : tie.After-is-finite) where
+  abbrev solved : tie.After-solve-retarded
+  solved = f .before .before .before .before .before
 
-abbrev second : tie.After-weighted-sums2 → tie.Else2
-second c = c .before .before .before .before
+  abbrev retarded : List Float
+  retarded = solved .solve-retarded .last .1 .1 .1 .1 .1 .0
 
--- what the first call left
-abbrev greenLeft : tie.After-solve-retarded → List Float
-greenLeft s = s .solve-retarded .last .1 .1 .1 .1 .1 .0
+  abbrev s : tie.Start
+  s = start solved
 
-abbrev kernelLeft : tie.After-solve-retarded → List Float
-kernelLeft s = s .solve-retarded .last .1 .1 .1 .1 .1 .1 .0
-
-left : (s : tie.After-solve-retarded) → let x = start s .args in
-    Left (x .points) (x .orbitals) (now (x .times)) (now (x .free)) (now (x .sigma)) (now (x .green)) (now (x .kernel)) (s .solve-retarded .result) (greenLeft s) (kernelLeft s)
-left s = let e = s .solve-retarded .ensures in record { answered = e .0; green = e .1; scratch = e .2 }
-
--- K and G^R are made
-greens : (c : tie.Else1) → let s = solved (c .before) in let x = start s .args in
-    (greenFine (x .points) (x .orbitals) (now (x .times)) (now (x .free)) (now (x .sigma)) ≡ true)
-    × (greenLeft s ≡ workGreen (x .points) (x .orbitals) (now (x .times)) (now (x .free)) (now (x .sigma)) (now (x .source)))
-    × (kernelLeft s ≡ workKernel (x .points) (x .orbitals) (now (x .times)) (now (x .free)) (now (x .sigma)) (now (x .source)))
-greens c =
-    let f = c .before in
-    let s = solved f in
-    let x = start s .args in
-    let l = lent (start s) in
-    green-made (x .points) (x .orbitals) (now (x .times)) (now (x .free)) (now (x .sigma)) (now (x .source)) (l .sizes) (l .free) (l .sigma) (l .source) (now (x .green)) (now (x .kernel)) (l .green) (l .kernel) _ _ _ (left s) (sym (f .is-finite .ensures) ∙ not-false _ (c .if1 .left))
-
-green-long : (s : tie.After-solve-retarded) → length (greenLeft s) ≡ lengthOf (start s .args .points) (start s .args .orbitals)
-green-long s = s .solve-retarded .kept .1 .1 .1 .1 .1 .0 ∙ lent (start s) .green
-
--- what the second left, and that X is made
-abbrev mixedLeft : tie.After-weighted-sums → List Float
-mixedLeft m = m .weighted-sums .last .1 .1 .1 .1 .1 .1 .0
-
-mixeds : (c : tie.Else2) → let m = summed (c .before) in let x = start (solved (first m .before)) .args in
-    (sumsFine Mixed (x .points) (x .orbitals) (now (x .times)) (now (x .source)) (workGreen (x .points) (x .orbitals) (now (x .times)) (now (x .free)) (now (x .sigma)) (now (x .source))) ≡ true)
-    × (mixedLeft m ≡ workMixed (x .points) (x .orbitals) (now (x .times)) (now (x .free)) (now (x .sigma)) (now (x .source)))
-mixeds c =
-    let f = c .before in
-    let m = summed f in
-    let s = solved (first m .before) in
-    let x = start s .args in
-    let l = lent (start s) in
-    let g = greens (first m) in
-    mixed-made (x .points) (x .orbitals) (now (x .times)) (now (x .free)) (now (x .sigma)) (now (x .source)) (l .sizes) (l .free) (l .sigma) (l .source) (g .0) _ (g .1) (green-long s) (now (x .mixed)) (l .mixed) _ _ (m .weighted-sums .ensures .0) (m .weighted-sums .ensures .1) (sym (f .is-finite2 .ensures) ∙ not-false _ (c .if2 .left))
-
-mixed-long : (m : tie.After-weighted-sums) → let x = start (solved (first m .before)) .args in length (mixedLeft m) ≡ lengthOf (x .points) (x .orbitals)
-mixed-long m = m .weighted-sums .kept .1 .1 .1 .1 .1 .1 .0 ∙ lent (start (solved (first m .before))) .mixed
+  retardeds : (ok : Bool) → f .is-finite .result ≡ ok → (solvedFinite (equation s) ≡ ok) × (retarded ≡ cond ok (retardedOf (equation s)) (zeroed (now (s .args .retarded))))
+      × (solved .solve-retarded .last .1 .1 .1 .1 .1 .1 .0 ≡ cond ok (kernelOf (equation s)) (zeroed (now (s .args .kernel))))
+  retardeds ok e =
+      let l = lengths (s .pre) in
+      solved-said (equation s) (now (s .args .retarded)) (now (s .args .kernel))
+      (also-asked (omega arith) (also-asked (omega arith) (also-asked (omega arith) (also-asked (omega arith) (none-asked (s .pre))))))
+      (solved .solve-retarded .ensures) ok (sym e ∙ f .is-finite .ensures)
 
 returns : tie.Need-returns
-returns c =
-    let f = c .before in
-    let s = solved f in
-    let x = start s .args in
-    let l = lent (start s) in
-    (sym (green-lost (x .points) (x .orbitals) (now (x .times)) (now (x .free)) (now (x .sigma)) (now (x .source)) (l .sizes) (l .free) (l .sigma) (l .source) (now (x .green)) (now (x .kernel)) (l .green) (l .kernel) _ _ _ (left s) (sym (f .is-finite .ensures) ∙ not-true _ (c .if1 .taken))), λ h. never h)
+returns c tolerance = let f = c .before in (retarded-fails (run (s f) tolerance) (retardeds f false (not-true _ (c .if1 .taken)) .0), λ h. never h)
+
+-- X, by the second
+module _ (f₂ : tie.After-is-finite2) where
+  abbrev summed : tie.After-weighted-sums
+  summed = f₂ .before .before .before
+
+  abbrev else1 : tie.Else1
+  else1 = summed .before .before .before
+
+  abbrev f : tie.After-is-finite
+  f = else1 .before
+
+  first : (solvedFinite (equation (s f)) ≡ true) × (retarded f ≡ retardedOf (equation (s f))) × (solved f .solve-retarded .last .1 .1 .1 .1 .1 .1 .0 ≡ kernelOf (equation (s f)))
+  first = retardeds f true (not-false _ (else1 .if1 .left))
+
+  abbrev lesserAdvanced : List Float
+  lesserAdvanced = summed .weighted-sums .last .1 .1 .1 .1 .1 .1 .0
+
+  lesser-advanced-made : (ok : Bool) → f₂ .is-finite2 .result ≡ ok → let x = s f .args in
+      (sumsFinite LesserAdvanced (x .points) (x .orbitals) (now (x .times)) (now (x .lesser-self-energy)) (retarded f) ≡ ok)
+      × (lesserAdvanced ≡ cond ok (sumsNumbers LesserAdvanced (x .points) (x .orbitals) (now (x .times)) (now (x .lesser-self-energy)) (retarded f)) (zeroed (now (x .lesser-advanced))))
+  lesser-advanced-made ok e =
+      let l = lengths (s f .pre) in
+      let long = solved f .solve-retarded .kept .1 .1 .1 .1 .1 .0 in
+      sums-said LesserAdvanced _ _ _ _ _ _ (also-asked (omega arith) (also-asked (omega arith) (also-asked (omega arith) (none-asked (s f .pre)))))
+      (summed .weighted-sums .ensures .0) (summed .weighted-sums .ensures .1) ok (sym e ∙ f₂ .is-finite2 .ensures)
 
 returns-2 : tie.Need-returns-2
-returns-2 c =
-    let f = c .before in
-    let m = summed f in
-    let s = solved (first m .before) in
-    let x = start s .args in
-    let l = lent (start s) in
-    let g = greens (first m) in
-    (sym (mixed-lost (x .points) (x .orbitals) (now (x .times)) (now (x .free)) (now (x .sigma)) (now (x .source)) (l .sizes) (l .free) (l .sigma) (l .source) (g .0) _ (g .1) (green-long s) (now (x .mixed)) (l .mixed) _ _ (m .weighted-sums .ensures .0) (m .weighted-sums .ensures .1) (sym (f .is-finite2 .ensures) ∙ not-true _ (c .if2 .taken))), λ h. never h)
+returns-2 c tolerance =
+    let f₂ = c .before in
+    (lesser-advanced-fails (run (s (f f₂)) tolerance) (first f₂ .0) (first f₂ .1) (lesser-advanced-made f₂ false (not-true _ (c .if2 .taken)) .0), λ h. never h)
 
+-- G^<, by the last
 returns-3 : tie.Need-returns-3
-returns-3 c =
+returns-3 c tolerance =
     let w = c .before .before .before in
-    let e = second w in
-    let m = summed (e .before) in
-    let s = solved (first m .before) in
-    let x = start s .args in
-    let l = lent (start s) in
-    let g = greens (first m) in
-    let k = mixeds e in
-    let o = lesser-told (x .points) (x .orbitals) (now (x .times)) (now (x .free)) (now (x .sigma)) (now (x .source)) (l .sizes) (l .free) (l .sigma) (l .source) (g .0) _ (g .1) (green-long s) (k .0) _ (k .1) (mixed-long m) (now (x .lesser)) (l .lesser) _ _ (w .weighted-sums2 .ensures .0) (w .weighted-sums2 .ensures .1) _ (c .is-finite3 .ensures) in
-    (o .0, λ h. (g .1, o .1 h, g .2, k .1))
+    let e = w .before .before .before .before in
+    let f₂ = e .before in
+    let t = s (f f₂) in
+    let x = t .args in
+    let l = lengths (t .pre) in
+    let retarded-long = solved (f f₂) .solve-retarded .kept .1 .1 .1 .1 .1 .0 in
+    let lesser-advanced-long = summed f₂ .weighted-sums .kept .1 .1 .1 .1 .1 .1 .0 in
+    let g = first f₂ in
+    let m = lesser-advanced-made f₂ true (not-false _ (e .if2 .left)) in
+    let made = m .1 ∙ ap (sumsNumbers LesserAdvanced (x .points) (x .orbitals) (now (x .times)) (now (x .lesser-self-energy))) (g .1) in
+    let o = sums-said Lesser (x .points) (x .orbitals) (now (x .times)) (retarded (f f₂)) (lesserAdvanced f₂) (now (x .lesser))
+    (also-asked (omega arith) (also-asked (lesser-advanced-long ∙ l .1 .1 .1 .1 .1 .1 .0) (also-asked (omega arith) (none-asked (t .pre)))))
+    (w .weighted-sums2 .ensures .0) (w .weighted-sums2 .ensures .1) _ (c .is-finite3 .ensures) in (
+      lesser-says (run t tolerance) (g .0) (g .1) (m .0) made (o .0),
+      λ h. (g .1, (rw h at (o .1)) ∙ ap₂ (sumsNumbers Lesser (x .points) (x .orbitals) (now (x .times))) (g .1) made, g .2, made),
+    )
 
 pub work-spec : {M : Type 1} → statement M
 work-spec =

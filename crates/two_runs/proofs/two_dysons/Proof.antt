@@ -1,5 +1,5 @@
 -- `two_runs::two_dysons`: demand 3 of the contracts of two Dyson calls. Assumes nothing.
-use borrow.Author.Needs.{needs}
+use Rattle.lists.specs.Prelude.{needs}
 use Rattle.two_runs.specs.Demand.{one-solved, dyson-blind}
 use Rattle.two_runs.proofs.two_dysons.Statement.{statement}
 use Rattle.two_runs.proofs.two_dysons.Tie as tie

@@ -1,5 +1,5 @@
 -- `two_runs::two_runs`: demand 3 of the contracts of two runs and of what is asked of them. Assumes nothing.
-use borrow.Author.Needs.{needs}
+use Rattle.lists.specs.Prelude.{needs}
 use Rattle.two_runs.specs.Demand.{blind}
 use Rattle.two_runs.proofs.two_runs.Statement.{statement}
 use Rattle.two_runs.proofs.two_runs.Tie as tie

@@ -1,5 +1,5 @@
 -- `complex::Complex::conj` meets its contract, which computes once `conj` is opened. Assumes nothing.
-use mathlib.Core.Path.{refl}
+use Rattle.lists.specs.Prelude.{refl}
 use Rattle.complex.specs.Arithmetic.{conj}
 use Rattle.complex.proofs.Complex.conj.Statement.{statement}
 use Rattle.complex.proofs.Complex.conj.Tie as tie

@@ -1,5 +1,5 @@
 -- `complex::Complex::is_finite` meets its contract: both parts are tested. Assumes nothing.
-use borrow.Author.Needs.{needs}
+use Rattle.lists.specs.Prelude.{needs}
 use Rattle.complex.specs.Arithmetic.{cfinite}
 use Rattle.complex.proofs.Complex.is_finite.Statement.{statement}
 use Rattle.complex.proofs.Complex.is_finite.Tie as tie

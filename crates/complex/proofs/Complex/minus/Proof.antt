@@ -1,5 +1,5 @@
 -- `complex::Complex::minus` meets its contract, which computes once `csub` is opened. Assumes nothing.
-use mathlib.Core.Path.{refl}
+use Rattle.lists.specs.Prelude.{refl}
 use Rattle.complex.specs.Arithmetic.{csub}
 use Rattle.complex.proofs.Complex.minus.Statement.{statement}
 use Rattle.complex.proofs.Complex.minus.Tie as tie

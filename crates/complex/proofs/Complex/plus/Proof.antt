@@ -1,5 +1,5 @@
 -- `complex::Complex::plus` meets its contract, which computes once `cadd` is opened. Assumes nothing.
-use mathlib.Core.Path.{refl}
+use Rattle.lists.specs.Prelude.{refl}
 use Rattle.complex.specs.Arithmetic.{cadd}
 use Rattle.complex.proofs.Complex.plus.Statement.{statement}
 use Rattle.complex.proofs.Complex.plus.Tie as tie

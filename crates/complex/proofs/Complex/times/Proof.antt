@@ -1,5 +1,5 @@
 -- `complex::Complex::times` meets its contract, which computes once `cmul` is opened. Assumes nothing.
-use mathlib.Core.Path.{refl}
+use Rattle.lists.specs.Prelude.{refl}
 use Rattle.complex.specs.Arithmetic.{cmul}
 use Rattle.complex.proofs.Complex.times.Statement.{statement}
 use Rattle.complex.proofs.Complex.times.Tie as tie

@@ -1,34 +1,27 @@
--- `dyson::forward::forward` meets its contract: after t turns the first t rows of G are finite and written. Assumes nothing.
-use mathlib.Core.Path.{_≡_, refl, sym, ap, ap₂, _∙_}
-use mathlib.Core.Bool.{true}
-use mathlib.Core.List.{List, [], _∷_}
-use Prim.Native.Nat.{ℕ, _-_, _*_, _≤_, _<_}
-use native.Mathlib.Nat.{le-antisymm}
-use native.Mathlib.Omega.{arith}
-use lib.Dec.{ltb}
-use lib.ListN.{length}
-use lib.Ieee.{Float}
-use denote.Ref.{now}
-use borrow.Author.Needs.{needs}
-use borrow.Author.Tests.{not-true, not-false, lt-ltb}
-use borrow.Rule.Slice.PartMut.{putMid}
+-- `dyson::forward::forward` meets its contract: after t steps the first t rows of G are finite and written. Assumes nothing.
+use Rattle.lists.specs.Prelude.{_≡_, refl, sym, ap, ap₂, _∙_, true, false, List, [], _∷_, ℕ, _-_, _*_, _≤_, _<_, le-antisymm, arith, ltb, length, Float, now, needs}
+use Rattle.lists.specs.Prelude.{not-true, not-false, lt-ltb, putMid}
 use Rattle.lists.specs.Indexed.{allBelow, join}
 use Rattle.lists.specs.Agreement.{never}
-use Rattle.lists.specs.Turns.{all-more, join-more}
+use Rattle.lists.specs.Steps.{all-more, join-more}
 use Rattle.lists.specs.Filling.{over, over-none, over-part}
 use Rattle.refusal.specs.declared.Verdict.the-variants.{Pass}
-use Rattle.two_time.specs.Calls.{sizeLines}
-use Rattle.two_time.specs.Layout.{readAs, lengthOf}
-use Rattle.two_time.specs.Outcome.{left-finite, left-overflow}
-use Rattle.two_time.specs.SizeLines.{SizesPassed, sizes-passed, sizes-pass, long-first, long-also, long-none}
+use Rattle.two_time.specs.Calls.{sizeChecks}
+use Rattle.two_time.specs.Layout.{readAs}
+use Rattle.two_time.specs.Outcome.{by-flag}
+use Rattle.two_time.specs.SizeChecks.{SizesPassed, sizes-pass}
+use Rattle.two_time.specs.Lengths.{lengths, none-asked, also-asked}
 use Rattle.sums.specs.Forward.{forwardRow}
-use Rattle.dyson.specs.Rows.{green, rowOf, rowFine, length-row, length-rows, rows-read, row-fine-is, row-is, all-rows, all-fine, one-lost}
+use Rattle.dyson.specs.Rows.{Substitution, retarded, rowOf, rowFinite, length-row, length-rows, rows-read, row-finite-is, row-is, all-rows, one-lost}
 use Rattle.dyson.proofs.forward.forward.Statement.{statement}
 use Rattle.dyson.proofs.forward.forward.Tie as tie
 
+abbrev given : ℕ → ℕ → List Float → List Float → List Float → Substitution
+given points n times free kernel = record { points = points; orbitals = n; times = times; free = free; kernel = kernel }
+
 abbrev Inv-loop : tie.InvT-loop
 Inv-loop times free kernel points n out₀ t₀ out t =
-    (t ≤ points) × (length out ≡ length out₀) × (allBelow t (rowFine points n times free kernel) ≡ true) × (out ≡ over out₀ (join t (rowOf points n times free kernel)))
+    (t ≤ points) × (length out ≡ length out₀) × (allBelow t (rowFinite (given points n times free kernel)) ≡ true) × (out ≡ over out₀ (join t (rowOf (given points n times free kernel))))
 
 abbrev μ-loop : tie.MeasureT-loop
 μ-loop times free kernel points n out₀ t₀ out t = points - t
@@ -36,34 +29,27 @@ abbrev μ-loop : tie.MeasureT-loop
 abbrev start : tie.At-loop Inv-loop μ-loop → tie.Start Inv-loop μ-loop
 start l = l .before .before .before .before .before
 
-passed : (s : tie.Start Inv-loop μ-loop) → let x = s .args in SizesPassed (x .points) (x .orbitals) true (now (x .free) ∷ now (x .kernel) ∷ now (x .green) ∷ [])
-passed s = sizes-passed _ _ _ _ (s .pre)
+abbrev of : tie.At-loop Inv-loop μ-loop → Substitution
+of l = let x = start l .args in given (x .points) (x .orbitals) (now (x .times)) (now (x .free)) (now (x .kernel))
 
-out-long : (s : tie.Start Inv-loop μ-loop) → length (now (s .args .green)) ≡ lengthOf (s .args .points) (s .args .orbitals)
-out-long s = long-first _ _ _ (long-first _ _ _ (long-first _ _ _ (passed s .long) .1) .1) .0
-
--- lines 1 to 3 of this turn
-lines : (t : tie.In-loop Inv-loop μ-loop) → let l = t .before in let x = start l .args in
-    sizeLines (x .points) (x .orbitals) (ltb (l .loop .t) (x .points)) (now (x .free) ∷ now (x .kernel) ∷ l .loop .green ∷ []) ≡ Pass
-lines t =
+-- checks 1 to 3 of this step
+checks : (t : tie.In-loop Inv-loop μ-loop) → let l = t .before in let x = start l .args in
+    sizeChecks (x .points) (x .orbitals) (ltb (l .loop .t) (x .points)) (now (x .free) ∷ now (x .kernel) ∷ l .loop .retarded ∷ []) ≡ Pass
+checks t =
     let l = t .before in
-    let s = start l in
-    let x = s .args in
-    let z = passed s in
-    let count = lengthOf (x .points) (x .orbitals) in
-    let f = long-first _ _ _ (z .long) in
-    let k = long-first _ _ _ (f .1) in
-    rw (lt-ltb (l .loop .t) (x .points) (t .loop-test .taken))
-    (sizes-pass _ z (long-also count (now (x .free)) _ (f .0) (long-also count (now (x .kernel)) _ (k .0) (long-also count (l .loop .green) _ (l .loop .inv .1 ∙ out-long s) (long-none count)))))
+    let long = lengths (start l .pre) in
+    let same = l .loop .inv .1 in
+    let x = start l .args in
+    let w : SizesPassed (x .points) (x .orbitals) true (now (x .free) ∷ now (x .kernel) ∷ l .loop .retarded ∷ []) =
+    also-asked (omega arith) (also-asked (omega arith) (also-asked (omega arith) (none-asked (start l .pre)))) in
+    rw (lt-ltb (l .loop .t) (x .points) (t .loop-test .taken)) (sizes-pass _ w (w .long))
 
 -- the rows before are read as G's
-rows : (l : tie.At-loop Inv-loop μ-loop) → let x = start l .args in
-    (s u c e : ℕ) → s < l .loop .t → u < x .points → c < x .orbitals → e < x .orbitals
-    → readAs (x .points) (x .orbitals) (l .loop .green) s u c e ≡ green (x .points) (x .orbitals) (now (x .times)) (now (x .free)) (now (x .kernel)) s u c e
+rows : (l : tie.At-loop Inv-loop μ-loop) (s u c e : ℕ) → s < l .loop .t → u < of l .points → c < of l .orbitals → e < of l .orbitals
+    → readAs (of l .points) (of l .orbitals) (l .loop .retarded) s u c e ≡ retarded (of l) s u c e
 rows l s u c e hs hu hc he =
-    let x = start l .args in
-    ap (λ (xs : List Float). readAs (x .points) (x .orbitals) xs s u c e) (l .loop .inv .3)
-    ∙ rows-read (x .points) (x .orbitals) (now (x .times)) (now (x .free)) (now (x .kernel)) (now (x .green)) (l .loop .t) (l .loop .inv .0) s u c e hs hu hc he
+    ap (λ (xs : List Float). readAs (of l .points) (of l .orbitals) xs s u c e) (l .loop .inv .3)
+    ∙ rows-read (of l) (now (start l .args .retarded)) (l .loop .t) (l .loop .inv .0) s u c e hs hu hc he
 
 returns : tie.Need-returns Inv-loop μ-loop
 unfolding forwardRow
@@ -72,12 +58,8 @@ returns c =
     let w = f .before .before .before in
     let t = w .before .before in
     let l = t .before in
-    let x = start l .args in
-    let lost = left-overflow _ _ (lines t) _ (w .forward-row .ensures .0) (sym (f .is-finite .ensures) ∙ not-true _ (c .if1 .taken)) .0 in (
-      sym (one-lost (x .points) (x .orbitals) (now (x .times)) (now (x .free)) (now (x .kernel)) (l .loop .t) (t .loop-test .taken)
-          (sym (row-fine-is (x .points) (x .orbitals) (now (x .times)) (now (x .free)) (now (x .kernel)) (l .loop .t) (l .loop .green) (rows l)) ∙ lost)),
-      λ h. never h,
-    )
+    let lost = by-flag _ _ (checks t) _ (w .forward-row .ensures .0) false (sym (not-true _ (c .if1 .taken)) ∙ f .is-finite .ensures) .0 in
+    (one-lost (of l) (l .loop .t) (t .loop-test .taken) (sym (row-finite-is (of l) (l .loop .t) (l .loop .retarded) (rows l)) ∙ lost), λ h. never h)
 
 loop-again : tie.Need-loop-again Inv-loop μ-loop
 unfolding forwardRow
@@ -86,35 +68,28 @@ loop-again c =
     let w = f .before .before .before in
     let k = w .before .before in
     let l = k .before in
-    let s = start l in
-    let x = s .args in
-    let n = x .orbitals in
     let t = l .loop .t in
     let i = l .loop .inv in
-    let v = x .points * (2 * (n * n)) in
-    let g = rowOf (x .points) n (now (x .times)) (now (x .free)) (now (x .kernel)) in
-    let made = left-finite _ _ (lines k) _ (w .forward-row .ensures .0) (sym (f .is-finite .ensures) ∙ not-false _ (c .if1 .left)) in
-    let fine = sym (row-fine-is (x .points) n (now (x .times)) (now (x .free)) (now (x .kernel)) t (l .loop .green) (rows l)) ∙ made .0 in
-    let row = row-is (x .points) n (now (x .times)) (now (x .free)) (now (x .kernel)) t (l .loop .green) (rows l) in (
+    let v = of l .points * (2 * (of l .orbitals * of l .orbitals)) in
+    let g = rowOf (of l) in
+    let out = now (start l .args .retarded) in
+    let made = by-flag _ _ (checks k) _ (w .forward-row .ensures .0) true (sym (not-false _ (c .if1 .left)) ∙ f .is-finite .ensures) in (
       omega (arith, k .loop-test .taken),
       w .forward-row .kept .1 .1 .1 .1 .1 .1 .0 ∙ i .1,
-      rw (all-more, i .2) fine,
-      made .1 _ _ _ (w .forward-row .ensures .1)
-          ∙ ap₂ (λ (xs ys : List Float). putMid (t * v) v xs ys) (i .3) row
-          ∙ over-part (now (x .green)) (join t g) (g t) (t * v) v (length-rows (x .points) n (now (x .times)) (now (x .free)) (now (x .kernel)) t) (length-row (x .points) n (now (x .times)) (now (x .free)) (now (x .kernel)) t)
-          ∙ ap (over (now (x .green))) (sym (join-more t g)),
+      rw (all-more, i .2) (sym (row-finite-is (of l) t (l .loop .retarded) (rows l)) ∙ made .0),
+      w .forward-row .ensures .1 ∙ made .1 _ _
+          ∙ ap₂ (λ (xs ys : List Float). putMid (t * v) v xs ys) (i .3) (row-is (of l) t (l .loop .retarded) (rows l))
+          ∙ over-part out (join t g) (g t) (t * v) v (length-rows (of l) t) (length-row (of l) t)
+          ∙ ap (over out) (sym (join-more t g)),
     )
 
 returns-2 : tie.Need-returns-2 Inv-loop μ-loop
 returns-2 c =
     let l = c .before in
     let i = l .loop .inv in
-    let s = start l in
-    let x = s .args in
-    let e : l .loop .t ≡ x .points = le-antisymm (i .0) (c .loop-test .left) in (
-      sym (all-fine (x .points) (x .orbitals) (now (x .times)) (now (x .free)) (now (x .kernel)) (l .loop .t) e (i .2)),
-      λ h. all-rows (x .points) (x .orbitals) (now (x .times)) (now (x .free)) (now (x .kernel)) (now (x .green)) _ (l .loop .t) e (out-long s) (i .3),
-    )
+    let long = lengths (start l .pre) in
+    let all = all-rows (of l) (now (start l .args .retarded)) (le-antisymm (i .0) (c .loop-test .left)) (long .1 .1 .0) (i .3) (i .2) in
+    (all .0, λ h. all .1)
 
 pub forward-spec : {M : Type 1} → statement M
 unfolding allBelow join

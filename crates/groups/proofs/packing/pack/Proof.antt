@@ -1,14 +1,5 @@
--- `groups::packing::pack` meets its contract: before turn k the rows before k are written. Assumes nothing.
-use mathlib.Core.Path.{_≡_, sym, subst, _∙_}
-use mathlib.Core.Logic.{⊎-elim}
-use Prim.Native.Nat.{ℕ, _+_, _-_, _*_, _≤_, _<_}
-use native.Mathlib.Nat.{eq-or-lt-of-le}
-use native.Mathlib.Omega.{arith}
-use lib.Arith.{digits-lt}
-use lib.ListN.{length}
-use denote.Ref.{now}
-use borrow.Rule.Slice.PartMut.{putMid}
-use borrow.Author.Needs.{needs}
+-- `groups::packing::pack` meets its contract: before step k the rows before k are written. Assumes nothing.
+use Rattle.lists.specs.Prelude.{_≡_, sym, subst, _∙_, ⊎-elim, ℕ, _+_, _-_, _*_, _≤_, _<_, eq-or-lt-of-le, arith, digits-lt, length, now, putMid, needs}
 use Rattle.two_time.specs.Layout.{readAs}
 use Rattle.terms.specs.Kinds.{rightBy}
 use Rattle.lanes.specs.Lanes.{laneAt}
@@ -29,15 +20,8 @@ start l = l .before .before .before
 
 loop-again : tie.Need-loop-again Inv-loop μ-loop
 loop-again c =
-    let w = c .before .before in
-    let t = w .before .before in
-    let l = t .before in
-    let s = start l in
-    let x = s .args in
-    let i = l .loop .inv in
-    let k = l .loop .k in
-    let old = l .loop .rows in
-    let ys = w .pack-row .last .1 .1 .1 .1 .1 .1 .1 .1 .0 in
+    let w = c .before .before in let t = w .before .before in let l = t .before in let s = start l in let x = s .args in let i = l .loop .inv in
+    let k = l .loop .k in let old = l .loop .rows in let ys = w .pack-row .last .1 .1 .1 .1 .1 .1 .1 .1 .0 in
     let few : k < 16 = omega (arith, t .loop-test .taken, s .pre .0 .3) in
     let long = w .pack-row .ensures .0 in (
       omega (arith, t .loop-test .taken),
@@ -53,20 +37,13 @@ loop-again c =
 
 pub pack-spec : {M : Type 1} → statement M
 pack-spec =
-    tie.close
-    (tie.spec
-    Inv-loop
-    μ-loop
+    tie.close (tie.spec Inv-loop μ-loop
     (λ c. (omega arith, c .before .before .pre .1 .1, λ m p b h. absurd (omega arith)))  -- loop-holds
-    (λ c. search needs)  -- mul-at
-    (λ c. search needs)  -- add-end
-    (λ c. search needs)  -- mul-pack-row
-    (λ c. search needs)  -- sub-pack-row
+    (λ c. search needs) (λ c. search needs) (λ c. search needs) (λ c. search needs)  -- mul-at, add-end, mul-pack-row, sub-pack-row
     (λ c. search needs)  -- part-pack-row-start
     (λ c. let s = start (c .before) in omega (arith, c .loop-test .taken, s .pre .0 .3, c .before .loop .inv .1))  -- part-pack-row-end
     (λ c κs. let t = c .before in let l = t .before in let s = start l in let h = s .pre .0 in ((h .0, h .1, h .2, t .loop-test .taken, h .3, h .4), (s .pre .1 .0, part-length (l .loop .rows) (l .loop .k) _ (width (l .loop .k)) (l .loop .inv .1) (omega (arith, t .loop-test .taken, h .3)))))  -- pack-row-requires
-    (λ c. search needs)  -- add-k
-    (λ c. search needs)  -- loop-less
+    (λ c. search needs) (λ c. search needs)  -- add-k, loop-less
     loop-again
     (λ c. c .before .loop .inv .1 ∙ sym (start (c .before) .pre .1 .1))  -- same-length
     (λ c. let i = c .before .loop .inv in (i .1, λ k p b h. i .2 k p b (omega (arith, h, c .loop-test .left)))))  -- returns

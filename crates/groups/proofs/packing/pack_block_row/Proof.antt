@@ -1,10 +1,5 @@
--- `groups::packing::pack_block_row` meets its contract: before turn b the first b numbers are written. Assumes nothing.
-use mathlib.Core.Path.{_≡_, refl, sym, ap, _∙_}
-use Prim.Native.Nat.{ℕ, _+_, _-_, _*_, _≤_, _<_}
-use native.Mathlib.Omega.{arith}
-use lib.ListN.{length, length-set}
-use denote.Ref.{now}
-use borrow.Author.Needs.{needs}
+-- `groups::packing::pack_block_row` meets its contract: before step b the first b numbers are written. Assumes nothing.
+use Rattle.lists.specs.Prelude.{_≡_, refl, sym, ap, _∙_, ℕ, _+_, _-_, _*_, _≤_, _<_, arith, length, length-set, now, needs}
 use Rattle.complex.specs.Numbers.{entryAt}
 use Rattle.groups.specs.Right.{rightBeside, rightNumber}
 use Rattle.groups.specs.Packed.{Packed, packed-none, packed-next, packed-end}
@@ -20,7 +15,7 @@ abbrev μ-loop : tie.MeasureT-loop
 abbrev start : tie.At-loop Inv-loop μ-loop → tie.Start Inv-loop μ-loop
 start l = l .before .before .before
 
--- the place of this turn
+-- the place of this step
 inside : (c : tie.After-right-beside Inv-loop μ-loop) → let l = c .before .before in let x = start l .args in
     x .j + l .loop .b * c .right-beside .result + 1 < length (now (x .right))
 inside c =
@@ -33,10 +28,7 @@ lane c = let t = c .before .before in (omega (arith, t .loop-test .taken, start 
 
 loop-again : tie.Need-loop-again Inv-loop μ-loop
 loop-again c =
-    let d = c .before in
-    let t = d .before in
-    let l = t .before in
-    let x = start l .args in
+    let d = c .before in let t = d .before in let l = t .before in let x = start l .args in
     let b = l .loop .b in (
       omega (arith, t .loop-test .taken),
       packed-next (x .from) (λ m. rightNumber (x .factor) (entryAt (now (x .right)) (x .j + m * rightBeside (x .factor) (x .orbitals)))) b (now (x .row)) (l .loop .row) _ (c .right-number .result) (l .loop .inv .1) (lane c .0)
@@ -46,23 +38,15 @@ loop-again c =
 
 pub pack-block-row-spec : {M : Type 1} → statement M
 pack-block-row-spec =
-    tie.close
-    (tie.spec
-    Inv-loop
-    μ-loop
+    tie.close (tie.spec Inv-loop μ-loop
     (λ c. (omega arith, packed-none _ _ _ (c .before .before .pre .0 .1)))  -- loop-holds
     (λ c κs. search needs)  -- right-beside-requires
-    (λ c. let h = inside c in omega arith)  -- mul-right-number
-    (λ c. let h = inside c in omega arith)  -- add-right-number
+    (λ c. let h = inside c in omega arith) (λ c. let h = inside c in omega arith)  -- mul-right-number, add-right-number
     (λ c κs. inside c)  -- right-number-requires
-    (λ c. let h = lane c in omega arith)  -- add-c
-    (λ c. let h = lane c in omega arith)  -- mul-row
-    (λ c. let h = lane c in omega arith)  -- slice-write-row
-    (λ c. let h = lane c in omega arith)  -- add-row
-    (λ c. let h = lane c in omega arith)  -- mul-row-2
+    (λ c. let h = lane c in omega arith) (λ c. let h = lane c in omega arith) (λ c. let h = lane c in omega arith)  -- add-c, mul-row, slice-write-row
+    (λ c. let h = lane c in omega arith) (λ c. let h = lane c in omega arith)  -- add-row, mul-row-2
     (λ c. let h = lane c in simp length-set (omega arith))  -- slice-write-row-2
-    (λ c. search needs)  -- add-b
-    (λ c. search needs)  -- loop-less
+    (λ c. search needs) (λ c. search needs)  -- add-b, loop-less
     loop-again
     (λ c. c .before .loop .inv .1 .long ∙ sym (start (c .before) .pre .0 .1))  -- same-length
     (λ c. let i = c .before .loop .inv in packed-end _ _ _ _ _ _ (i .0) (c .loop-test .left) (i .1)))  -- returns

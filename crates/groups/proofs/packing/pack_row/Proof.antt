@@ -1,17 +1,9 @@
--- `groups::packing::pack_row` meets its contract: before turn p the lanes of the places before p are written. Assumes nothing.
-use mathlib.Core.Path.{_≡_, sym, subst, _∙_}
-use mathlib.Core.Logic.{⊎-elim}
-use Prim.Native.Nat.{ℕ, _+_, _-_, _*_, _≤_, _<_}
-use native.Mathlib.Nat.{eq-or-lt-of-le}
-use native.Mathlib.Omega.{arith}
-use lib.Arith.{digits-lt}
-use lib.ListN.{length}
-use denote.Ref.{now}
-use borrow.Author.Needs.{needs}
+-- `groups::packing::pack_row` meets its contract: before step p the lanes of the places before p are written. Assumes nothing.
+use Rattle.lists.specs.Prelude.{_≡_, sym, subst, _∙_, ⊎-elim, ℕ, _+_, _-_, _*_, _≤_, _<_, eq-or-lt-of-le, arith, digits-lt, length, now, needs}
 use Rattle.two_time.specs.Layout.{readAs}
 use Rattle.terms.specs.Kinds.{rightBy}
 use Rattle.two_time.specs.Places.{Placed}
-use Rattle.two_time.specs.Filling.{part-within}
+use Rattle.two_time.specs.Parts.{part-within}
 use Rattle.rows.specs.Numbers.{numberAt}
 use Rattle.groups.specs.Right.{row-inside, row-read}
 use Rattle.groups.proofs.packing.pack_row.Statement.{statement}
@@ -27,7 +19,7 @@ abbrev μ-loop : tie.MeasureT-loop
 abbrev start : tie.At-loop Inv-loop μ-loop → tie.Start Inv-loop μ-loop
 start l = l .before .before .before
 
--- this turn's place
+-- this step's place
 placed : (t : tie.In-loop Inv-loop μ-loop) → let x = start (t .before) .args in Placed (x .stride) (x .orbitals) (x .s) (x .u + t .before .loop .p) (x .k) 0
 placed t =
     let h = start (t .before) .pre .0 in
@@ -39,23 +31,15 @@ fits t = let s = start (t .before) in omega (arith, part-within (s .args .orbita
 
 pack-block-row-requires : tie.Need-pack-block-row-requires Inv-loop μ-loop
 pack-block-row-requires c κs =
-    let j = c .before in
-    let t = j .before in
+    let j = c .before in let t = j .before in
     let s = start (t .before) in
     let x = s .args in
     ((fits t, t .before .loop .inv .1), λ b h. omega (arith, row-inside (x .factor) (placed t) (x .k) (j .right-place .result) (s .pre .0 .3) (j .right-place .ensures) b h, s .pre .1 .0))
 
 loop-again : tie.Need-loop-again Inv-loop μ-loop
 loop-again c =
-    let w = c .before .before in
-    let j = w .before .before in
-    let t = j .before in
-    let l = t .before in
-    let s = start l in
-    let x = s .args in
-    let i = l .loop .inv in
-    let p = l .loop .p in
-    let m = w .pack-block-row .ensures in
+    let w = c .before .before in let j = w .before .before in let t = j .before in let l = t .before in let s = start l in let x = s .args in
+    let i = l .loop .inv in let p = l .loop .p in let m = w .pack-block-row .ensures in
     let f = fits t in (
       omega (arith, t .loop-test .taken),
       m .long,
@@ -69,17 +53,13 @@ loop-again c =
 
 pub pack-row-spec : {M : Type 1} → statement M
 pack-row-spec =
-    tie.close
-    (tie.spec
-    Inv-loop
-    μ-loop
+    tie.close (tie.spec Inv-loop μ-loop
     (λ c. (omega arith, c .before .before .pre .1 .1, λ q b h. absurd (omega arith)))  -- loop-holds
     (λ c. let h = start (c .before) .pre .0 in omega (arith, c .loop-test .taken, h .1, h .2))  -- add-right-place
     (λ c κs. placed c)  -- right-place-requires
     (λ c. let f = fits (c .before) in omega arith)  -- mul-pack-block-row
     pack-block-row-requires
-    (λ c. search needs)  -- add-p
-    (λ c. search needs)  -- loop-less
+    (λ c. search needs) (λ c. search needs)  -- add-p, loop-less
     loop-again
     (λ c. c .before .loop .inv .1 ∙ sym (start (c .before) .pre .1 .1))  -- same-length
     (λ c. let i = c .before .loop .inv in (i .1, λ p b h k. i .2 p b (omega (arith, h, c .loop-test .left)) k)))  -- returns

@@ -1,5 +1,5 @@
 -- `groups::packing::right_beside` meets its contract. Assumes nothing.
-use borrow.Author.Needs.{needs}
+use Rattle.lists.specs.Prelude.{needs}
 use Rattle.groups.specs.Right.{rightBeside}
 use Rattle.groups.proofs.packing.right_beside.Statement.{statement}
 use Rattle.groups.proofs.packing.right_beside.Tie as tie
@@ -7,10 +7,7 @@ use Rattle.groups.proofs.packing.right_beside.Tie as tie
 pub right-beside-spec : {M : Type 1} → statement M
 unfolding rightBeside
 right-beside-spec =
-    tie.close
-    (tie.spec
-    (λ c. search needs)  -- enum-told
-    (λ c. search needs)  -- enum-told-2
-    (λ c. search needs)  -- mul-result
+    tie.close (tie.spec
+    (λ c. search needs) (λ c. search needs) (λ c. search needs)  -- enum-told, enum-told-2, mul-result
     (λ c. rw (c .enum-told .given .1))  -- returns
     (λ c. rw (c .enum-told2 .given .1)))  -- returns-2

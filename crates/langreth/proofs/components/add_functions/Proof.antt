@@ -1,11 +1,6 @@
--- `langreth::components::add_functions` meets its contract: after i turns the first i sums are tested and written. Assumes nothing.
-use mathlib.Core.Path.{_≡_, refl}
-use Prim.Native.Nat.{_≤_, _-_}
-use native.Mathlib.Omega.{arith}
-use lib.ListN.{length, length-set}
-use denote.Ref.{now}
-use borrow.Author.Needs.{needs}
-use Rattle.langreth.specs.Adding.{Summed, summed-none, summed-next, summed-end}
+-- `langreth::components::add_functions` meets its contract: after i steps the first i sums are tested and written. Assumes nothing.
+use Rattle.lists.specs.Prelude.{_≡_, refl, _≤_, _-_, arith, length, length-set, now, needs}
+use Rattle.langreth.specs.Added.{Summed, summed-none, summed-next, summed-end}
 use Rattle.langreth.proofs.components.add_functions.Statement.{statement}
 use Rattle.langreth.proofs.components.add_functions.Tie as tie
 

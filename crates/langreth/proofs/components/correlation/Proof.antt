@@ -1,12 +1,8 @@
 -- `langreth::components::correlation` meets its contract: each step's answer says whether what it makes is finite. Assumes nothing.
-use mathlib.Core.Path.{sym, _∙_}
-use native.Mathlib.Omega.{arith}
-use denote.Ref.{now}
-use borrow.Author.Needs.{needs}
-use borrow.Author.Tests.{not-true, not-false}
+use Rattle.lists.specs.Prelude.{sym, _∙_, arith, needs, not-true, not-false}
 use Rattle.lists.specs.Agreement.{never}
-use Rattle.langreth.specs.Work.{first-failed, second-failed, both-added}
-use Rattle.langreth.specs.Lengths.{lengths, none-asked, also-asked}
+use Rattle.langreth.specs.Finite.{first-fails, second-fails, both-added}
+use Rattle.two_time.specs.Lengths.{lengths, none-asked, also-asked}
 use Rattle.langreth.proofs.components.correlation.Statement.{statement}
 use Rattle.langreth.proofs.components.correlation.Tie as tie
 
@@ -40,18 +36,10 @@ add-functions-requires c κs =
     omega arith
 
 returns : tie.Need-returns
-returns c =
-    let s = c .before .before .before in
-    let x = start (s .before) .args in
-    let failed = first-failed (x .points) (x .orbitals) (now (x .times)) (now (x .left-retarded)) (now (x .right)) (now (x .left)) (now (x .right-advanced)) (sym (s .convolve .ensures .0) ∙ not-true _ (c .if1 .taken)) in
-    (sym failed, λ h. never h)
+returns c = (first-fails _ _ _ _ _ _ _ (sym (c .before .before .before .convolve .ensures .0) ∙ not-true _ (c .if1 .taken)), λ h. never h)
 
 returns-2 : tie.Need-returns-2
-returns-2 c =
-    let w = c .before .before .before in
-    let x = start (first (w .before .before) .before) .args in
-    let failed = second-failed (x .points) (x .orbitals) (now (x .times)) (now (x .left-retarded)) (now (x .right)) (now (x .left)) (now (x .right-advanced)) (sym (w .convolve2 .ensures .0) ∙ not-true _ (c .if2 .taken)) in
-    (sym failed, λ h. never h)
+returns-2 c = (second-fails _ _ _ _ _ _ _ (sym (c .before .before .before .convolve2 .ensures .0) ∙ not-true _ (c .if2 .taken)), λ h. never h)
 
 returns-3 : tie.Need-returns-3
 returns-3 c =
@@ -60,12 +48,11 @@ returns-3 c =
     let w = second e in
     let d = w .before .before in
     let s = first d in
-    let x = start (s .before) .args in
     let one = not-false _ (d .if1 .left) in
     let two = not-false _ (e .if2 .left) in
-    let told = both-added (x .points) (x .orbitals) (now (x .times)) (now (x .left-retarded)) (now (x .right)) (now (x .left)) (now (x .right-advanced)) _ _ _ _
-    (sym (s .convolve .ensures .0) ∙ one) (sym (w .convolve2 .ensures .0) ∙ two) (s .convolve .ensures .1 one) (w .convolve2 .ensures .1 two) (a .add-functions .ensures .0) (a .add-functions .ensures .1) in
-    (told .0, λ h. told .1)
+    let said = both-added _ _ _ _ _ _ _ (sym (s .convolve .ensures .0) ∙ one) (sym (w .convolve2 .ensures .0) ∙ two) (s .convolve .ensures .1 one) (w .convolve2 .ensures .1 two)
+    (a .add-functions .ensures .0) (a .add-functions .ensures .1) in
+    (said .0, λ h. said .1)
 
 pub correlation-spec : {M : Type 1} → statement M
 correlation-spec =

@@ -1,24 +1,14 @@
 -- `langreth::components::work` meets its contract: each step's answer says whether what it makes is finite. Assumes nothing.
-use mathlib.Core.Path.{sym, _∙_}
-use native.Mathlib.Omega.{arith}
-use denote.Ref.{now}
-use borrow.Author.Needs.{needs}
-use borrow.Author.Tests.{not-true, not-false}
+use Rattle.lists.specs.Prelude.{sym, _∙_, arith, needs, not-true, not-false}
 use Rattle.lists.specs.Agreement.{never}
-use Rattle.langreth.specs.Calls.{Components, componentsOf}
-use Rattle.langreth.specs.Work.{lesser-failed, greater-failed, retarded-failed, all-made}
-use Rattle.langreth.specs.Lengths.{lengths, none-asked, also-asked}
+use Rattle.langreth.specs.Calls.{componentsOf}
+use Rattle.langreth.specs.Finite.{lesser-fails, greater-fails, retarded-fails, advanced-says}
+use Rattle.two_time.specs.Lengths.{lengths, none-asked, also-asked}
 use Rattle.langreth.proofs.components.work.Statement.{statement}
 use Rattle.langreth.proofs.components.work.Tie as tie
 
 abbrev start : tie.After-correlation-arg2 → tie.Start
 start c = c .before .before .before .before .before .before .before .before .before .before .before .before .before .before .before
-
-abbrev lefts : tie.Start → Components
-lefts s = componentsOf (now (s .args .left-retarded)) (now (s .args .left-advanced)) (now (s .args .left-lesser)) (now (s .args .left-greater))
-
-abbrev rights : tie.Start → Components
-rights s = componentsOf (now (s .args .right-retarded)) (now (s .args .right-advanced)) (now (s .args .right-lesser)) (now (s .args .right-greater))
 
 -- the steps before each place
 abbrev first : tie.Else1 → tie.After-correlation
@@ -59,22 +49,13 @@ convolve-requires-2 c κs =
     also-asked (omega arith) (also-asked (omega arith) (also-asked (omega arith) (none-asked z)))
 
 returns : tie.Need-returns
-returns c =
-    let s = c .before .before .before .before .before in
-    let t = start (s .before) in
-    (lesser-failed (t .args .points) (t .args .orbitals) (now (t .args .times)) (lefts t) (rights t) (sym (s .correlation .ensures .0) ∙ not-true _ (c .if1 .taken)), λ h. never h)
+returns c = (lesser-fails _ _ _ _ _ (sym (c .before .before .before .before .before .correlation .ensures .0) ∙ not-true _ (c .if1 .taken)), λ h. never h)
 
 returns-2 : tie.Need-returns-2
-returns-2 c =
-    let s = c .before .before .before .before .before in
-    let t = start (first (s .before .before .before) .before) in
-    (greater-failed (t .args .points) (t .args .orbitals) (now (t .args .times)) (lefts t) (rights t) (sym (s .correlation2 .ensures .0) ∙ not-true _ (c .if2 .taken)), λ h. never h)
+returns-2 c = (greater-fails _ _ _ _ _ (sym (c .before .before .before .before .before .correlation2 .ensures .0) ∙ not-true _ (c .if2 .taken)), λ h. never h)
 
 returns-3 : tie.Need-returns-3
-returns-3 c =
-    let s = c .before .before .before in
-    let t = start (first (second (s .before .before) .before .before .before) .before) in
-    (retarded-failed (t .args .points) (t .args .orbitals) (now (t .args .times)) (lefts t) (rights t) (sym (s .convolve .ensures .0) ∙ not-true _ (c .if3 .taken)), λ h. never h)
+returns-3 c = (retarded-fails _ _ _ _ _ (sym (c .before .before .before .convolve .ensures .0) ∙ not-true _ (c .if3 .taken)), λ h. never h)
 
 returns-4 : tie.Need-returns-4
 returns-4 c =
@@ -85,18 +66,11 @@ returns-4 c =
     let s2 = second e2 in
     let e1 = s2 .before .before .before in
     let s1 = first e1 in
-    let t = start (s1 .before) in
-    let x = t .args in
     let one = not-false _ (e1 .if1 .left) in
     let two = not-false _ (e2 .if2 .left) in
     let three = not-false _ (e3 .if3 .left) in (
-      all-made (x .points) (x .orbitals) (now (x .times)) (lefts t) (rights t) _ (sym (s1 .correlation .ensures .0) ∙ one) (sym (s2 .correlation2 .ensures .0) ∙ two) (sym (s3 .convolve .ensures .0) ∙ three) (last .convolve2 .ensures .0),
-      λ h. record {
-        retarded = s3 .convolve .ensures .1 three;
-        advanced = last .convolve2 .ensures .1 h;
-        lesser = s1 .correlation .ensures .1 one;
-        greater = s2 .correlation2 .ensures .1 two;
-      },
+      advanced-says _ _ _ _ _ (sym (s1 .correlation .ensures .0) ∙ one) (sym (s2 .correlation2 .ensures .0) ∙ two) (sym (s3 .convolve .ensures .0) ∙ three) (last .convolve2 .ensures .0),
+      λ h i. componentsOf (s3 .convolve .ensures .1 three i) (last .convolve2 .ensures .1 h i) (s1 .correlation .ensures .1 one i) (s2 .correlation2 .ensures .1 two i),
     )
 
 pub work-spec : {M : Type 1} → statement M

@@ -1,11 +1,7 @@
 -- `largest::middle::above_root` meets its contract, by what its tests found. Assumes nothing.
-use mathlib.Core.Path.{subst}
-use Prim.Native.Nat.{ℕ, _+_, _*_, _/_, _^_, _≤_}
-use native.Mathlib.Omega.{arith}
-use borrow.Author.Needs.{needs}
-use borrow.Author.Tests.{leb-true}
+use Rattle.lists.specs.Prelude.{subst, ℕ, _+_, _*_, _/_, _^_, _≤_, arith, needs, leb-true}
 use Rattle.lists.specs.Agreement.{never}
-use Rattle.largest.specs.Digits.{Looked, looked, middle-fits, no-wrap, root-below}
+use Rattle.largest.proofs.Middles.{Looked, looked, middle-fits, no-wrap, root-below}
 use Rattle.largest.proofs.middle.above_root.Statement.{statement}
 use Rattle.largest.proofs.middle.above_root.Tie as tie
 
@@ -32,8 +28,7 @@ returns-2 c t =
     let w = e .before in
     let s = w .before .before in
     let p = passed e in
-    root-below (s .args .l) (s .args .a) (s .args .b) (d .before .before .part-square .result) (d .before .part-square2 .result) (c .high-square .result)
-    (record {
+    root-below (record {
       downA = w .before .wrapping-sub-u64 .result;
       downB = w .wrapping-sub-u642 .result;
       looks = p;
@@ -42,21 +37,14 @@ returns-2 c t =
       square-a = d .before .before .part-square .ensures .1;
       square-b = d .before .part-square2 .ensures .1;
       middle-square = subst (λ (x : ℕ). c .high-square .result * 2 ^ 64 ≤ (x + 512) * (x + 512)) (d .digits .ensures) (c .high-square .ensures .1);
-      below = leb-true _ _ t;
+      below = leb-true (d .before .before .part-square .result + d .before .part-square2 .result + 6) (c .high-square .result) t;
     })
 
 pub above-root-spec : {M : Type 1} → statement M
 above-root-spec =
     tie.close
     (tie.spec
-    (λ c κs. search needs)
-    (λ c κs. search needs)
-    (λ c t. never t)
+    (λ c κs. search needs) (λ c κs. search needs) (λ c t. never t)
     (λ c κs. passed c .near-a)
     (λ c κs. passed (c .before) .near-b)
-    add-result
-    add-result-2
-    (λ c κs. search needs)
-    add-high-square
-    high-square-requires
-    returns-2)
+    add-result add-result-2 (λ c κs. search needs) add-high-square high-square-requires returns-2)

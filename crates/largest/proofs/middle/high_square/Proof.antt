@@ -1,10 +1,7 @@
--- `largest::middle::high_square` meets its contract, by the columns of `Digits`. Assumes nothing.
-use Prim.Native.Nat.{_+_, _*_, _/_, _%_, _^_, _<_}
-use native.Mathlib.Nat.{mod-lt}
-use native.Mathlib.Omega.{arith}
-use lib.Pow.{pow-pos, shr-lt}
+-- `largest::middle::high_square` meets its contract, by the columns of `Middle`. Assumes nothing.
+use Rattle.lists.specs.Prelude.{_+_, _*_, _/_, _%_, _^_, _<_, mod-lt, arith, pow-pos, shr-lt}
 use Rattle.norm.specs.Squares.{mul-lt-pow}
-use Rattle.largest.specs.Digits.{high-columns}
+use Rattle.largest.proofs.Middles.{high-columns}
 use Rattle.largest.proofs.middle.high_square.Statement.{statement}
 use Rattle.largest.proofs.middle.high_square.Tie as tie
 

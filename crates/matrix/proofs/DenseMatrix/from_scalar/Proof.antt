@@ -1,5 +1,5 @@
 -- `matrix::DenseMatrix::from_scalar` meets its contract, which is `from_numbers`'s of two numbers. Assumes nothing.
-use borrow.Author.Needs.{needs}
+use Rattle.lists.specs.Prelude.{needs}
 use Rattle.matrix.specs.Calls.{fromScalar}
 use Rattle.matrix.proofs.DenseMatrix.from_scalar.Statement.{statement}
 use Rattle.matrix.proofs.DenseMatrix.from_scalar.Tie as tie

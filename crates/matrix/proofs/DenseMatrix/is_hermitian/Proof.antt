@@ -1,47 +1,48 @@
 -- `matrix::DenseMatrix::is_hermitian` meets its contract, by its tests. Assumes nothing.
-use mathlib.Core.Path.{_≡_, sym, ap, ap₂, _∙_}
-use mathlib.Core.Bool.{Bool, true, _&&_}
-use Prim.Native.Nat.{ℕ}
-use native.Mathlib.Nat.{le-of-eq}
-use lib.Ieee.{Float}
-use borrow.Author.Needs.{needs}
-use borrow.Author.Tests.{eq-eqb, ne-eqb}
+use Rattle.lists.specs.Prelude.{_≡_, sym, ap, ap₂, _∙_, Bool, true, _&&_, ℕ, _*_, _≤_, le-of-eq, arith, Float, needs, eq-eqb, ne-eqb}
 use Rattle.refusal.specs.declared.Verdict.{Verdict}
 use Rattle.refusal.specs.declared.Verdict.the-variants.{Pass}
-use Rattle.complex.specs.Arithmetic.{mul}
-use Rattle.complex.specs.Sum.{largestIn}
+use Rattle.complex.specs.Arithmetic.{plusZero, mul}
+use Rattle.complex.specs.Numbers.{entryAt}
+use Rattle.complex.specs.Sum.{largestFrom}
+use Rattle.complex.specs.Largest.{largest-in}
 use Rattle.refusal.specs.Verdict.{_then_, decide}
 use Rattle.refusal.specs.Agreement.{then-pass}
-use Rattle.refusal.specs.Lines.{validTolerance}
+use Rattle.refusal.specs.Checks.{validTolerance}
 use Rattle.matrix.specs.declared.DenseMatrix.{DenseMatrix}
-use Rattle.matrix.specs.Block.{entriesIn, entriesOf}
-use Rattle.matrix.specs.Operations.{partSize, hermitianWithin, hermitian}
-use Rattle.matrix.specs.Calls.{square, blockLines, isHermitian}
-use Rattle.matrix.proofs.Shapes.{Small, lines-small}
+use Rattle.block.specs.Block.{entriesIn}
+use Rattle.matrix.specs.Dense.{entriesOf}
+use Rattle.block.specs.Operations.{partSize, hermitianWithin, hermitian}
+use Rattle.matrix.specs.Calls.{square, blockChecks, isHermitian}
+use Rattle.matrix.proofs.Places.{entries-most}
+use Rattle.matrix.proofs.Shapes.{Small, block-passed}
 use Rattle.matrix.proofs.DenseMatrix.is_hermitian.Statement.{statement}
 use Rattle.matrix.proofs.DenseMatrix.is_hermitian.Tie as tie
 
-asked : (c : tie.After-then) → let x = c .before .before .before .before .before .args in c .then .result ≡ (blockLines true (x .self) then validTolerance (x .tolerance))
-asked c = c .then .ensures ∙ rw (c .before .valid-tolerance .ensures, c .before .before .block-lines .ensures)
+asked : (c : tie.After-then) → let x = c .before .before .before .before .before .args in c .then .result ≡ (blockChecks true (x .self) then validTolerance (x .tolerance))
+asked c = c .then .ensures ∙ rw (c .before .valid-tolerance .ensures, c .before .before .check-block .ensures)
 
-passed : (c : tie.After-enum-told) → let x = c .before .before .before .before .before .before .before .args in (blockLines true (x .self) then validTolerance (x .tolerance)) ≡ Pass
+passed : (c : tie.After-enum-told) → let x = c .before .before .before .before .before .before .before .args in (blockChecks true (x .self) then validTolerance (x .tolerance)) ≡ Pass
 passed c = sym (asked (c .before .before)) ∙ c .enum-told .given .1
 
 few : (c : tie.After-enum-told) → let x = c .before .before .before .before .before .before .before .args .self in Small (x .rows) (x .columns)
-few c = lines-small true _ (then-pass _ _ (passed c) .0)
+few c = block-passed true _ (then-pass _ _ (passed c) .0) .0
+
+places : (c : tie.After-enum-told) → let x = c .before .before .before .before .before .before .before .args .self in x .rows * x .rows ≤ 256
+places c = let m = few c .rows-most in entries-most _ _ m m
 
 whole : tie.Need-slice-aggregate-a
 whole c = search needs
 
--- past the lines, of a square block: what both loops found
+-- past the checks, of a square block: what both loops found
 square-is : (x : DenseMatrix) (tolerance largest : Float) (within : Bool) (v : Verdict) → v ≡ Pass → x .rows ≡ x .columns
-    → largest ≡ largestIn (x .rows) (x .rows) (λ c d. partSize (entriesIn (x .rows) (x .values) c d))
+    → largest ≡ largestFrom plusZero (x .rows * x .rows) (λ p. partSize (entryAt (x .values) (2 * p)))
     → within ≡ hermitianWithin (x .rows) (mul tolerance largest) (entriesIn (x .rows) (x .values))
     → decide Pass within ≡ decide v (square x && hermitian (x .rows) tolerance (entriesOf x))
 unfolding hermitian
 square-is x tolerance largest within v p e l w =
     ap₂ decide (sym p)
-    (w ∙ ap (λ (m : Float). hermitianWithin (x .rows) (mul tolerance m) (entriesIn (x .rows) (x .values))) l
+    (w ∙ ap (λ (m : Float). hermitianWithin (x .rows) (mul tolerance m) (entriesIn (x .rows) (x .values))) (l ∙ largest-in (x .rows) (x .rows) _)
     ∙ ap (λ (m : ℕ). hermitian (x .rows) tolerance (entriesIn m (x .values))) e
     ∙ ap (λ (b : Bool). b && hermitian (x .rows) tolerance (entriesOf x)) (sym (eq-eqb (x .rows) (x .columns) e)))
 
@@ -67,11 +68,12 @@ is-hermitian-spec =
     tie.close
     (tie.spec
     whole
-    (λ c κs. search needs)  -- block-lines-requires
+    (λ c κs. search needs)  -- check-block-requires
     (λ c κs. search needs)  -- valid-tolerance-requires
     (λ c κs. search needs)  -- then-requires
     (λ c. search needs)  -- enum-told
-    (λ c κs. (few (c .before) .rows-most, le-of-eq (whole (c .before .before .before .before .before .before))))  -- largest-part-requires
+    (λ c. omega (arith, places (c .before)))  -- mul-largest-part
+    (λ c κs. omega (arith, places (c .before), whole (c .before .before .before .before .before .before)))  -- largest-part-requires
     (λ c κs. (few (c .before .before) .rows-most, le-of-eq (whole (c .before .before .before .before .before .before .before))))  -- hermitian-within-requires
     (λ c κs. search needs)  -- decided-requires
     (λ c. search needs)  -- enum-known-verdict

@@ -1,45 +1,20 @@
--- `matrix::DenseMatrix::scale` meets its contract. Assumes nothing.
-use mathlib.Core.Path.{_≡_, sym, _∙_}
-use mathlib.Core.Bool.{true}
-use native.Mathlib.Nat.{le-of-eq}
-use borrow.Author.Needs.{needs}
-use Rattle.refusal.specs.declared.Verdict.the-variants.{Pass}
-use Rattle.matrix.specs.Calls.{blockLines, scaleOf}
-use Rattle.matrix.specs.Made.{madeBy}
-use Rattle.matrix.proofs.Shapes.{lines-small}
-use Rattle.matrix.proofs.Results.{finite-is, not-finite-is}
+-- `matrix::DenseMatrix::scale` meets its contract: the checks of one block, then the block; the block is tested. Assumes nothing.
+use Rattle.lists.specs.Prelude.{sym, _∙_, le-of-eq, needs}
+use Rattle.matrix.specs.Calls.{scaleOf, finiteBlock}
+use Rattle.matrix.specs.Made.{madeBy, answerOf}
+use Rattle.matrix.proofs.Shapes.{block-passed}
 use Rattle.matrix.proofs.DenseMatrix.scale.Statement.{statement}
 use Rattle.matrix.proofs.DenseMatrix.scale.Tie as tie
-
-passed : (c : tie.After-enum-told) → blockLines true (c .before .before .before .before .before .args .self) ≡ Pass
-passed c = sym (c .before .before .block-lines .ensures) ∙ c .enum-told .given .1
 
 whole : tie.Need-slice-aggregate-a
 whole c = search needs
 
-build-requires : tie.Need-build-requires
-build-requires c κs =
-    let s = lines-small true _ (passed c) in
-    ((s .rows-most, s .columns-most, s .columns-most), (le-of-eq (whole (c .before .before .before)), le-of-eq (whole (c .before .before .before))))
-
-returns : tie.Need-returns
-unfolding scaleOf madeBy
-returns c = c .finite-or-10 .ensures ∙ finite-is _ _ _ _ _ _ (passed (c .before .before)) (c .before .build .ensures .0) (c .before .build .ensures .1)
-
-returns-2 : tie.Need-returns-2
-unfolding scaleOf
-returns-2 c = c .refused .ensures ∙ not-finite-is _ _ _ _ _ (sym (c .before .before .before .before .block-lines .ensures) ∙ c .before .before .verdict .given .1)
-
 pub scale-spec : {M : Type 1} → statement M
+unfolding scaleOf finiteBlock madeBy answerOf
 scale-spec =
     tie.close
     (tie.spec
     whole
-    (λ c κs. search needs)  -- block-lines-requires
-    (λ c. search needs)  -- enum-told
-    build-requires
-    (λ c κs. search needs)  -- finite-or-10-requires
-    (λ c. search needs)  -- enum-known-verdict
-    (λ c κs. search needs)  -- refused-requires
-    returns
-    returns-2)
+    (λ c κs. search needs)  -- check-block-requires
+    (λ c κs. (λ p. let s = block-passed _ _ (sym (c .check-block .ensures) ∙ p) .0 in (s .rows-most, s .columns-most, s .columns-most), (le-of-eq (whole (c .before)), le-of-eq (whole (c .before)))))  -- answer-requires
+    (λ c. c .answer .ensures ∙ rw (c .before .check-block .ensures)))  -- returns

@@ -1,21 +1,10 @@
--- `matrix::DenseMatrix::subtract` meets its contract: blocks that pass have the same columns. Assumes nothing.
-use mathlib.Core.Path.{_∙_}
-use native.Mathlib.Nat.{le-of-eq}
-use borrow.Author.Needs.{needs}
-use Rattle.matrix.specs.Block.{entriesOf}
-use Rattle.matrix.specs.Operations.{subtracted}
-use Rattle.matrix.specs.Calls.{subtractOf}
-use Rattle.matrix.specs.Made.{madeBy, combinedOf}
-use Rattle.matrix.proofs.Results.{same-columns}
+-- `matrix::DenseMatrix::subtract` meets its contract, which is `alike`'s at its operation. Assumes nothing.
+use Rattle.lists.specs.Prelude.{needs}
+use Rattle.matrix.specs.Calls.{subtractOf, finiteBlock}
+use Rattle.matrix.specs.Made.{madeBy, answerOf, alikeOf}
 use Rattle.matrix.proofs.DenseMatrix.subtract.Statement.{statement}
 use Rattle.matrix.proofs.DenseMatrix.subtract.Tie as tie
 
-first : tie.Need-slice-aggregate-a
-first c = search needs
-
-second : tie.Need-slice-aggregate-b
-second c = search needs
-
 pub subtract-spec : {M : Type 1} → statement M
-unfolding subtractOf madeBy combinedOf
-subtract-spec = tie.close (tie.spec first second (λ c κs. (le-of-eq (first (c .before .before .before .before .before)), le-of-eq (second (c .before .before .before .before)))) (λ c. let x = c .before .before .before .before .before .before .before .before .before .args in c .combined .ensures ∙ same-columns (x .self) (x .other) (subtracted (entriesOf (x .self)) (entriesOf (x .other)))))
+unfolding subtractOf finiteBlock madeBy answerOf alikeOf
+subtract-spec = tie.close (tie.spec (λ c κs. search needs) (λ c. c .alike .ensures))

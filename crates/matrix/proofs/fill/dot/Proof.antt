@@ -1,17 +1,11 @@
--- `matrix::fill::dot` meets its contract: after k turns the sum has the first k terms of the product's entry. Assumes nothing.
-use mathlib.Core.Path.{_≡_, sym, _∙_}
-use mathlib.Core.List.{List}
-use Prim.Native.Nat.{ℕ, _-_, _≤_}
-use native.Mathlib.Nat.{le-antisymm}
-use native.Mathlib.Omega.{arith}
-use lib.Ieee.{Float}
+-- `matrix::fill::dot` meets its contract: after k steps the sum has the first k terms of the product's entry. Assumes nothing.
+use Rattle.lists.specs.Prelude.{_≡_, sym, _∙_, List, ℕ, _-_, _≤_, le-antisymm, arith, Float, needs}
 use Rattle.complex.specs.declared.Complex.{Complex}
 use Rattle.complex.specs.Arithmetic.{czero, cmul}
 use Rattle.complex.specs.Sum.{sum, sumFrom}
 use Rattle.complex.specs.Agreement.{sum-more, sum-none}
-use Rattle.matrix.specs.Block.{entriesIn}
-use Rattle.matrix.specs.Operations.{product}
-use borrow.Author.Needs.{needs}
+use Rattle.block.specs.Block.{entriesIn}
+use Rattle.block.specs.Operations.{product}
 use Rattle.matrix.proofs.fill.dot.Statement.{statement}
 use Rattle.matrix.proofs.fill.dot.Tie as tie
 

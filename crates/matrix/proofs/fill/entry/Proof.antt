@@ -1,7 +1,5 @@
 -- `matrix::fill::entry` meets its contract: the entry stands within the 512 numbers. Assumes nothing.
-use Prim.Native.Nat.{_*_, _≤_}
-use native.Mathlib.Omega.{arith}
-use borrow.Author.Needs.{needs}
+use Rattle.lists.specs.Prelude.{_*_, _≤_, arith}
 use Rattle.matrix.proofs.Places.{rows-before}
 use Rattle.matrix.proofs.fill.entry.Statement.{statement}
 use Rattle.matrix.proofs.fill.entry.Tie as tie
@@ -13,13 +11,7 @@ pub entry-spec : {M : Type 1} → statement M
 entry-spec =
     tie.close
     (tie.spec
-    (λ c. omega (arith, before (c .before)))  -- mul-place
-    (λ c. omega (arith, before (c .before)))  -- add-place
-    (λ c. omega (arith, before (c .before)))  -- mul-place-2
-    (λ c. omega (arith, before (c .before)))  -- mul-new
-    (λ c. omega (arith, before (c .before .before)))  -- shared-slice-read-new
-    (λ c. omega (arith, before (c .before .before)))  -- add-new
-    (λ c. omega (arith, before (c .before .before)))  -- mul-new-2
-    (λ c. omega (arith, before (c .before .before .before)))  -- shared-slice-read-new-2
-    (λ c κs. search needs)  -- new-requires
-    (λ c. c .new .ensures))  -- returns
+    (λ c. omega (arith, before (c .before)))  -- mul-number
+    (λ c. omega (arith, before (c .before)))  -- add-number
+    (λ c κs. omega (arith, before (c .before)))  -- number-requires
+    (λ c. c .number .ensures))  -- returns

@@ -1,15 +1,9 @@
--- `matrix::fill::fill` meets its contract: after i turns the first i rows are written and tested. Assumes nothing.
-use mathlib.Core.Path.{_≡_, refl, sym, _∙_}
-use Prim.Native.Nat.{_+_, _-_, _*_, _≤_}
-use native.Mathlib.Nat.{le-antisymm}
-use native.Mathlib.Omega.{arith}
-use lib.ListN.{length}
-use denote.Ref.{now}
-use borrow.Author.Needs.{needs}
+-- `matrix::fill::fill` meets its contract: after i steps the first i rows are written and tested. Assumes nothing.
+use Rattle.lists.specs.Prelude.{_≡_, refl, sym, _∙_, _+_, _-_, _*_, _≤_, le-antisymm, arith, length, now, needs}
 use Rattle.lists.specs.Indexed.{join, allBelow}
 use Rattle.lists.specs.Filling.{over, over-none}
-use Rattle.matrix.specs.Block.{layOut}
-use Rattle.matrix.specs.Operations.{allFinite}
+use Rattle.block.specs.Block.{layOut}
+use Rattle.block.specs.Operations.{allFinite}
 use Rattle.matrix.specs.Made.{madeIn}
 use Rattle.matrix.proofs.Places.{row-within}
 use Rattle.matrix.proofs.Filled.{finite-more, rows-more}
@@ -23,7 +17,7 @@ Inv-loop op out₀ a b rows inner columns width all₀ i₀ out all i =
 abbrev μ-loop : tie.MeasureT-loop
 μ-loop op out₀ a b rows inner columns width all₀ i₀ out all i = rows - i
 
--- this turn's row lies within the slice
+-- this step's row lies within the slice
 within : (c : tie.In-loop Inv-loop μ-loop) → let x = c .before .before .before .before .before .args in c .before .loop .i * (2 * x .columns) + 2 * x .columns ≤ 512
 within c = let x = c .before .before .before .before .before .args in row-within (c .before .loop .i) (x .columns) (omega arith) (omega arith)
 

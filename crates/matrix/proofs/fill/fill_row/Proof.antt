@@ -1,12 +1,7 @@
--- `matrix::fill::fill_row` meets its contract: after j turns the row's first j entries are written and tested. Assumes nothing.
-use mathlib.Core.Path.{_≡_, refl, sym, _∙_}
-use Prim.Native.Nat.{_-_, _*_, _≤_}
-use native.Mathlib.Nat.{le-antisymm}
-use native.Mathlib.Omega.{arith}
-use lib.ListN.{length, length-set}
-use borrow.Author.Needs.{needs}
+-- `matrix::fill::fill_row` meets its contract: after j steps the row's first j entries are written and tested. Assumes nothing.
+use Rattle.lists.specs.Prelude.{_≡_, refl, sym, _∙_, _-_, _*_, _≤_, le-antisymm, arith, length, length-set, needs}
 use Rattle.lists.specs.Indexed.{join, allBelow}
-use Rattle.lists.specs.Turns.{all-more}
+use Rattle.lists.specs.Steps.{all-more}
 use Rattle.lists.specs.Filling.{over, over-none, over-all}
 use Rattle.complex.specs.Arithmetic.{cfinite}
 use Rattle.complex.specs.Filling.{cells, length-cells, cells-next}

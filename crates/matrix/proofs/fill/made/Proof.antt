@@ -1,9 +1,7 @@
 -- `matrix::fill::made` meets its contract, by the operation that the match found. Assumes nothing.
-use mathlib.Core.Path.{ap₂, _∙_}
-use borrow.Author.Needs.{needs}
-use borrow.Author.Tests.{eq-eqb, ne-eqb}
+use Rattle.lists.specs.Prelude.{ap₂, _∙_, needs, eq-eqb, ne-eqb}
 use Rattle.complex.specs.Arithmetic.{cadd, csub}
-use Rattle.matrix.specs.Operations.{scaled, added, subtracted, adjoint, identity}
+use Rattle.block.specs.Operations.{scaled, added, subtracted, adjoint, identity}
 use Rattle.matrix.specs.Made.{madeBy}
 use Rattle.matrix.proofs.fill.made.Statement.{statement}
 use Rattle.matrix.proofs.fill.made.Tie as tie

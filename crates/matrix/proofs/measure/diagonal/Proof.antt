@@ -1,14 +1,10 @@
--- `matrix::measure::diagonal` meets its contract: after i turns the sum has the first i entries of the diagonal. Assumes nothing.
-use mathlib.Core.Path.{_≡_, sym, _∙_}
-use Prim.Native.Nat.{_-_, _≤_}
-use native.Mathlib.Nat.{le-antisymm}
-use native.Mathlib.Omega.{arith}
-use borrow.Author.Needs.{needs}
+-- `matrix::measure::diagonal` meets its contract: after i steps the sum has the first i entries of the diagonal. Assumes nothing.
+use Rattle.lists.specs.Prelude.{_≡_, sym, _∙_, _-_, _≤_, le-antisymm, arith, needs}
 use Rattle.complex.specs.Arithmetic.{czero}
 use Rattle.complex.specs.Sum.{sumFrom}
 use Rattle.complex.specs.Agreement.{sum-more, sum-none}
-use Rattle.matrix.specs.Block.{entriesIn}
-use Rattle.matrix.specs.Operations.{trace}
+use Rattle.block.specs.Block.{entriesIn}
+use Rattle.block.specs.Operations.{trace}
 use Rattle.matrix.proofs.measure.diagonal.Statement.{statement}
 use Rattle.matrix.proofs.measure.diagonal.Tie as tie
 

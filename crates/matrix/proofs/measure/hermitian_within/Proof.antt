@@ -1,13 +1,9 @@
--- `matrix::measure::hermitian_within` meets its contract: after i turns the first i rows are seen. Assumes nothing.
-use mathlib.Core.Path.{_≡_, sym, _∙_}
-use Prim.Native.Nat.{_-_, _≤_}
-use native.Mathlib.Nat.{le-antisymm}
-use native.Mathlib.Omega.{arith}
-use borrow.Author.Needs.{needs}
+-- `matrix::measure::hermitian_within` meets its contract: after i steps the first i rows are seen. Assumes nothing.
+use Rattle.lists.specs.Prelude.{_≡_, sym, _∙_, _-_, _≤_, le-antisymm, arith, needs}
 use Rattle.lists.specs.Indexed.{allBelow}
-use Rattle.lists.specs.Turns.{all-more, all-none}
-use Rattle.matrix.specs.Block.{entriesIn}
-use Rattle.matrix.specs.Operations.{mirrors, hermitianWithin}
+use Rattle.lists.specs.Steps.{all-more, all-none}
+use Rattle.block.specs.Block.{entriesIn}
+use Rattle.block.specs.Operations.{mirrors, hermitianWithin}
 use Rattle.matrix.proofs.measure.hermitian_within.Statement.{statement}
 use Rattle.matrix.proofs.measure.hermitian_within.Tie as tie
 

@@ -1,6 +1,6 @@
 -- `matrix::measure::part_above` meets its contract, from its callees'. Assumes nothing.
-use borrow.Author.Needs.{needs}
-use Rattle.matrix.specs.Operations.{partAbove}
+use Rattle.lists.specs.Prelude.{needs}
+use Rattle.block.specs.Operations.{partAbove}
 use Rattle.matrix.proofs.measure.part_above.Statement.{statement}
 use Rattle.matrix.proofs.measure.part_above.Tie as tie
 

@@ -1,7 +1,6 @@
 -- `matrix::measure::part_size` meets its contract, from its callees'. Assumes nothing.
-use mathlib.Core.Path.{_∙_}
-use borrow.Author.Needs.{needs}
-use Rattle.matrix.specs.Operations.{partSize}
+use Rattle.lists.specs.Prelude.{_∙_, needs}
+use Rattle.block.specs.Operations.{partSize}
 use Rattle.matrix.proofs.measure.part_size.Statement.{statement}
 use Rattle.matrix.proofs.measure.part_size.Tie as tie
 

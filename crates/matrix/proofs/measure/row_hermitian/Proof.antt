@@ -1,19 +1,11 @@
 -- `matrix::measure::row_hermitian` meets its contract: of the columns below the diagonal's nothing is asked. Assumes nothing.
-use mathlib.Core.Path.{_≡_, sym, ap, ap₂, _∙_}
-use mathlib.Core.Bool.{Bool, true, not, _&&_}
-use Prim.Native.Nat.{ℕ, _+_, _-_, _≤_}
-use native.Mathlib.Nat.{le-antisymm}
-use native.Mathlib.Omega.{arith}
-use lib.Ieee.{Float}
-use denote.Ref.{now}
-use borrow.Author.Needs.{needs}
-use borrow.Author.Tests.{lt-ltb, le-ltb}
+use Rattle.lists.specs.Prelude.{_≡_, sym, ap, ap₂, _∙_, Bool, true, not, _&&_, ℕ, _+_, _-_, _≤_, le-antisymm, arith, Float, now, needs, lt-ltb, le-ltb}
 use Rattle.lists.specs.Indexed.{allBelow}
-use Rattle.lists.specs.Turns.{all-more}
+use Rattle.lists.specs.Steps.{all-more}
 use Rattle.lists.specs.Agreement.{each-all}
 use Rattle.complex.specs.Arithmetic.{csub, conj}
-use Rattle.matrix.specs.Block.{Entries, entriesIn}
-use Rattle.matrix.specs.Operations.{partAbove, mirrors}
+use Rattle.block.specs.Block.{Entries, entriesIn}
+use Rattle.block.specs.Operations.{partAbove, mirrors}
 use Rattle.matrix.proofs.measure.row_hermitian.Statement.{statement}
 use Rattle.matrix.proofs.measure.row_hermitian.Tie as tie
 

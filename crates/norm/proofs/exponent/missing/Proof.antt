@@ -1,7 +1,7 @@
--- `norm::exponent::missing` meets its contract, by the leading zeros (`Cut`). Assumes nothing.
-use native.Mathlib.Omega.{arith}
+-- `norm::exponent::missing` meets its contract, by the leading zeros (`Exponents`). Assumes nothing.
+use Rattle.lists.specs.Prelude.{arith}
 use lib.Count.{leading-le}
-use Rattle.norm.proofs.Cut.{raised-significand}
+use Rattle.norm.proofs.Exponents.{raised-significand}
 use Rattle.norm.proofs.exponent.missing.Statement.{statement}
 use Rattle.norm.proofs.exponent.missing.Tie as tie
 

@@ -1,10 +1,5 @@
 -- `norm::exponent::power` meets its contract: the power fits a word. Assumes nothing.
-use mathlib.Core.Path.{_∙_}
-use Prim.Native.Nat.{_^_}
-use native.Mathlib.Nat.{one-mul}
-use native.Mathlib.Omega.{arith}
-use lib.Dec.{lit<}
-use lib.Pow.{shl-exact}
+use Rattle.lists.specs.Prelude.{_∙_, _^_, one-mul, arith, lit<, shl-exact}
 use Rattle.norm.proofs.exponent.power.Statement.{statement}
 use Rattle.norm.proofs.exponent.power.Tie as tie
 

@@ -1,6 +1,6 @@
 -- `norm::guess::guessed` meets its contract: both ways settle the norm. Assumes nothing.
-use borrow.Author.Needs.{needs}
-use Rattle.norm.proofs.Check.{neither-shifted, unshifted}
+use Rattle.lists.specs.Prelude.{needs}
+use Rattle.norm.proofs.Middles.{neither-shifted, unshifted}
 use Rattle.norm.proofs.guess.guessed.Statement.{statement}
 use Rattle.norm.proofs.guess.guessed.Tie as tie
 

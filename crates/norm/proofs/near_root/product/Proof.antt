@@ -1,7 +1,5 @@
 -- `norm::near_root::product` is safe: two factors of 32 digits have a product of 64. Assumes nothing.
-use native.Mathlib.Nat.{mod-lt}
-use borrow.Author.Needs.{needs}
-use lib.Pow.{pow-pos}
+use Rattle.lists.specs.Prelude.{mod-lt, needs, pow-pos}
 use Rattle.norm.specs.Squares.{mul-lt-pow}
 use Rattle.norm.proofs.near_root.product.Statement.{statement}
 use Rattle.norm.proofs.near_root.product.Tie as tie

@@ -1,22 +1,22 @@
 -- `norm::parts::by_digits` meets its contract: the sum of the squares fits three words, and its root two. Assumes nothing.
-use mathlib.Core.Path.{_≡_, sym, ap₂, _∙_}
-use Prim.Native.Nat.{ℕ, _+_, _*_, _^_}
-use native.Mathlib.Nat.{le-of-eq, lt-of-le-of-lt, lt-of-lt-of-le}
-use native.Mathlib.Omega.{arith}
-use borrow.Author.Needs.{needs}
-use lib.Dec.{lit≤}
-use lib.Pow.{pow-mono}
-use Rattle.norm.specs.Words.{two, three, read}
+use Rattle.lists.specs.Prelude.{_≡_, sym, ap₂, _∙_, ℕ, _+_, _*_, _^_, lt-of-lt-of-le, arith, needs, lit≤, pow-add}
+use Rattle.norm.specs.Words.{two, three}
+use Rattle.norm.specs.Checked.{squares}
+use Rattle.norm.specs.Squares.{even-power}
 use Rattle.norm.proofs.Words.{high-below}
-use Rattle.norm.proofs.Scaling.{raised-small, sum-small, root-fits, unit-or-long}
+use Rattle.norm.proofs.SumOfSquares.{raised-small, sum-small, root-fits, unit-or-long}
 use Rattle.norm.proofs.parts.by_digits.Statement.{statement}
 use Rattle.norm.proofs.parts.by_digits.Tie as tie
 
 -- the larger square, raised
-larger : (c : tie.After-raised) →
+larger : (c : tie.After-raised) → let s = c .before .before .before .args in three (c .raised .result) ≡ 2 * s .qa * (2 * s .qa) * 4 ^ s .gap
+larger c =
     let s = c .before .before .before .args in
-    three (c .raised .result) ≡ s .qa * s .qa * 2 ^ (2 * s .gap + 2)
-larger c = c .raised .ensures ∙ ap₂ (λ (x j : ℕ). x * 2 ^ j) (c .before .before .square .ensures) (c .before .square-shift .ensures)
+    c .raised .ensures ∙ ap₂ (λ (x j : ℕ). x * 2 ^ j) (c .before .before .square .ensures) (c .before .square-shift .ensures)
+    ∙ rw (pow-add 2 (2 * s .gap) 2, even-power (s .gap)) (fourfold (s .qa) (4 ^ s .gap))
+  where
+    fourfold : (q p : ℕ) → q * q * (p * 2 ^ 2) ≡ 2 * q * (2 * q) * p
+    fourfold q p = omega arith
 
 plus-requires : tie.Need-plus-requires
 plus-requires c κs =
@@ -24,25 +24,19 @@ plus-requires c κs =
     let s = r .before .before .before in
     let n = r .raised .result in
     lt-of-lt-of-le
-    (high-below (n .high) (n .mid) 32 (high-below (n .high * 2 ^ 64 + n .mid) (n .low) 96 (lt-of-le-of-lt (le-of-eq (larger r)) (raised-small (s .args .qa) (s .args .qb) (s .args .gap) (s .pre .0) (s .pre .1) (s .pre .2)))))
-    (pow-mono (lit≤ {m = 32} {n = 63} tt))
+    (high-below (n .high) (n .mid) 32
+    (high-below (n .high * 2 ^ 64 + n .mid) (n .low) 96 (rw (larger r) (raised-small (s .args .qa) (s .args .qb) (s .args .gap) (s .pre .0) (s .pre .1) (s .pre .2)))))
+    (lit≤ {m = 2 ^ 32} {n = 2 ^ 63} tt)
 
 -- the sum of the squares
-total : (c : tie.After-plus) →
-    let s = c .before .before .before .before .before .args in
-    three (c .plus .result) ≡ s .qa * s .qa * 2 ^ (2 * s .gap + 2) + (2 * s .qb) * (2 * s .qb)
+total : (c : tie.After-plus) → let s = c .before .before .before .before .before .args in three (c .plus .result) ≡ squares (s .qa) (s .qb) (s .gap)
 total c = c .plus .ensures ∙ ap₂ (λ (x y : ℕ). x + y) (larger (c .before .before)) (c .before .square2 .ensures)
-
-root-of-requires : tie.Need-root-of-requires
-root-of-requires c κs =
-    let s = c .before .before .before .before .before in
-    lt-of-le-of-lt (le-of-eq (total c)) (sum-small (s .args .qa) (s .args .qb) (s .args .gap) (s .pre .0) (s .pre .1) (s .pre .2))
 
 rounded-requires : tie.Need-rounded-requires
 rounded-requires c κs =
     let s = c .before .before .before .before .before .before in
     let r = c .root-of .result in
-    let v : read r ≡ _ = c .root-of .ensures .value ∙ total (c .before) in
+    let v = c .root-of .ensures .value ∙ total (c .before) in
     let l = c .root-of .ensures .little in (
       l,
       root-fits (s .args .qa) (s .args .qb) (s .args .gap) (s .pre .0) (s .pre .1) (s .pre .2) (two (r .root)) (two (r .rest)) v,
@@ -57,23 +51,17 @@ same g u v e = omega arith
 returns : tie.Need-returns
 returns c =
     let p = c .before .before in
-    let s = p .before .before .before .before .before in
-    let t = c .before .root-of .ensures .value ∙ total p in
+    let s = p .before .before .before .before .before .args in
     record {
       most = c .rounded .ensures .0;
-      value = λ n u e v. c .rounded .ensures .1 n (ap₂ (λ (x y : ℕ). x * 4 ^ y) t (sym (same (s .args .gap) u (s .args .unit) e)) ∙ v);
+      value = λ n u e v. c .rounded .ensures .1 n (ap₂ (λ (x y : ℕ). x * 4 ^ y) (c .before .root-of .ensures .value ∙ total p) (sym (same (s .gap) u (s .unit) e)) ∙ v);
     }
 
 pub by-digits-spec : {M : Type 1} → statement M
 by-digits-spec =
     tie.close
     (tie.spec
-    (λ c κs. search needs)
-    (λ c κs. search needs)
-    (λ c κs. search needs)
-    (λ c. search needs)
-    (λ c κs. search needs)
+    (λ c κs. search needs) (λ c κs. search needs) (λ c κs. search needs) (λ c. search needs) (λ c κs. search needs)
     plus-requires
-    root-of-requires
-    rounded-requires
-    returns)
+    (λ c κs. let s = c .before .before .before .before .before in rw (total c) (sum-small (s .args .qa) (s .args .qb) (s .args .gap) (s .pre .0) (s .pre .1) (s .pre .2)))
+    rounded-requires returns)

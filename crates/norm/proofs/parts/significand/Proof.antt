@@ -1,6 +1,5 @@
 -- `norm::parts::significand` meets its contract. Assumes nothing.
-use mathlib.Core.Path.{sym}
-use native.Mathlib.Omega.{arith}
+use Rattle.lists.specs.Prelude.{sym, arith}
 use Rattle.norm.specs.Sizes.{significand-small, significand-large}
 use Rattle.norm.proofs.parts.significand.Statement.{statement}
 use Rattle.norm.proofs.parts.significand.Tie as tie

@@ -1,7 +1,5 @@
 -- `norm::square_root::first_word` meets its contract: before it nothing has been read. Assumes nothing.
-use mathlib.Core.Path.{sym, _∙_}
-use native.Mathlib.Nat.{le-refl, zero-add}
-use borrow.Author.Needs.{needs}
+use Rattle.lists.specs.Prelude.{sym, _∙_, le-refl, zero-add, needs}
 use Rattle.norm.proofs.square_root.first_word.Statement.{statement}
 use Rattle.norm.proofs.square_root.first_word.Tie as tie
 

@@ -1,13 +1,8 @@
--- `norm::square_root::read_word` meets its contract. The invariant: what will have been read, shifted by the turns made, is what has
--- been read with the rest of the word behind it. The measure is the turns left. Assumes nothing.
-use mathlib.Core.Path.{_≡_, refl, subst}
-use Prim.Native.Nat.{ℕ, _+_, _-_, _*_, _^_, _<_, _≤_}
-use native.Mathlib.Nat.{le-antisymm, lt-of-lt-of-le, mod-lt, mul-one}
-use native.Mathlib.Omega.{arith}
-use lib.Dec.{lit≤}
-use lib.Pow.{pow-pos, pow-mono, shr-lt}
+-- `norm::square_root::read_word` meets its contract. The invariant: what will have been read, shifted by the steps made, is what has
+-- been read with the rest of the word behind it. The measure is the steps left. Assumes nothing.
+use Rattle.lists.specs.Prelude.{_≡_, refl, subst, ℕ, _+_, _-_, _*_, _^_, _<_, _≤_, le-antisymm, lt-of-lt-of-le, mod-lt, mul-one, arith, lit≤, digits-lt, pow-pos, pow-mono, shr-lt}
 use Rattle.norm.specs.Words.{two, read}
-use Rattle.norm.proofs.Root.{turn, word-read, root-small, word-fits}
+use Rattle.norm.proofs.Root.{next-digits, word-read, root-small}
 use Rattle.norm.proofs.square_root.read_word.Statement.{statement}
 use Rattle.norm.proofs.square_root.read_word.Tie as tie
 
@@ -28,7 +23,7 @@ read-digits-requires c κs =
     let x = two (c .before .loop .r .root) in
     let N = read (s .args .s) * 2 ^ 64 + s .args .word in
     let h : x < 2 ^ 81 = root-small N (read (c .before .loop .r)) (c .before .loop .left) (c .before .loop .i) x (two (c .before .loop .r .rest)) (v .0) (v .3) refl
-    (word-fits (read (s .args .s)) (s .args .word) (s .pre .1) (s .fits .word .fits)) in
+    (digits-lt (s .pre .1) (s .fits .word .fits)) in
     (v .2, lt-of-lt-of-le h (pow-mono (lit≤ {m = 81} {n = 82} tt)), shr-lt 2 62 (v .1))
 
 loop-again : tie.Need-loop-again Inv-loop μ-loop
@@ -39,7 +34,7 @@ loop-again c =
       omega (arith, c .before .loop-test .taken),
       mod-lt (p .left * 4) (pow-pos 64),
       c .read-digits .ensures .little,
-      turn (read (s .args .s) * 2 ^ 64 + s .args .word) (read (p .r)) (p .left) (p .i) (read r) (p .inv .3) (c .read-digits .ensures .value),
+      next-digits (read (s .args .s) * 2 ^ 64 + s .args .word) (read (p .r)) (p .left) (p .i) (read r) (p .inv .3) (c .read-digits .ensures .value),
     )
 
 returns : tie.Need-returns Inv-loop μ-loop

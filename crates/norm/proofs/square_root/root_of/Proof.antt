@@ -1,9 +1,6 @@
 -- `norm::square_root::root_of` meets its contract: three words are read, the highest first. Assumes nothing.
-use mathlib.Core.Path.{_≡_, sym, ap, _∙_, subst}
-use Prim.Native.Nat.{ℕ, _+_, _*_, _^_, _<_}
-use borrow.Author.Needs.{needs}
+use Rattle.lists.specs.Prelude.{_≡_, ap, _∙_, ℕ, _+_, _*_, _^_, _≤_, _<_, lt-of-le-of-lt, arith, needs}
 use Rattle.norm.specs.Words.{read}
-use Rattle.norm.proofs.Root.{top-word}
 use Rattle.norm.proofs.Words.{high-below}
 use Rattle.norm.proofs.square_root.root_of.Statement.{statement}
 use Rattle.norm.proofs.square_root.root_of.Tie as tie
@@ -18,10 +15,8 @@ small c = high-below (c .args .n .high * 2 ^ 64 + c .args .n .mid) (c .args .n .
 read-word-requires : tie.Need-read-word-requires
 read-word-requires c κs =
     let s = c .before in
-    (c .first-word .ensures .little, subst (λ (x : ℕ). x < 2 ^ 98) (sym (c .first-word .ensures .value)) (top-word (s .args .n .high) (s .args .n .mid) 98 (small s)))
-
-read-word-requires-2 : tie.Need-read-word-requires-2
-read-word-requires-2 c κs = (c .read-word .ensures .little, subst (λ (x : ℕ). x < 2 ^ 98) (sym (both c)) (small (c .before .before)))
+    let h : s .args .n .high ≤ s .args .n .high * 2 ^ 64 + s .args .n .mid = omega arith in
+    (c .first-word .ensures .little, rw (c .first-word .ensures .value) (lt-of-le-of-lt h (small s)))
 
 returns : tie.Need-returns
 returns c = record {
@@ -30,4 +25,6 @@ returns c = record {
 }
 
 pub root-of-spec : {M : Type 1} → statement M
-root-of-spec = tie.close (tie.spec (λ c κs. search needs) read-word-requires read-word-requires-2 returns)
+root-of-spec =
+    tie.close
+    (tie.spec (λ c κs. search needs) read-word-requires (λ c κs. (c .read-word .ensures .little, rw (both c) (small (c .before .before)))) returns)

@@ -1,6 +1,5 @@
 -- `norm::wide::plus` meets its contract: the words are added with their carries. Assumes nothing.
-use native.Mathlib.Omega.{arith}
-use borrow.Author.Needs.{needs}
+use Rattle.lists.specs.Prelude.{arith, needs}
 use Rattle.norm.proofs.Words.{summed}
 use Rattle.norm.proofs.wide.plus.Statement.{statement}
 use Rattle.norm.proofs.wide.plus.Tie as tie

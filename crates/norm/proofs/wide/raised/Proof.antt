@@ -1,7 +1,5 @@
 -- `norm::wide::raised` meets its contract: the digits that leave a word come in below the next. Assumes nothing.
-use mathlib.Core.Path.{_≡_}
-use Prim.Native.Nat.{_+_, _^_, _<_}
-use native.Mathlib.Omega.{arith}
+use Rattle.lists.specs.Prelude.{_≡_, _+_, _^_, _<_, arith}
 use Rattle.norm.proofs.Words.{joined-fits, spread-up}
 use Rattle.norm.proofs.wide.raised.Statement.{statement}
 use Rattle.norm.proofs.wide.raised.Tie as tie

@@ -1,53 +1,31 @@
--- `norm::wide::square` meets its contract, by the columns of `Words`. Assumes nothing.
-use mathlib.Core.Path.{sym, ap, _∙_}
-use Prim.Native.Nat.{ℕ, _*_, _/_, _%_, _^_}
-use native.Mathlib.Nat.{mod-lt}
-use native.Mathlib.Omega.{arith}
-use lib.Pow.{pow-pos, shr-lt, split}
-use Rattle.norm.specs.Squares.{columns}
-use Rattle.norm.proofs.Words.{Columns, columns-fit, high-fits, carried}
+-- `norm::wide::square` meets its contract, by columns of 32 digits, each of which fits. Assumes nothing.
+use Rattle.lists.specs.Prelude.{_≡_, sym, _∙_, ℕ, _+_, _*_, _/_, _%_, _^_, _<_, mod-lt, arith, pow-pos, shr-lt}
+use Rattle.norm.specs.Squares.{columns, mul-lt-pow}
 use Rattle.norm.proofs.wide.square.Statement.{statement}
 use Rattle.norm.proofs.wide.square.Tie as tie
 
-fit : (c : tie.Start) → Columns (c .args .s / 2 ^ 32) (c .args .s % 2 ^ 32)
-fit c = columns-fit (c .args .s / 2 ^ 32) (c .args .s % 2 ^ 32) (shr-lt 24 32 (c .pre)) (mod-lt (c .args .s) (pow-pos 32))
+fit : (c : tie.Start) → let s1 = c .args .s / 2 ^ 32 in let s0 = c .args .s % 2 ^ 32 in (s1 * s1 < 2 ^ 48) × (s1 * s0 < 2 ^ 56) × (s0 * s0 < 2 ^ 64)
+fit c =
+    let h = shr-lt 24 32 (c .pre) in
+    let l = mod-lt (c .args .s) (pow-pos 32) in
+    (mul-lt-pow 24 24 h h, mul-lt-pow 24 32 h l, mul-lt-pow 32 32 l l)
 
-mul-base : tie.Need-mul-base
-mul-base c = let f = fit c in omega (arith, f .base)
+high-fits : (h x y : ℕ) → h < 2 ^ 48 → x < 2 ^ 56 → y < 2 ^ 32 → h + (x * 2 + y) / 2 ^ 32 < 2 ^ 64
+high-fits h x y i j k = omega arith
 
-mul-cross : tie.Need-mul-cross
-mul-cross c = let f = fit c in omega (arith, f .cross)
-
-mul-cross-2 : tie.Need-mul-cross-2
-mul-cross-2 c = let f = fit c in omega (arith, f .cross)
-
-add-cross : tie.Need-add-cross
-add-cross c = let f = fit c in omega (arith, f .cross, f .base)
-
-mul-t6 : tie.Need-mul-t6
-mul-t6 c = let f = fit c in omega (arith, f .high)
-
-add-t7 : tie.Need-add-t7
-add-t7 c =
-    let f = fit c in
-    let s1 = c .args .s / 2 ^ 32 in
-    let s0 = c .args .s % 2 ^ 32 in
-    record { fits = high-fits (s1 * s1) (s1 * s0) (s0 * s0) (f .high) (f .cross) (f .base) }
-
-mul-t10 : tie.Need-mul-t10
-mul-t10 c = omega arith
-
-add-t12 : tie.Need-add-t12
-add-t12 c = omega arith
-
-returns : tie.Need-returns
-returns c =
-    let s = c .args .s in
-    let s1 = s / 2 ^ 32 in
-    let s0 = s % 2 ^ 32 in
-    carried (s1 * s1) (s1 * s0) (s0 * s0) ∙ sym (columns s1 s0 (2 ^ 32)) ∙ ap (λ (x : ℕ). x * x) (split s 32)
+-- the columns summed with their carries
+carried : (h x b : ℕ) → (h + (x * 2 + b / 2 ^ 32) / 2 ^ 32) * 2 ^ 64 + ((x * 2 + b / 2 ^ 32) % 2 ^ 32 * 2 ^ 32 + b % 2 ^ 32) ≡ h * 2 ^ 64 + x * 2 * 2 ^ 32 + b
+carried h x b = omega arith
 
 pub square-spec : {M : Type 1} → statement M
 square-spec =
     tie.close
-    (tie.spec mul-base mul-cross mul-cross-2 add-cross mul-t6 add-t7 mul-t10 add-t12 returns)
+    (tie.spec
+    (λ c. omega (arith, fit c .2))
+    (λ c. omega (arith, fit c .1))
+    (λ c. omega (arith, fit c .1))
+    (λ c. omega (arith, fit c .1, fit c .2))
+    (λ c. omega (arith, fit c .0))
+    (λ c. record { fits = high-fits _ _ _ (fit c .0) (fit c .1) (shr-lt 32 32 (fit c .2)) })
+    (λ c. omega arith) (λ c. omega arith)
+    (λ c. carried _ _ _ ∙ sym (columns (c .args .s))))

@@ -1,5 +1,5 @@
 -- `observables::answer::refused` meets its contract, by its test of the number. Assumes nothing.
-use borrow.Author.Tests.{eq-eqb, ne-eqb}
+use Rattle.lists.specs.Prelude.{eq-eqb, ne-eqb}
 use Rattle.observables.specs.Calls.{observed}
 use Rattle.observables.proofs.answer.refused.Statement.{statement}
 use Rattle.observables.proofs.answer.refused.Tie as tie

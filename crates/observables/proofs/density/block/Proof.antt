@@ -1,32 +1,24 @@
--- `observables::density::block` meets its contract: after a turns the first a rows are written. Assumes nothing.
-use mathlib.Core.Path.{_≡_, sym, ap, _∙_}
-use mathlib.Core.List.{List}
-use Prim.Native.Nat.{ℕ, _+_, _-_, _*_, _≤_}
-use native.Mathlib.Nat.{le-antisymm, le-trans}
-use native.Mathlib.Omega.{arith}
-use lib.Ieee.{Float}
-use lib.ListN.{length, replicate, length-replicate, length-take, length-drop}
-use denote.Ref.{now}
-use borrow.Author.Needs.{needs}
-use borrow.Rule.Slice.PartMut.{same-len-mid}
+-- `observables::density::block` meets its contract: after a steps the first a rows are written. Assumes nothing.
+use Rattle.lists.specs.Prelude.{_≡_, sym, ap, _∙_, List, ℕ, _+_, _-_, _*_, _≤_, le-antisymm, le-trans, arith, Float, length, replicate, length-replicate, length-take}
+use Rattle.lists.specs.Prelude.{length-drop, now, needs, same-len-mid}
 use Rattle.lists.specs.Indexed.{join}
-use Rattle.lists.specs.Turns.{join-more}
+use Rattle.lists.specs.Steps.{join-more}
 use Rattle.lists.specs.Reading.{length-join}
 use Rattle.lists.specs.Filling.{over, over-none, over-part}
 use Rattle.complex.specs.Arithmetic.{plusZero}
 use Rattle.complex.specs.Filling.{cells, length-cells}
-use Rattle.matrix.specs.Block.{layOut}
+use Rattle.block.specs.Block.{layOut}
 use Rattle.matrix.proofs.Filled.{block-made}
 use Rattle.two_time.specs.Layout.{readAs}
 use Rattle.two_time.specs.Places.{product-most}
-use Rattle.two_time.specs.Filling.{part-within}
-use Rattle.observables.specs.Density.{density}
+use Rattle.two_time.specs.Parts.{part-within}
+use Rattle.observables.specs.Density.{density, densityOf}
 use Rattle.observables.proofs.density.block.Statement.{statement}
 use Rattle.observables.proofs.density.block.Tie as tie
 
 abbrev Inv-loop : tie.InvT-loop
 Inv-loop lesser points orbitals time values₀ width a₀ values a =
-    (a ≤ orbitals) × (length values ≡ 512) × (values ≡ over values₀ (join a (λ i. cells orbitals (density (readAs points orbitals lesser) time i))))
+    (a ≤ orbitals) × (length values ≡ 512) × (values ≡ over values₀ (join a (λ i. cells orbitals (densityOf points orbitals lesser time i))))
 
 abbrev μ-loop : tie.MeasureT-loop
 μ-loop lesser points orbitals time values₀ width a₀ values a = orbitals - a
@@ -34,7 +26,7 @@ abbrev μ-loop : tie.MeasureT-loop
 abbrev start : tie.At-loop Inv-loop μ-loop → tie.Start Inv-loop μ-loop
 start c = c .before .before
 
--- this turn's row lies within the block
+-- this step's row lies within the block
 within : (c : tie.In-loop Inv-loop μ-loop) → let w = 2 * start (c .before) .args .orbitals in c .before .loop .a * w + w ≤ 512
 within c =
     let n = start (c .before) .args .orbitals in
@@ -83,7 +75,6 @@ block-spec =
     (λ c. let h = within c in omega arith)  -- part-values-start
     (λ c. let h = within c in omega arith)  -- part-values-end
     (λ c κs. let t = c .before in let h = within t in let i = t .before .loop .inv in (start (t .before) .pre, (t .loop-test .taken, simp (length-take, length-drop) (omega arith))))  -- row-requires
-    (λ c. search needs)  -- add-a
-    (λ c. search needs)  -- loop-less
+    (λ c. search needs) (λ c. search needs)  -- add-a, loop-less
     loop-again
     returns)

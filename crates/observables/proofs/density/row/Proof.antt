@@ -1,22 +1,16 @@
--- `observables::density::row` meets its contract: after b turns the first b entries of the row are written. Assumes nothing.
-use mathlib.Core.Path.{_≡_, refl, sym, ap, _∙_}
-use Prim.Native.Nat.{ℕ, _+_, _-_, _*_, _≤_, _<_}
-use native.Mathlib.Nat.{le-antisymm}
-use native.Mathlib.Omega.{arith}
-use lib.ListN.{length, length-set}
-use denote.Ref.{now}
-use borrow.Author.Needs.{needs}
+-- `observables::density::row` meets its contract: after b steps the first b entries of the row are written. Assumes nothing.
+use Rattle.lists.specs.Prelude.{_≡_, refl, sym, ap, _∙_, ℕ, _+_, _-_, _*_, _≤_, _<_, le-antisymm, arith, length, length-set, now, needs}
 use Rattle.lists.specs.Indexed.{join}
 use Rattle.lists.specs.Filling.{over, over-none, over-all}
 use Rattle.complex.specs.Filling.{cells, cells-next, length-cells}
 use Rattle.two_time.specs.Layout.{readAs}
-use Rattle.observables.specs.Density.{density}
+use Rattle.observables.specs.Density.{density, densityOf}
 use Rattle.observables.proofs.density.row.Statement.{statement}
 use Rattle.observables.proofs.density.row.Tie as tie
 
 abbrev Inv-loop : tie.InvT-loop
 Inv-loop lesser points orbitals time a out₀ b₀ out b =
-    (b ≤ orbitals) × (length out ≡ length out₀) × (out ≡ over out₀ (cells b (density (readAs points orbitals lesser) time a)))
+    (b ≤ orbitals) × (length out ≡ length out₀) × (out ≡ over out₀ (cells b (densityOf points orbitals lesser time a)))
 
 abbrev μ-loop : tie.MeasureT-loop
 μ-loop lesser points orbitals time a out₀ b₀ out b = orbitals - b
@@ -24,7 +18,7 @@ abbrev μ-loop : tie.MeasureT-loop
 abbrev start : tie.At-loop Inv-loop μ-loop → tie.Start Inv-loop μ-loop
 start c = c .before .before .before
 
--- the entry of this turn lies within the row, which is short
+-- the entry of this step lies within the row, which is short
 within : (c : tie.In-loop Inv-loop μ-loop) → (2 * c .before .loop .b + 1 < length (c .before .loop .out)) × (length (c .before .loop .out) ≤ 32)
 within c = let p = start (c .before) .pre in (omega (arith, p .1 .1, p .0 .orbitals-most), omega (arith, p .1 .1, p .0 .orbitals-most))
 
@@ -58,8 +52,7 @@ row-spec =
     (λ c. let h = within (c .before) in omega arith)  -- add-out
     (λ c. let h = within (c .before) in omega arith)  -- mul-out-4
     (λ c. let h = within (c .before) in simp length-set (omega arith))  -- slice-write-out-2
-    (λ c. search needs)  -- add-b
-    (λ c. search needs)  -- loop-less
+    (λ c. search needs) (λ c. search needs)  -- add-b, loop-less
     loop-again
     (λ c. c .before .loop .inv .1)  -- same-length
     returns)

@@ -1,7 +1,6 @@
 -- `observables::product::observable_entry` meets its contract: the entry is there to be read. Assumes nothing.
-use mathlib.Core.Path.{_∙_}
-use denote.Ref.{now}
-use Rattle.observables.specs.Lent.{block-placed, block-room, block-read}
+use Rattle.lists.specs.Prelude.{_∙_, now}
+use Rattle.observables.specs.Passed.{block-placed, block-room, block-read}
 use Rattle.observables.proofs.product.observable_entry.Statement.{statement}
 use Rattle.observables.proofs.product.observable_entry.Tie as tie
 

@@ -1,22 +1,16 @@
--- `observables::product::trace` meets its contract: after a turns the sum has the first a entries of the diagonal. Assumes nothing.
-use mathlib.Core.Path.{_≡_, sym, _∙_}
-use Prim.Native.Nat.{_-_, _≤_}
-use native.Mathlib.Nat.{le-antisymm}
-use native.Mathlib.Omega.{arith}
-use borrow.Author.Needs.{needs}
+-- `observables::product::trace` meets its contract: after a steps the sum has the first a entries of the diagonal. Assumes nothing.
+use Rattle.lists.specs.Prelude.{_≡_, sym, _∙_, _-_, _≤_, le-antisymm, arith, needs}
 use Rattle.complex.specs.Arithmetic.{czero}
 use Rattle.complex.specs.Sum.{sumFrom}
 use Rattle.complex.specs.Agreement.{sum-more, sum-none}
-use Rattle.matrix.specs.Block.{entriesIn}
-use Rattle.matrix.specs.Operations.{product, trace}
-use Rattle.two_time.specs.Layout.{readAs}
-use Rattle.observables.specs.Density.{density}
+use Rattle.block.specs.Operations.{product, trace}
+use Rattle.observables.specs.Density.{productOf}
 use Rattle.observables.proofs.product.trace.Statement.{statement}
 use Rattle.observables.proofs.product.trace.Tie as tie
 
 abbrev Inv-loop : tie.InvT-loop
 Inv-loop values lesser points orbitals time sum₀ a₀ sum a =
-    (a ≤ orbitals) × (sum ≡ sumFrom czero (λ k. product orbitals (entriesIn orbitals values) (density (readAs points orbitals lesser) time) k k) 0 a)
+    (a ≤ orbitals) × (sum ≡ sumFrom czero (λ k. productOf points orbitals values lesser time k k) 0 a)
 
 abbrev μ-loop : tie.MeasureT-loop
 μ-loop values lesser points orbitals time sum₀ a₀ sum a = orbitals - a
@@ -30,8 +24,6 @@ trace-spec =
     μ-loop
     (λ c. (omega arith, sym (sum-none czero _ 0)))  -- loop-holds
     (λ c κs. let h = c .before .before .before .before .pre in (h .0, (c .loop-test .taken, c .loop-test .taken, h .1)))  -- entry-requires
-    (λ c κs. search needs)  -- plus-requires
-    (λ c. search needs)  -- add-a
-    (λ c. search needs)  -- loop-less
+    (λ c κs. search needs) (λ c. search needs) (λ c. search needs)  -- plus-requires, add-a, loop-less
     (λ c. (omega arith, rw (c .plus .ensures, c .before .entry .ensures, c .before .before .before .loop .inv .1, sum-more)))  -- loop-again
     (λ c. c .before .loop .inv .1 ∙ rw (le-antisymm (c .before .loop .inv .0) (c .loop-test .left))))  -- returns

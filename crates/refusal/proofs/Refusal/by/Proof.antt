@@ -1,5 +1,5 @@
 -- `refusal::Refusal::by` meets its contract, which computes. Assumes nothing.
-use mathlib.Core.Path.{refl}
+use Rattle.lists.specs.Prelude.{refl}
 use Rattle.refusal.proofs.Refusal.by.Statement.{statement}
 use Rattle.refusal.proofs.Refusal.by.Tie as tie
 

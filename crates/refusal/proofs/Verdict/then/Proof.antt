@@ -1,5 +1,5 @@
 -- `refusal::Verdict::then` meets its contract, by the case that the match found. Assumes nothing.
-use borrow.Author.Needs.{needs}
+use Rattle.lists.specs.Prelude.{needs}
 use Rattle.refusal.specs.Verdict.{_then_}
 use Rattle.refusal.proofs.Verdict.then.Statement.{statement}
 use Rattle.refusal.proofs.Verdict.then.Tie as tie
@@ -9,7 +9,6 @@ unfolding _then_
 then-spec =
     tie.close
     (tie.spec
-    (λ c. search needs)  -- enum-told
-    (λ c. search needs)  -- enum-known-self
+    (λ c. search needs) (λ c. search needs)  -- enum-told, enum-known-self
     (λ c. rw (c .enum-told .given .1))  -- returns
     (λ c. rw (c .before .self .given .1)))  -- returns-2

@@ -1,6 +1,5 @@
 -- `replay::blocks::block` is safe and ends: a block has 512 numbers. Assumes nothing.
-use Prim.Native.Nat.{_≤_, _-_}
-use borrow.Author.Needs.{needs}
+use Rattle.lists.specs.Prelude.{_≤_, _-_, needs}
 use Rattle.replay.proofs.blocks.block.Statement.{statement}
 use Rattle.replay.proofs.blocks.block.Tie as tie
 

@@ -1,10 +1,5 @@
 -- `replay::lent::output` is safe and ends: the count is at most the slice's length, which stays. Assumes nothing.
-use mathlib.Core.Path.{_≡_, sym}
-use Prim.Native.Nat.{_≤_, _-_}
-use native.Mathlib.Omega.{arith}
-use lib.ListN.{length}
-use lib.Seq.{length-take-le}
-use borrow.Author.Needs.{needs}
+use Rattle.lists.specs.Prelude.{_≡_, sym, _≤_, _-_, arith, length, length-take-le, needs}
 use Rattle.replay.proofs.lent.output.Statement.{statement}
 use Rattle.replay.proofs.lent.output.Tie as tie
 

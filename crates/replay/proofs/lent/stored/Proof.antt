@@ -1,8 +1,5 @@
 -- `replay::lent::stored` is safe and ends: there are at most nine slices, and the numbers keep their count. Assumes nothing.
-use mathlib.Core.Path.{_≡_}
-use Prim.Native.Nat.{_≤_, _-_}
-use lib.ListN.{length}
-use borrow.Author.Needs.{needs}
+use Rattle.lists.specs.Prelude.{_≡_, _≤_, _-_, length, needs}
 use Rattle.replay.proofs.lent.stored.Statement.{statement}
 use Rattle.replay.proofs.lent.stored.Tie as tie
 

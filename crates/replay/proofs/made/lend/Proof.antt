@@ -1,8 +1,5 @@
 -- `replay::made::lend` is safe and ends: there is room for the times and the function after them. Assumes nothing.
-use mathlib.Core.Path.{sym}
-use native.Mathlib.Omega.{arith}
-use lib.Seq.{length-take-le}
-use borrow.Author.Needs.{needs}
+use Rattle.lists.specs.Prelude.{sym, arith, length-take-le, needs}
 use Rattle.replay.proofs.made.lend.Statement.{statement}
 use Rattle.replay.proofs.made.lend.Tie as tie
 

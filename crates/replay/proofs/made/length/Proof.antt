@@ -1,8 +1,5 @@
 -- `replay::made::length` is at most 131072, is safe and ends: 256 points and 16 orbitals are the most that are multiplied. Assumes nothing.
-use Prim.Native.Nat.{ℕ, _*_, _≤_}
-use native.Mathlib.Nat.{le-trans, mul-le-mul-left, mul-le-mul-right}
-use native.Mathlib.Omega.{arith}
-use borrow.Author.Needs.{needs}
+use Rattle.lists.specs.Prelude.{ℕ, _*_, _≤_, le-trans, mul-le-mul-left, mul-le-mul-right, arith, needs}
 use Rattle.replay.proofs.made.length.Statement.{statement}
 use Rattle.replay.proofs.made.length.Tie as tie
 

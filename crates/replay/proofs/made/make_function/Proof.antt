@@ -1,8 +1,5 @@
 -- `replay::made::make_function` is safe and ends: the slice keeps its length. Assumes nothing.
-use mathlib.Core.Path.{_≡_}
-use Prim.Native.Nat.{_≤_, _-_}
-use lib.ListN.{length}
-use borrow.Author.Needs.{needs}
+use Rattle.lists.specs.Prelude.{_≡_, _≤_, _-_, length, needs}
 use Rattle.replay.proofs.made.make_function.Statement.{statement}
 use Rattle.replay.proofs.made.make_function.Tie as tie
 

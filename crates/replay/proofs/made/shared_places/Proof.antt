@@ -1,6 +1,5 @@
 -- `replay::made::shared_places` is safe and ends: there are nine slices. Assumes nothing.
-use Prim.Native.Nat.{_≤_, _-_}
-use borrow.Author.Needs.{needs}
+use Rattle.lists.specs.Prelude.{_≤_, _-_, needs}
 use Rattle.replay.proofs.made.shared_places.Statement.{statement}
 use Rattle.replay.proofs.made.shared_places.Tie as tie
 

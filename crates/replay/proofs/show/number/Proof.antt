@@ -1,6 +1,6 @@
 -- `replay::show::number` is safe and ends: what reaches `to_bits` equals itself, so it is no NaN. Assumes nothing.
-use borrow.Author.Needs.{needs}
-use Rattle.norm.specs.Sizes.{equals-itself}
+use Rattle.lists.specs.Prelude.{needs}
+use Rattle.complex.specs.Bits.{equals-itself}
 use Rattle.replay.proofs.show.number.Statement.{statement}
 use Rattle.replay.proofs.show.number.Tie as tie
 

@@ -1,9 +1,5 @@
 -- `replay::show::values` is safe and ends: the count is at most the length. Assumes nothing.
-use mathlib.Core.Path.{sym}
-use Prim.Native.Nat.{_≤_}
-use lib.ListN.{length}
-use lib.Seq.{length-take-le}
-use borrow.Author.Needs.{needs}
+use Rattle.lists.specs.Prelude.{sym, _≤_, length, length-take-le, needs}
 use Rattle.replay.proofs.show.values.Statement.{statement}
 use Rattle.replay.proofs.show.values.Tie as tie
 

@@ -1,8 +1,5 @@
 -- `replay::words::slice` is safe and ends: there is room to its end, and the numbers keep their count. Assumes nothing.
-use mathlib.Core.Path.{_≡_}
-use Prim.Native.Nat.{_≤_, _-_, _+_}
-use lib.ListN.{length}
-use borrow.Author.Needs.{needs}
+use Rattle.lists.specs.Prelude.{_≡_, _≤_, _-_, _+_, length, needs}
 use Rattle.replay.proofs.words.slice.Statement.{statement}
 use Rattle.replay.proofs.words.slice.Tie as tie
 

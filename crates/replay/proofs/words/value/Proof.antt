@@ -1,7 +1,5 @@
 -- `replay::words::value` is safe and ends: there are 16 digits, and four bits are free for each. Assumes nothing.
-use Prim.Native.Nat.{_≤_, _-_}
-use native.Mathlib.Omega.{arith}
-use borrow.Author.Needs.{needs}
+use Rattle.lists.specs.Prelude.{_≤_, _-_, arith, needs}
 use Rattle.replay.proofs.words.value.Statement.{statement}
 use Rattle.replay.proofs.words.value.Tie as tie
 

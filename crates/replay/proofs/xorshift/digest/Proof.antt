@@ -1,7 +1,5 @@
 -- `replay::xorshift::digest` is safe and ends: each number is read below the length. Assumes nothing.
-use Prim.Native.Nat.{_≤_, _-_}
-use lib.ListN.{length}
-use borrow.Author.Needs.{needs}
+use Rattle.lists.specs.Prelude.{_≤_, _-_, length, needs}
 use Rattle.replay.proofs.xorshift.digest.Statement.{statement}
 use Rattle.replay.proofs.xorshift.digest.Tie as tie
 

@@ -1,6 +1,5 @@
 -- `report::identities::entry` meets its contract: every number on the way to the place fits, and the place lies in the slice. Assumes nothing.
-use native.Mathlib.Omega.{arith}
-use borrow.Author.Needs.{needs}
+use Rattle.lists.specs.Prelude.{arith, needs}
 use Rattle.two_time.specs.Places.{Within, within}
 use Rattle.report.proofs.identities.entry.Statement.{statement}
 use Rattle.report.proofs.identities.entry.Tie as tie
@@ -10,8 +9,7 @@ at c = within (c .before .pre .0)
 
 pub entry-spec : {M : Type 1} → statement M
 entry-spec =
-    tie.close
-    (tie.spec
+    tie.close (tie.spec
     (λ c. let w = at c in omega arith)  -- mul-at
     (λ c. let w = at c in omega arith)  -- add-at
     (λ c. let w = at c in omega arith)  -- mul-at-2

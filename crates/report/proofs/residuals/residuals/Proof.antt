@@ -1,12 +1,10 @@
 -- `report::residuals::residuals` meets its contract: each field is its identity's residual. Assumes nothing.
-use Rattle.report.specs.Identities.{fields-agree}
 use Rattle.report.proofs.residuals.residuals.Statement.{statement}
 use Rattle.report.proofs.residuals.residuals.Tie as tie
 
 pub residuals-spec : {M : Type 1} → statement M
 residuals-spec =
-    tie.close
-    (tie.spec
+    tie.close (tie.spec
     (λ c κs. c .before .before .before .before .pre)  -- residual-requires
     (λ c κs. c .before .before .before .before .before .pre)  -- residual-requires-2
     (λ c κs. c .before .before .before .before .before .before .pre)  -- residual-requires-3
@@ -15,7 +13,6 @@ residuals-spec =
     (λ c κs. c .before .before .before .before .before .before .before .before .before .pre)  -- residual-requires-6
     (λ c.
     let g = c .before in
-    let l = g .before in
-    let j = l .before in
+    let j = g .before .before in
     let a = j .before in
-    fields-agree (a .before .residual .ensures) (a .residual2 .ensures) (j .residual3 .ensures) (l .residual4 .ensures) (g .residual5 .ensures) (c .residual6 .ensures)))  -- returns
+    rw (a .before .residual .ensures, a .residual2 .ensures, j .residual3 .ensures, g .before .residual4 .ensures, g .residual5 .ensures, c .residual6 .ensures)))  -- returns

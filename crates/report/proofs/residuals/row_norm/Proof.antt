@@ -1,13 +1,9 @@
--- `report::residuals::row_norm` meets its contract: after b turns the first b entries of the row are seen. Assumes nothing.
-use mathlib.Core.Path.{_≡_, ap, _∙_}
-use Prim.Native.Nat.{_-_, _≤_}
-use native.Mathlib.Nat.{le-antisymm}
-use native.Mathlib.Omega.{arith}
-use borrow.Author.Needs.{needs}
+-- `report::residuals::row_norm` meets its contract: after b steps the first b entries of the row are seen. Assumes nothing.
+use Rattle.lists.specs.Prelude.{_≡_, sym, _∙_, _-_, _≤_, le-antisymm, arith, needs}
+use Rattle.lists.specs.Steps.{fold-none, fold-more}
 use Rattle.complex.specs.Sum.{largestFrom}
-use Rattle.matrix.specs.Operations.{cnorm}
-use Rattle.report.specs.Identities.{deviationOf}
-use Rattle.report.specs.Largest.{largest-none, largest-more}
+use Rattle.block.specs.Operations.{cnorm}
+use Rattle.report.specs.Residuals.{deviationOf}
 use Rattle.report.proofs.residuals.row_norm.Statement.{statement}
 use Rattle.report.proofs.residuals.row_norm.Tie as tie
 
@@ -24,15 +20,11 @@ deviation-requires c κs =
     (record { first = h .0 .0; second = h .0 .1; row = h .0 .2; column = c .loop-test .taken; stride-most = h .1 .points-most; orbitals-most = h .1 .orbitals-most }, h .1)
 
 pub row-norm-spec : {M : Type 1} → statement M
+unfolding largestFrom
 row-norm-spec =
-    tie.close
-    (tie.spec
-    Inv-loop
-    μ-loop
-    (λ c. (omega arith, largest-none _ _))  -- loop-holds
+    tie.close (tie.spec Inv-loop μ-loop
+    (λ c. (omega arith, sym (fold-none _ _)))  -- loop-holds
     deviation-requires
-    (λ c κs. search needs)  -- larger-norm-requires
-    (λ c. search needs)  -- add-b
-    (λ c. search needs)  -- loop-less
-    (λ c. (omega arith, largest-more _ _ _ (c .before .before .before .loop .inv .1) (ap cnorm (c .before .deviation .ensures)) (c .larger-norm .ensures)))  -- loop-again
+    (λ c κs. search needs) (λ c. search needs) (λ c. search needs)  -- larger-norm-requires, add-b, loop-less
+    (λ c. (omega arith, rw (c .larger-norm .ensures, c .before .deviation .ensures, c .before .before .before .loop .inv .1, fold-more)))  -- loop-again
     (λ c. c .before .loop .inv .1 ∙ rw (le-antisymm (c .before .loop .inv .0) (c .loop-test .left))))  -- returns

@@ -1,13 +1,9 @@
--- `report::residuals::time_norm` meets its contract: after u turns the first u places are seen. Assumes nothing.
-use mathlib.Core.Path.{_≡_, refl, sym, subst, _∙_}
-use Prim.Native.Nat.{_-_, _≤_}
-use native.Mathlib.Nat.{le-antisymm}
-use native.Mathlib.Omega.{arith}
-use borrow.Author.Needs.{needs}
+-- `report::residuals::time_norm` meets its contract: after u steps the first u places are seen. Assumes nothing.
+use Rattle.lists.specs.Prelude.{_≡_, sym, subst, _∙_, _-_, _≤_, le-antisymm, arith, needs}
+use Rattle.lists.specs.Steps.{fold-none, fold-more}
 use Rattle.complex.specs.Sum.{largestFrom}
 use Rattle.largest.specs.Larger.{FromZero, raised-from}
-use Rattle.report.specs.Identities.{residualAt}
-use Rattle.report.specs.Largest.{largest-none, largest-more}
+use Rattle.report.specs.Residuals.{residualAt}
 use Rattle.report.proofs.residuals.time_norm.Statement.{statement}
 use Rattle.report.proofs.residuals.time_norm.Tie as tie
 
@@ -24,14 +20,11 @@ place-norm-requires c κs =
     ((h .0 .0, c .loop-test .taken, subst FromZero (sym (c .before .loop .inv .1)) (raised-from _ _ _ (h .0 .1))), h .1)
 
 pub time-norm-spec : {M : Type 1} → statement M
+unfolding largestFrom
 time-norm-spec =
-    tie.close
-    (tie.spec
-    Inv-loop
-    μ-loop
-    (λ c. (omega arith, largest-none _ _))  -- loop-holds
+    tie.close (tie.spec Inv-loop μ-loop
+    (λ c. (omega arith, sym (fold-none _ _)))  -- loop-holds
     place-norm-requires
-    (λ c. search needs)  -- add-u
-    (λ c. search needs)  -- loop-less
-    (λ c. (omega arith, largest-more _ _ _ (c .before .before .loop .inv .1) refl (c .place-norm .ensures)))  -- loop-again
+    (λ c. search needs) (λ c. search needs)  -- add-u, loop-less
+    (λ c. (omega arith, rw (c .place-norm .ensures, c .before .before .loop .inv .1, fold-more)))  -- loop-again
     (λ c. c .before .loop .inv .1 ∙ rw (le-antisymm (c .before .loop .inv .0) (c .loop-test .left))))  -- returns

@@ -1,8 +1,5 @@
 -- `run_file::bytes::byte` meets its contract: past the end it answers 0. Assumes nothing.
-use mathlib.Core.Path.{refl, sym}
-use native.Mathlib.Omega.{arith}
-use lib.ListN.{List·getD-eq-default}
-use borrow.Author.Needs.{needs}
+use Rattle.lists.specs.Prelude.{refl, sym, arith, List·getD-eq-default, needs}
 use Rattle.run_file.proofs.bytes.byte.Statement.{statement}
 use Rattle.run_file.proofs.bytes.byte.Tie as tie
 

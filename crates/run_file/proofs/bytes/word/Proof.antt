@@ -1,8 +1,5 @@
--- `run_file::bytes::word` meets its contract: after k turns it has the number of the last k bytes. Assumes nothing.
-use mathlib.Core.Path.{_≡_, ap₂, _∙_}
-use Prim.Native.Nat.{ℕ, _+_, _-_, _*_, _^_, _≤_, _<_}
-use native.Mathlib.Omega.{arith}
-use borrow.Author.Needs.{needs}
+-- `run_file::bytes::word` meets its contract: after k steps it has the number of the last k bytes. Assumes nothing.
+use Rattle.lists.specs.Prelude.{_≡_, ap₂, _∙_, ℕ, _+_, _-_, _*_, _^_, _≤_, _<_, arith, needs}
 use Rattle.run_file.specs.Bytes.{littleEndian}
 use Rattle.run_file.specs.LittleEndian.{no-bytes, byte-below, all-bytes, byte-more, bytes-fit}
 use Rattle.run_file.proofs.bytes.word.Statement.{statement}
@@ -23,7 +20,7 @@ loop-again c =
       byte-more _ _ _ (i .2) (told .1),
     )
 
--- what the next turn makes fits
+-- what the next step makes fits
 room : tie.Need-add-n Inv μ
 room c =
     let i = c .before .before .loop .inv in

@@ -1,6 +1,5 @@
 -- `run_file::decoding::body_length` meets its contract. Assumes nothing.
-use mathlib.Core.Path.{_∙_}
-use borrow.Author.Needs.{needs}
+use Rattle.lists.specs.Prelude.{_∙_, needs}
 use Rattle.run_file.specs.Table.{uncut}
 use Rattle.run_file.proofs.decoding.body_length.Statement.{statement}
 use Rattle.run_file.proofs.decoding.body_length.Tie as tie
@@ -11,6 +10,5 @@ body-length-spec =
     (tie.spec
     (λ c κs. search needs)  -- function-length-requires
     (λ c.
-    let few = c .before .pre in
-    let same = c .function-length .ensures ∙ uncut _ _ (few .0) (few .1) in
-    (same, rw same (few .2))))  -- returns
+    let same = c .function-length .ensures ∙ uncut (c .before .pre) in
+    (same, rw same (c .before .pre .few-numbers))))  -- returns

@@ -1,11 +1,7 @@
--- `run_file::decoding::numbers` meets its contract: after k turns the first k numbers are written over. Assumes nothing.
-use mathlib.Core.Path.{_≡_}
-use Prim.Native.Nat.{_≤_, _+_, _-_, _*_}
-use native.Mathlib.Omega.{arith}
-use lib.ListN.{length, length-set}
-use borrow.Author.Needs.{needs}
+-- `run_file::decoding::numbers` meets its contract: after k steps the first k numbers are written over. Assumes nothing.
+use Rattle.lists.specs.Prelude.{_≡_, _≤_, _+_, _-_, _*_, arith, length, length-set, needs}
 use Rattle.lists.specs.Filling.{over}
-use Rattle.lists.specs.Singles.{singles, singles-none, singles-turn}
+use Rattle.lists.specs.Singles.{singles, singles-none, singles-step}
 use Rattle.run_file.specs.Bytes.{number}
 use Rattle.run_file.specs.LittleEndian.{all-numbers}
 use Rattle.run_file.proofs.decoding.numbers.Statement.{statement}
@@ -22,7 +18,7 @@ loop-again c =
     let i = c .before .before .before .loop .inv in (
       omega arith,
       simp length-set (i .1),
-      rw (i .2, c .from-bits .ensures, c .before .word .ensures) (singles-turn _ (λ j. number _ _) (c .before .before .before .loop .k) (omega arith)),
+      rw (i .2, c .from-bits .ensures, c .before .word .ensures) (singles-step _ (λ j. number _ _) (c .before .before .before .loop .k) (omega arith)),
     )
 
 pub numbers-spec : {M : Type 1} → statement M

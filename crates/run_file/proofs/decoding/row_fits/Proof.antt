@@ -1,5 +1,5 @@
 -- `run_file::decoding::row_fits` meets its contract. Assumes nothing.
-use borrow.Author.Needs.{needs}
+use Rattle.lists.specs.Prelude.{needs}
 use Rattle.run_file.proofs.decoding.row_fits.Statement.{statement}
 use Rattle.run_file.proofs.decoding.row_fits.Tie as tie
 

@@ -1,5 +1,5 @@
 -- `run_file::decoding::table_fits` meets its contract. Assumes nothing.
-use borrow.Author.Needs.{needs}
+use Rattle.lists.specs.Prelude.{needs}
 use Rattle.run_file.specs.Table.{table-rows}
 use Rattle.run_file.proofs.decoding.table_fits.Statement.{statement}
 use Rattle.run_file.proofs.decoding.table_fits.Tie as tie
@@ -11,10 +11,10 @@ table-fits-spec =
     (λ c κs. search needs)  -- body-length-requires
     (λ c. search needs)  -- mul-free
     (λ c. search needs)  -- add-free
-    (λ c. search needs)  -- mul-sigma
-    (λ c. search needs)  -- add-sigma
-    (λ c. search needs)  -- mul-source
-    (λ c. search needs)  -- add-source
+    (λ c. search needs)  -- mul-self-energy
+    (λ c. search needs)  -- add-self-energy
+    (λ c. search needs)  -- mul-lesser-self-energy
+    (λ c. search needs)  -- add-lesser-self-energy
     (λ c κs. search needs)  -- row-fits-requires
     (λ c. search needs)  -- mul-last
     (λ c. search needs)  -- add-last

@@ -1,8 +1,5 @@
 -- `run_file::text::hex_digit` meets its contract. Assumes nothing.
-use mathlib.Core.Path.{_≡_}
-use Prim.Native.Nat.{ℕ, _+_, _≤_, _<_}
-use borrow.Author.Needs.{needs}
-use borrow.Author.Tests.{lt-ltb, le-ltb}
+use Rattle.lists.specs.Prelude.{_≡_, ℕ, _+_, _≤_, _<_, needs, lt-ltb, le-ltb}
 use Rattle.run_file.specs.Text.{hexDigit}
 use Rattle.run_file.proofs.text.hex_digit.Statement.{statement}
 use Rattle.run_file.proofs.text.hex_digit.Tie as tie

@@ -1,11 +1,7 @@
--- `run_file::text::hexadecimal` meets its contract: after k turns the k highest digits are written. Assumes nothing.
-use mathlib.Core.Path.{_≡_, refl, ap, _∙_}
-use Prim.Native.Nat.{ℕ, _+_, _-_, _/_, _^_, _≤_, _<_}
-use native.Mathlib.Omega.{arith}
-use lib.ListN.{length, length-set}
-use borrow.Author.Needs.{needs}
+-- `run_file::text::hexadecimal` meets its contract: after k steps the k highest digits are written. Assumes nothing.
+use Rattle.lists.specs.Prelude.{_≡_, refl, ap, _∙_, ℕ, _+_, _-_, _/_, _^_, _≤_, _<_, arith, length, length-set, needs}
 use Rattle.run_file.specs.Text.{hexadecimal}
-use Rattle.run_file.specs.Writing.{Appended}
+use Rattle.run_file.specs.Appended.{Appended}
 use Rattle.run_file.specs.Digits.{unit-above-0, next-unit, hex-none, hex-more, hex-all}
 use Rattle.run_file.proofs.text.hexadecimal.Statement.{statement}
 use Rattle.run_file.proofs.text.hexadecimal.Tie as tie

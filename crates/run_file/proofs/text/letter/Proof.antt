@@ -1,7 +1,6 @@
 -- `run_file::text::letter` meets its contract. Assumes nothing.
-use mathlib.Core.Path.{refl}
-use borrow.Author.Needs.{needs}
-use Rattle.run_file.specs.Writing.{one-byte}
+use Rattle.lists.specs.Prelude.{refl, needs}
+use Rattle.run_file.specs.Appended.{one-byte}
 use Rattle.run_file.proofs.text.letter.Statement.{statement}
 use Rattle.run_file.proofs.text.letter.Tie as tie
 

@@ -1,10 +1,6 @@
--- `run_file::text::letters` meets its contract: after i turns the first i letters are written. Assumes nothing.
-use mathlib.Core.Path.{_≡_, refl}
-use Prim.Native.Nat.{_+_, _-_, _≤_}
-use native.Mathlib.Omega.{arith}
-use lib.ListN.{length, take, length-set}
-use borrow.Author.Needs.{needs}
-use Rattle.run_file.specs.Writing.{Appended, no-letter, letter-more, letters-all}
+-- `run_file::text::letters` meets its contract: after i steps the first i letters are written. Assumes nothing.
+use Rattle.lists.specs.Prelude.{_≡_, refl, _+_, _-_, _≤_, arith, length, take, length-set, needs}
+use Rattle.run_file.specs.Appended.{Appended, no-letter, letter-more, letters-all}
 use Rattle.run_file.proofs.text.letters.Statement.{statement}
 use Rattle.run_file.proofs.text.letters.Tie as tie
 

@@ -1,7 +1,6 @@
 -- `run_file::text::refused_line` meets its contract. Assumes nothing.
-use native.Mathlib.Omega.{arith}
-use borrow.Author.Needs.{needs}
-use Rattle.run_file.specs.Writing.{both-words, as-text}
+use Rattle.lists.specs.Prelude.{arith, needs}
+use Rattle.run_file.specs.Appended.{both-words, as-text}
 use Rattle.run_file.specs.Lines.{refused-words}
 use Rattle.run_file.proofs.text.refused_line.Statement.{statement}
 use Rattle.run_file.proofs.text.refused_line.Tie as tie

@@ -1,6 +1,5 @@
 -- `run_file::text::tens` meets its contract. Assumes nothing.
-use native.Mathlib.Omega.{arith}
-use borrow.Author.Needs.{needs}
+use Rattle.lists.specs.Prelude.{arith, needs}
 use Rattle.run_file.specs.Digits.{one-digit, last-digit}
 use Rattle.run_file.proofs.text.tens.Statement.{statement}
 use Rattle.run_file.proofs.text.tens.Tie as tie

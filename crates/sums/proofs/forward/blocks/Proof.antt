@@ -1,45 +1,35 @@
 -- `sums::forward::blocks` meets its contract: after the groups before u the first u blocks of row t are finite and written, and the rows before are as they were.
 -- Assumes nothing.
-use mathlib.Core.Path.{_≡_, refl, sym, ap, _∙_}
-use mathlib.Core.Bool.{true}
-use mathlib.Core.List.{List, [], _∷_}
-use Prim.Native.Nat.{ℕ, _+_, _-_, _*_, _≤_}
-use native.Mathlib.Nat.{le-antisymm, zero-mul}
-use native.Mathlib.Omega.{arith}
-use lib.ListN.{length}
-use lib.Ieee.{Float}
-use denote.Ref.{now}
-use borrow.Author.Needs.{needs}
-use borrow.Author.Tests.{not-true, not-false}
-use borrow.Rule.Slice.PartMut.{putMid, put-same}
+use Rattle.lists.specs.Prelude.{_≡_, refl, sym, ap, _∙_, true, List, [], _∷_, ℕ, _+_, _-_, _*_, _≤_, le-antisymm, zero-mul, arith, length, Float, now, needs, not-true}
+use Rattle.lists.specs.Prelude.{not-false, putMid, put-same}
 use Rattle.lists.specs.Indexed.{allBelow, join}
 use Rattle.lists.specs.Agreement.{never, all-agree, join-agree}
 use Rattle.refusal.specs.declared.Verdict.the-variants.{Pass}
-use Rattle.two_time.specs.Calls.{sizeLines}
-use Rattle.two_time.specs.SizeLines.{SizesPassed, sizes-passed, sizes-pass, long-first, long-also, long-none}
-use Rattle.groups.specs.Forward.{forwardFine, forwardBlock, rowAt, Sizes, sizes-of}
+use Rattle.two_time.specs.Calls.{sizeChecks}
+use Rattle.two_time.specs.SizeChecks.{SizesPassed, sizes-passed, sizes-pass, long-first, long-also, long-none}
+use Rattle.groups.specs.Forward.{forwardFinite, forwardBlock, rowAt, Sizes, sizes-of}
 use Rattle.groups.specs.Groups.{Grouped, forward-finite, forward-overflow}
-use Rattle.sums.specs.Parts.{all-add, all-failed}
-use Rattle.sums.specs.Forward.{same-fine, same-block, forward-more}
+use Rattle.lanes.specs.Filled.{all-add, all-failed}
+use Rattle.sums.specs.Forward.{same-finite, same-block, forward-more}
 use Rattle.sums.proofs.forward.blocks.Statement.{statement}
 use Rattle.sums.proofs.forward.blocks.Tie as tie
 
 abbrev Inv-loop : tie.InvT-loop
-Inv-loop times free kernel points n t green₀ u₀ green u =
-    (u ≤ t + 1) × (length green ≡ length green₀) × (allBelow u (forwardFine points n times free kernel green₀ t) ≡ true)
-    × (green ≡ putMid (rowAt points n t) (u * (2 * (n * n))) green₀ (join u (forwardBlock points n times free kernel green₀ t)))
+Inv-loop times free kernel points n t retarded₀ u₀ retarded u =
+    (u ≤ t + 1) × (length retarded ≡ length retarded₀) × (allBelow u (forwardFinite points n times free kernel retarded₀ t) ≡ true)
+    × (retarded ≡ putMid (rowAt points n t) (u * (2 * (n * n))) retarded₀ (join u (forwardBlock points n times free kernel retarded₀ t)))
 
 abbrev μ-loop : tie.MeasureT-loop
-μ-loop times free kernel points n t green₀ u₀ green u = t + 1 - u
+μ-loop times free kernel points n t retarded₀ u₀ retarded u = t + 1 - u
 
 abbrev start : tie.At-loop Inv-loop μ-loop → tie.Start Inv-loop μ-loop
 start l = l .before .before .before .before .before
 
-passed : (s : tie.Start Inv-loop μ-loop) → let x = s .args in SizesPassed (x .points) (x .orbitals) true (now (x .free) ∷ now (x .kernel) ∷ now (x .green) ∷ [])
+passed : (s : tie.Start Inv-loop μ-loop) → let x = s .args in SizesPassed (x .points) (x .orbitals) true (now (x .free) ∷ now (x .kernel) ∷ now (x .retarded) ∷ [])
 passed s = sizes-passed _ _ _ _ (s .pre .1)
 
 -- the slices keep their length
-still : (l : tie.At-loop Inv-loop μ-loop) → let x = start l .args in sizeLines (x .points) (x .orbitals) true (now (x .free) ∷ now (x .kernel) ∷ l .loop .green ∷ []) ≡ Pass
+still : (l : tie.At-loop Inv-loop μ-loop) → let x = start l .args in sizeChecks (x .points) (x .orbitals) true (now (x .free) ∷ now (x .kernel) ∷ l .loop .retarded ∷ []) ≡ Pass
 still l =
     let z = passed (start l) in
     let f = long-first _ _ _ (z .long) in
@@ -48,21 +38,19 @@ still l =
     sizes-pass _ z (long-also _ _ _ (f .0) (long-also _ _ _ (k .0) (long-also _ _ _ (l .loop .inv .1 ∙ g .0) (long-none _))))
 
 -- row t lies within the slice
-row : (s : tie.Start Inv-loop μ-loop) → let x = s .args in Sizes (x .points) (x .orbitals) (x .t) (length (now (x .green)))
+row : (s : tie.Start Inv-loop μ-loop) → let x = s .args in Sizes (x .points) (x .orbitals) (x .t) (length (now (x .retarded)))
 row s =
     let z = passed s in
     let g = long-first _ _ _ (long-first _ _ _ (long-first _ _ _ (z .long) .1) .1) in
     sizes-of _ _ _ _ (s .pre .0) (z .points-most) (z .orbitals-most) (g .0)
 
--- this turn's group
+-- this step's group
 part : (w : tie.After-group-places Inv-loop μ-loop) → let l = w .before .before in let x = start l .args in
     Grouped (x .points) (x .orbitals) (x .t) (l .loop .u) (w .group-places .result) × (l .loop .u + w .group-places .result ≤ x .t + 1)
 part w =
     let i = w .before in
     let s = start (i .before) in
-    let g = w .group-places .ensures in
-    let z = passed s in
-    let h = i .loop-test .taken in
+    let g = w .group-places .ensures in let z = passed s in let h = i .loop-test .taken in
     let ht = s .pre .0 in (
       record {
         points-most = z .points-most;
@@ -79,89 +67,60 @@ part w =
 
 -- its tests and its blocks are those of the slice as it was
 fines : (w : tie.After-group-places Inv-loop μ-loop) → let l = w .before .before in let x = start l .args in
-    allBelow (w .group-places .result) (λ p. forwardFine (x .points) (x .orbitals) (now (x .times)) (now (x .free)) (now (x .kernel)) (l .loop .green) (x .t) (l .loop .u + p))
-    ≡ allBelow (w .group-places .result) (λ p. forwardFine (x .points) (x .orbitals) (now (x .times)) (now (x .free)) (now (x .kernel)) (now (x .green)) (x .t) (l .loop .u + p))
+    allBelow (w .group-places .result) (λ p. forwardFinite (x .points) (x .orbitals) (now (x .times)) (now (x .free)) (now (x .kernel)) (l .loop .retarded) (x .t) (l .loop .u + p))
+    ≡ allBelow (w .group-places .result) (λ p. forwardFinite (x .points) (x .orbitals) (now (x .times)) (now (x .free)) (now (x .kernel)) (now (x .retarded)) (x .t) (l .loop .u + p))
 fines w =
-    let l = w .before .before in
-    let s = start l in
-    let x = s .args in
-    let u = l .loop .u in
-    all-agree _ _ _ (λ p hp. same-fine (x .points) (x .orbitals) (now (x .times)) (now (x .free)) (now (x .kernel)) (now (x .green)) (x .t) (s .pre .0) (omega (arith, row s .row)) (u * (2 * (x .orbitals * x .orbitals))) (join u (forwardBlock (x .points) (x .orbitals) (now (x .times)) (now (x .free)) (now (x .kernel)) (now (x .green)) (x .t))) (l .loop .green) (l .loop .inv .3) (u + p) (omega (arith, hp, part w .0 .fit)))
+    let l = w .before .before in let s = start l in let x = s .args in let u = l .loop .u in
+    all-agree _ _ _ (λ p hp. same-finite (x .points) (x .orbitals) (now (x .times)) (now (x .free)) (now (x .kernel)) (now (x .retarded)) (x .t) (s .pre .0) (omega (arith, row s .row)) (u * (2 * (x .orbitals * x .orbitals))) (join u (forwardBlock (x .points) (x .orbitals) (now (x .times)) (now (x .free)) (now (x .kernel)) (now (x .retarded)) (x .t))) (l .loop .retarded) (l .loop .inv .3) (u + p) (omega (arith, hp, part w .0 .fit)))
 
 made : (w : tie.After-group-places Inv-loop μ-loop) → let l = w .before .before in let x = start l .args in
-    join (w .group-places .result) (λ p. forwardBlock (x .points) (x .orbitals) (now (x .times)) (now (x .free)) (now (x .kernel)) (l .loop .green) (x .t) (l .loop .u + p))
-    ≡ join (w .group-places .result) (λ p. forwardBlock (x .points) (x .orbitals) (now (x .times)) (now (x .free)) (now (x .kernel)) (now (x .green)) (x .t) (l .loop .u + p))
+    join (w .group-places .result) (λ p. forwardBlock (x .points) (x .orbitals) (now (x .times)) (now (x .free)) (now (x .kernel)) (l .loop .retarded) (x .t) (l .loop .u + p))
+    ≡ join (w .group-places .result) (λ p. forwardBlock (x .points) (x .orbitals) (now (x .times)) (now (x .free)) (now (x .kernel)) (now (x .retarded)) (x .t) (l .loop .u + p))
 made w =
-    let l = w .before .before in
-    let s = start l in
-    let x = s .args in
-    let u = l .loop .u in
-    join-agree _ _ _ (λ p hp. same-block (x .points) (x .orbitals) (now (x .times)) (now (x .free)) (now (x .kernel)) (now (x .green)) (x .t) (s .pre .0) (omega (arith, row s .row)) (u * (2 * (x .orbitals * x .orbitals))) (join u (forwardBlock (x .points) (x .orbitals) (now (x .times)) (now (x .free)) (now (x .kernel)) (now (x .green)) (x .t))) (l .loop .green) (l .loop .inv .3) (u + p) (omega (arith, hp, part w .0 .fit)))
+    let l = w .before .before in let s = start l in let x = s .args in let u = l .loop .u in
+    join-agree _ _ _ (λ p hp. same-block (x .points) (x .orbitals) (now (x .times)) (now (x .free)) (now (x .kernel)) (now (x .retarded)) (x .t) (s .pre .0) (omega (arith, row s .row)) (u * (2 * (x .orbitals * x .orbitals))) (join u (forwardBlock (x .points) (x .orbitals) (now (x .times)) (now (x .free)) (now (x .kernel)) (now (x .retarded)) (x .t))) (l .loop .retarded) (l .loop .inv .3) (u + p) (omega (arith, hp, part w .0 .fit)))
 
 returns : tie.Need-returns Inv-loop μ-loop
 returns c =
-    let f = c .before in
-    let k = f .before .before .before in
-    let w = k .before .before in
-    let l = w .before .before in
-    let s = start l in
-    let x = s .args in
-    let u = l .loop .u in
-    let m = w .group-places .result in
-    let z = part w in
-    let failed = forward-overflow (x .points) (x .orbitals) (now (x .times)) (now (x .free)) (now (x .kernel)) (l .loop .green) (x .t) u m (z .0) (z .1) (still l) _ _ (k .forward-group .ensures .0) (k .forward-group .ensures .1) (sym (f .is-finite .ensures) ∙ not-true _ (c .if1 .taken)) in
-    (sym (all-failed (forwardFine (x .points) (x .orbitals) (now (x .times)) (now (x .free)) (now (x .kernel)) (now (x .green)) (x .t)) u m (x .t + 1) (z .1) (sym (fines w) ∙ failed)), λ h. never h)
+    let f = c .before in let k = f .before .before .before in let w = k .before .before in let l = w .before .before in let s = start l in
+    let x = s .args in let u = l .loop .u in let m = w .group-places .result in let z = part w in
+    let failed = forward-overflow (x .points) (x .orbitals) (now (x .times)) (now (x .free)) (now (x .kernel)) (l .loop .retarded) (x .t) u m (z .0) (z .1) (still l) _ _ (k .forward-group .ensures .0) (k .forward-group .ensures .1) (sym (f .is-finite .ensures) ∙ not-true _ (c .if1 .taken)) in
+    (sym (all-failed (forwardFinite (x .points) (x .orbitals) (now (x .times)) (now (x .free)) (now (x .kernel)) (now (x .retarded)) (x .t)) u m (x .t + 1) (z .1) (sym (fines w) ∙ failed)), λ h. never h)
 
 loop-again : tie.Need-loop-again Inv-loop μ-loop
 loop-again c =
-    let f = c .before in
-    let o = f .before .before in
-    let k = o .before in
-    let w = k .before .before in
-    let l = w .before .before in
-    let s = start l in
-    let x = s .args in
-    let i = l .loop .inv in
-    let u = l .loop .u in
-    let n = x .orbitals in
-    let m = w .group-places .result in
+    let f = c .before in let o = f .before .before in let k = o .before in let w = k .before .before in let l = w .before .before in
+    let s = start l in let x = s .args in let i = l .loop .inv in let u = l .loop .u in let n = x .orbitals in let m = w .group-places .result in
     let v = 2 * (n * n) in
-    let fine = forwardFine (x .points) n (now (x .times)) (now (x .free)) (now (x .kernel)) (now (x .green)) (x .t) in
+    let finite = forwardFinite (x .points) n (now (x .times)) (now (x .free)) (now (x .kernel)) (now (x .retarded)) (x .t) in
     let z = part w in
-    let told = forward-finite (x .points) n (now (x .times)) (now (x .free)) (now (x .kernel)) (l .loop .green) (x .t) u m (z .0) (z .1) (still l) _ _ (k .forward-group .ensures .0) (k .forward-group .ensures .1) (sym (f .is-finite .ensures) ∙ not-false _ (c .if1 .left)) in (
+    let told = forward-finite (x .points) n (now (x .times)) (now (x .free)) (now (x .kernel)) (l .loop .retarded) (x .t) u m (z .0) (z .1) (still l) _ _ (k .forward-group .ensures .0) (k .forward-group .ensures .1) (sym (f .is-finite .ensures) ∙ not-false _ (c .if1 .left)) in (
       z .1,
       k .forward-group .kept .1 .1 .1 .1 .1 .1 .1 .1 .0 ∙ i .1,
-      all-add u fine m ∙ rw (i .2) (sym (fines w) ∙ told .0),
-      told .1 ∙ ap (λ (ys : List Float). putMid (rowAt (x .points) n (x .t) + u * v) (m * v) (l .loop .green) ys) (made w)
-          ∙ ap (λ (xs : List Float). putMid (rowAt (x .points) n (x .t) + u * v) (m * v) xs (join m (λ p. forwardBlock (x .points) n (now (x .times)) (now (x .free)) (now (x .kernel)) (now (x .green)) (x .t) (u + p)))) (i .3)
-          ∙ forward-more (x .points) n (now (x .times)) (now (x .free)) (now (x .kernel)) (now (x .green)) (x .t) u m (m * v) (omega (arith, row s .row)) refl,
+      all-add u finite m ∙ rw (i .2) (sym (fines w) ∙ told .0),
+      told .1 ∙ ap (λ (ys : List Float). putMid (rowAt (x .points) n (x .t) + u * v) (m * v) (l .loop .retarded) ys) (made w)
+          ∙ ap (λ (xs : List Float). putMid (rowAt (x .points) n (x .t) + u * v) (m * v) xs (join m (λ p. forwardBlock (x .points) n (now (x .times)) (now (x .free)) (now (x .kernel)) (now (x .retarded)) (x .t) (u + p)))) (i .3)
+          ∙ forward-more (x .points) n (now (x .times)) (now (x .free)) (now (x .kernel)) (now (x .retarded)) (x .t) u m (m * v) (omega (arith, row s .row)) refl,
     )
 
 returns-2 : tie.Need-returns-2 Inv-loop μ-loop
 returns-2 c =
-    let l = c .before in
-    let i = l .loop .inv in
-    let x = start l .args in
-    let n = x .orbitals in
+    let l = c .before in let i = l .loop .inv in let x = start l .args in let n = x .orbitals in
     let e : l .loop .u ≡ x .t + 1 = le-antisymm (i .0) (omega (arith, c .loop-test .left)) in (
-      sym (ap (λ (k : ℕ). allBelow k (forwardFine (x .points) n (now (x .times)) (now (x .free)) (now (x .kernel)) (now (x .green)) (x .t))) (sym e) ∙ i .2),
-      λ h. i .3 ∙ ap (λ (k : ℕ). putMid (rowAt (x .points) n (x .t)) (k * (2 * (n * n))) (now (x .green)) (join k (forwardBlock (x .points) n (now (x .times)) (now (x .free)) (now (x .kernel)) (now (x .green)) (x .t)))) e,
+      sym (ap (λ (k : ℕ). allBelow k (forwardFinite (x .points) n (now (x .times)) (now (x .free)) (now (x .kernel)) (now (x .retarded)) (x .t))) (sym e) ∙ i .2),
+      λ h. i .3 ∙ ap (λ (k : ℕ). putMid (rowAt (x .points) n (x .t)) (k * (2 * (n * n))) (now (x .retarded)) (join k (forwardBlock (x .points) n (now (x .times)) (now (x .free)) (now (x .kernel)) (now (x .retarded)) (x .t)))) e,
     )
 
 pub blocks-spec : {M : Type 1} → statement M
 unfolding allBelow join
 blocks-spec =
-    tie.close
-    (tie.spec
-    Inv-loop
-    μ-loop
-    (λ c. let x = c .before .before .before .before .args in (omega arith, refl, refl, sym (ap (λ (k : ℕ). putMid (rowAt (x .points) (x .orbitals) (x .t)) k (now (x .green)) []) (zero-mul (2 * (x .orbitals * x .orbitals))) ∙ put-same (rowAt (x .points) (x .orbitals) (x .t)) 0 (now (x .green)))))  -- loop-holds
+    tie.close (tie.spec Inv-loop μ-loop
+    (λ c. let x = c .before .before .before .before .args in (omega arith, refl, refl, sym (ap (λ (k : ℕ). putMid (rowAt (x .points) (x .orbitals) (x .t)) k (now (x .retarded)) []) (zero-mul (2 * (x .orbitals * x .orbitals))) ∙ put-same (rowAt (x .points) (x .orbitals) (x .t)) 0 (now (x .retarded)))))  -- loop-holds
     (λ c. let s = start c in omega (arith, s .pre .0, passed s .points-most))  -- add-loop
     (λ c. let s = start (c .before) in omega (arith, s .pre .0, passed s .points-most))  -- add-group-places
     (λ c. let h = c .loop-test .taken in omega arith)  -- sub-group-places
     (λ c κs. let z = passed (start (c .before)) in (omega (arith, c .loop-test .taken), z .orbitals-least, z .orbitals-most))  -- group-places-requires
-    (λ c κs. search needs)  -- forward-group-requires
-    (λ c κs. search needs)  -- is-finite-requires
+    (λ c κs. search needs) (λ c κs. search needs)  -- forward-group-requires, is-finite-requires
     (λ c. let k = c .before .before .before .before in k .forward-group .kept .1 .1 .1 .1 .1 .1 .1 .1 .0 ∙ k .before .before .before .before .loop .inv .1)  -- same-length
     returns
     (λ c. let w = c .before .before .before .before .before .before in let z = part w .0 in omega (arith, z .fit, z .points-most))  -- add-u

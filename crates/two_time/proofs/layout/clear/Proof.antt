@@ -1,11 +1,7 @@
--- `two_time::layout::clear` meets its contract: after i turns the first i numbers are +0. Assumes nothing.
-use mathlib.Core.Path.{_≡_, _∙_}
-use Prim.Native.Nat.{_≤_, _-_}
-use native.Mathlib.Omega.{arith}
-use lib.ListN.{length, length-set}
-use borrow.Author.Needs.{needs}
+-- `two_time::layout::clear` meets its contract: after i steps the first i numbers are +0. Assumes nothing.
+use Rattle.lists.specs.Prelude.{_≡_, _∙_, _≤_, _-_, arith, length, length-set, needs}
 use Rattle.lists.specs.Filling.{over}
-use Rattle.lists.specs.Singles.{singles, singles-none, singles-turn, singles-end, singles-same}
+use Rattle.lists.specs.Singles.{singles, singles-none, singles-step, singles-end, singles-same}
 use Rattle.complex.specs.Arithmetic.{plusZero}
 use Rattle.two_time.proofs.layout.clear.Statement.{statement}
 use Rattle.two_time.proofs.layout.clear.Tie as tie
@@ -19,7 +15,7 @@ abbrev μ : tie.MeasureT-loop
 loop-again : tie.Need-loop-again Inv μ
 loop-again c =
     let i = c .before .loop .inv in
-    (omega arith, simp length-set (i .1), rw (i .2) (singles-turn _ (λ k. plusZero) (c .before .loop .i) (omega arith)))
+    (omega arith, simp length-set (i .1), rw (i .2) (singles-step _ (λ k. plusZero) (c .before .loop .i) (omega arith)))
 
 pub clear-spec : {M : Type 1} → statement M
 clear-spec =

@@ -1,8 +1,5 @@
 -- `two_time::layout::entry` meets its contract: the place lies in the slice. Assumes nothing.
-use mathlib.Core.Path.{ap, _∙_}
-use native.Mathlib.Omega.{arith}
-use denote.Ref.{now}
-use borrow.Author.Needs.{needs}
+use Rattle.lists.specs.Prelude.{ap, _∙_, arith, now, needs}
 use Rattle.complex.specs.Numbers.{entryAt}
 use Rattle.two_time.proofs.layout.entry.Statement.{statement}
 use Rattle.two_time.proofs.layout.entry.Tie as tie
@@ -12,5 +9,10 @@ entry-spec =
     tie.close
     (tie.spec
     (λ c κs. search needs)  -- place-requires
-    (λ c κs. omega (arith, c .place .ensures .1))  -- number-at-requires
-    (λ c. c .number-at .ensures ∙ ap (entryAt (now (c .before .before .before .args .xs))) (c .before .place .ensures .0)))  -- returns
+    (λ c. omega arith)  -- mul-new
+    (λ c. omega arith)  -- shared-slice-read-new
+    (λ c. omega arith)  -- add-new
+    (λ c. omega arith)  -- mul-new-2
+    (λ c. omega arith)  -- shared-slice-read-new-2
+    (λ c κs. search needs)  -- new-requires
+    (λ c. let s = c .before .before .before in c .new .ensures ∙ ap (entryAt (now (s .before .before .args .xs))) (s .place .ensures .0)))  -- returns

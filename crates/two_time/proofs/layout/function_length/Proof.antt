@@ -1,8 +1,5 @@
 -- `two_time::layout::function_length` meets its contract: cut to the limits, every product fits. Assumes nothing.
-use mathlib.Core.Path.{ap₂}
-use native.Mathlib.Nat.{min-le-right}
-use native.Mathlib.Omega.{arith}
-use borrow.Author.Needs.{needs}
+use Rattle.lists.specs.Prelude.{ap₂, min-le-right, arith, needs}
 use Rattle.two_time.specs.Layout.{lengthOf}
 use Rattle.two_time.specs.Places.{Sized, sized}
 use Rattle.two_time.proofs.layout.function_length.Statement.{statement}

@@ -1,5 +1,5 @@
 -- `two_time::layout::is_place` meets its contract. Assumes nothing.
-use mathlib.Core.Path.{refl}
+use Rattle.lists.specs.Prelude.{refl}
 use Rattle.two_time.specs.Layout.{isPlace}
 use Rattle.two_time.proofs.layout.is_place.Statement.{statement}
 use Rattle.two_time.proofs.layout.is_place.Tie as tie

@@ -1,6 +1,5 @@
 -- `two_time::layout::place` meets its contract: every number on the way fits (specs/Places). Assumes nothing.
-use mathlib.Core.Path.{refl}
-use native.Mathlib.Omega.{arith}
+use Rattle.lists.specs.Prelude.{refl, arith}
 use Rattle.two_time.specs.Places.{Within, within}
 use Rattle.two_time.proofs.layout.place.Statement.{statement}
 use Rattle.two_time.proofs.layout.place.Tie as tie

@@ -1,17 +1,9 @@
 -- `two_time::layout::read` meets its contract. Assumes nothing.
-use mathlib.Core.Path.{_≡_, sym, ap, _∙_}
-use mathlib.Core.Bool.{Bool, true, false, _&&_}
-use Prim.Native.Nat.{_≤_}
-use lib.Dec.{leb}
-use lib.ListN.{length}
-use denote.Ref.{now}
-use borrow.Author.Needs.{needs}
-use borrow.Author.Tests.{leb-true}
+use Rattle.lists.specs.Prelude.{_≡_, sym, ap, _∙_, Bool, true, false, _&&_, _≤_, leb, length, now, needs, leb-true}
 use Rattle.lists.specs.Agreement.{both}
 use Rattle.two_time.specs.declared.layout.Stored.the-variants.{Entry}
 use Rattle.two_time.specs.Layout.{lengthOf, isPlace, storedAt}
-use Rattle.two_time.specs.Places.{Placed, is-placed}
-use Rattle.two_time.specs.Reaching.{within-asked}
+use Rattle.two_time.specs.Places.{Placed, is-placed, within-asked}
 use Rattle.two_time.proofs.layout.read.Statement.{statement}
 use Rattle.two_time.proofs.layout.read.Tie as tie
 

@@ -1,5 +1,5 @@
 -- `two_time::sums::Summed::is_finite` meets its contract. Assumes nothing.
-use borrow.Author.Needs.{needs}
+use Rattle.lists.specs.Prelude.{needs}
 use Rattle.two_time.specs.Outcome.{allSummed}
 use Rattle.two_time.proofs.sums.Summed.is_finite.Statement.{statement}
 use Rattle.two_time.proofs.sums.Summed.is_finite.Tie as tie

@@ -1,0 +1,2 @@
+-- How a convolution ends.
+mod Outcome

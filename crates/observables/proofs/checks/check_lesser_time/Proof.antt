@@ -1,0 +1,11 @@
+-- `observables::checks::check_lesser_time` meets its contract: its callees' answers in order. Assumes nothing.
+use Rattle.lists.specs.Prelude.{_∙_, needs}
+use Rattle.observables.proofs.checks.check_lesser_time.Statement.{statement}
+use Rattle.observables.proofs.checks.check_lesser_time.Tie as tie
+
+pub check-lesser-time-spec : {M : Type 1} → statement M
+check-lesser-time-spec =
+    tie.close
+    (tie.spec
+    (λ c κs. search needs) (λ c κs. search needs) (λ c κs. search needs)  -- check-lesser-requires, time-below-requires, then-requires
+    (λ c. c .then .ensures ∙ rw (c .before .time-below .ensures, c .before .before .check-lesser .ensures)))  -- returns

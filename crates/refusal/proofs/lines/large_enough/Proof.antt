@@ -1,9 +1,0 @@
--- `refusal::lines::large_enough` meets its contract: it asks the question of `largeEnough`. Assumes nothing.
-use borrow.Author.Needs.{needs}
-use Rattle.refusal.specs.Lines.{largeEnough}
-use Rattle.refusal.proofs.lines.large_enough.Statement.{statement}
-use Rattle.refusal.proofs.lines.large_enough.Tie as tie
-
-pub large-enough-spec : {M : Type 1} → statement M
-unfolding largeEnough
-large-enough-spec = tie.close (tie.spec (λ c κs. search needs) (λ c. c .numbered .ensures))

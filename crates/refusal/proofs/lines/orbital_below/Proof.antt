@@ -1,9 +1,0 @@
--- `refusal::lines::orbital_below` meets its contract: it asks the question of `orbitalBelow`. Assumes nothing.
-use borrow.Author.Needs.{needs}
-use Rattle.refusal.specs.Lines.{orbitalBelow}
-use Rattle.refusal.proofs.lines.orbital_below.Statement.{statement}
-use Rattle.refusal.proofs.lines.orbital_below.Tie as tie
-
-pub orbital-below-spec : {M : Type 1} → statement M
-unfolding orbitalBelow
-orbital-below-spec = tie.close (tie.spec (λ c κs. search needs) (λ c. c .numbered .ensures))

@@ -1,9 +1,0 @@
--- `refusal::lines::well_formed` meets its contract: it asks the question of `wellFormed`. Assumes nothing.
-use borrow.Author.Needs.{needs}
-use Rattle.refusal.specs.Lines.{wellFormed}
-use Rattle.refusal.proofs.lines.well_formed.Statement.{statement}
-use Rattle.refusal.proofs.lines.well_formed.Tie as tie
-
-pub well-formed-spec : {M : Type 1} → statement M
-unfolding wellFormed
-well-formed-spec = tie.close (tie.spec (λ c κs. search needs) (λ c. c .numbered .ensures))

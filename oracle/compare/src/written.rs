@@ -1,0 +1,132 @@
+//! What a call writes beside its number goes to slices of one length each. A slice of another length for places or part is left as it was; one for anything
+//! else is refused by 3.
+use crate::blocks;
+use crate::calls;
+use crate::sides::{self, ours, same, Outcome, LENT};
+use crate::source::Source;
+use crate::Job;
+use judge::Refused;
+
+const PART: &str = "written";
+
+/// What slices of places hold before a call.
+const PLACE: usize = 77;
+
+/// What lent slices hold after a call, as numbers.
+type Held = Vec<Vec<f64>>;
+
+fn numbers(places: &[usize]) -> Vec<f64> {
+    places.iter().map(|&place| place as f64).collect()
+}
+
+/// What a slice of the exact length holds after a call that is lent it for numbers.
+fn afterwards<const COUNT: usize>(theirs: judge::Answer<[f64; COUNT]>) -> Vec<f64> {
+    match theirs {
+        Ok(numbers) => numbers.to_vec(),
+        Err(Refused { number: 10, .. }) => vec![0.0; COUNT],
+        Err(_) => vec![LENT; COUNT],
+    }
+}
+
+/// What a slice of this length is to hold: what is written, if it fits.
+fn expected(length: usize, held: f64, written: Option<&[f64]>) -> Vec<f64> {
+    written.filter(|written| written.len() == length).map_or_else(|| vec![held; length], <[f64]>::to_vec)
+}
+
+/// The slices `made` are those that line 3 asks: what each held, and what it holds after the call if all have their lengths. If one has not,
+/// the answer is 3, unless it is 1 or 2, and all are as they were. Then come places and part, which a refusal writes.
+fn outcome(number: u8, held: Held, made: Vec<(f64, Vec<f64>)>, refused: Option<Refused>) -> Outcome {
+    let fits = made.iter().zip(&held).all(|((_, written), slice)| written.len() == slice.len());
+    let earlier = refused.is_some_and(|x| x.number == 1 || x.number == 2);
+    let refused = if fits || earlier { refused } else { Some(Refused::by(3)) };
+    let refused_by = refused.unwrap_or(Refused::by(0));
+    let places = refused.map(|x| numbers(&[x.operand, x.first, x.second]));
+    let made = made.into_iter().map(|(before, written)| (before, fits.then_some(written)));
+    let written = made.chain([(PLACE as f64, places), (LENT, refused.map(|x| vec![x.part]))]);
+    let wanted: Held = written.zip(&held).map(|((before, written), slice)| expected(slice.len(), before, written.as_deref())).collect();
+    let pairs = || held.iter().flatten().zip(wanted.iter().flatten());
+    let unequal = pairs().filter(|(x, y)| !same(**x, **y)).count() + usize::from(number != refused_by.number);
+    Outcome { number: refused_by.number, part: refused_by.part, compared: 1 + pairs().count(), unequal, label: String::new() }
+}
+
+/// The lengths of what is written, of places and of the part: each exact, one short, one long and empty.
+struct Lengths(u64);
+
+impl Lengths {
+    fn next(&mut self, exact: usize) -> usize {
+        let digit = (self.0 % 4) as usize;
+        self.0 /= 4;
+        [exact, exact - 1, exact + 1, 0][digit]
+    }
+
+    fn places_and_part(&mut self) -> (Vec<usize>, Vec<f64>) {
+        (vec![PLACE; self.next(3)], vec![LENT; self.next(1)])
+    }
+}
+
+/// How often the lengths begin again, each time with other inputs.
+const TURNS: u64 = 32;
+
+fn block_trace(seed: u64, index: u64) -> Outcome {
+    let (mut lengths, f) = (Lengths(index), blocks::operation("block_trace"));
+    let (mut value, (mut places, mut part)) = (vec![LENT; lengths.next(2)], lengths.places_and_part());
+    let (call, _) = Source::of(seed, [PART, f.name], index).faulty_block_call(f);
+    let [x] = call.lent();
+    let number = here::block_trace_written(&ours(&x), &mut value, &mut places, &mut part);
+    let theirs = judge::trace(&x);
+    outcome(number, vec![value, numbers(&places), part], vec![(LENT, afterwards(theirs))], theirs.err())
+}
+
+fn particle_number(seed: u64, index: u64) -> Outcome {
+    let (mut lengths, f) = (Lengths(index), calls::function("particle_number"));
+    let (mut value, (mut places, mut part)) = (vec![LENT; lengths.next(1)], lengths.places_and_part());
+    let (call, _) = Source::of(seed, [PART, f.name], index).faulty_call(f);
+    let [xs] = call.operands();
+    let number =
+        here::particle_number_written(xs, call.points, call.orbitals, call.time, call.tolerance, &mut value, &mut places, &mut part);
+    let theirs = judge::particle_number(call.points, call.orbitals, xs, call.time, call.tolerance);
+    outcome(number, vec![value, numbers(&places), part], vec![(LENT, afterwards(theirs.map(|x| [x])))], theirs.err())
+}
+
+fn density_matrix(seed: u64, index: u64) -> Outcome {
+    let (mut lengths, f) = (Lengths(index), calls::function("density_matrix"));
+    let (mut shape, mut out) = (vec![PLACE; lengths.next(2)], vec![LENT; lengths.next(512)]);
+    let (mut places, mut part) = lengths.places_and_part();
+    let (call, _) = Source::of(seed, [PART, f.name], index).faulty_call(f);
+    let [xs] = call.operands();
+    let number = here::density_matrix_written(xs, call.points, call.orbitals, call.time, &mut shape, &mut out, &mut places, &mut part);
+    let theirs = judge::density_matrix(call.points, call.orbitals, xs, call.time);
+    let block = theirs.clone().unwrap_or_else(|_| judge::Block::empty());
+    let made = vec![(PLACE as f64, numbers(&[block.rows, block.columns])), (LENT, block.values.to_vec())];
+    outcome(number, vec![numbers(&shape), out, numbers(&places), part], made, theirs.err())
+}
+
+fn consistency_report(seed: u64, index: u64) -> Outcome {
+    let (mut lengths, f) = (Lengths(index), calls::function("consistency_report"));
+    let (mut residuals, (mut places, mut part)) = (vec![LENT; lengths.next(6)], lengths.places_and_part());
+    let (call, _) = Source::of(seed, [PART, f.name], index).faulty_call(f);
+    let number = here::consistency_report_written(call.operands(), call.points, call.orbitals, &mut residuals, &mut places, &mut part);
+    let theirs = judge::consistency_report(call.points, call.orbitals, call.operands());
+    outcome(number, vec![residuals, numbers(&places), part], vec![(LENT, afterwards(theirs))], theirs.err())
+}
+
+fn is_consistent(index: u64) -> Outcome {
+    let mut lengths = Lengths(index);
+    let (mut decided, (mut places, mut part)) = (vec![PLACE as u8; lengths.next(1)], lengths.places_and_part());
+    let (x, tolerance) = ([0.5; 6], [0.5, 0.25, 0.0, f64::NAN][lengths.0 as usize % 4]);
+    let number = here::is_consistent_written(x, tolerance, &mut decided, &mut places, &mut part);
+    let theirs = judge::is_consistent(x, tolerance);
+    let decided = decided.into_iter().map(f64::from).collect();
+    let written = theirs.map_or(vec![PLACE as f64], sides::decided);
+    outcome(number, vec![decided, numbers(&places), part], vec![(PLACE as f64, written)], theirs.err())
+}
+
+pub fn jobs(seed: u64) -> Vec<Job> {
+    vec![
+        Job::of(PART, "block_trace", 64 * TURNS, move |index| block_trace(seed, index)),
+        Job::of(PART, "particle_number", 64 * TURNS, move |index| particle_number(seed, index)),
+        Job::of(PART, "density_matrix", 256 * TURNS, move |index| density_matrix(seed, index)),
+        Job::of(PART, "consistency_report", 64 * TURNS, move |index| consistency_report(seed, index)),
+        Job::of(PART, "is_consistent", 64 * TURNS, is_consistent),
+    ]
+}
