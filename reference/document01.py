@@ -1,4 +1,5 @@
-"""A plain reading of document 01 in Python, whose floats are binary64.
+"""A plain reading of document 01, as document 02's L2 amends it, in Python, whose
+floats are binary64.
 
 A complex number is a pair (re, im). A two-time function is a flat list of
 numbers; entry (a, b) of block (t, u) begins at `place(points, n, t, u, a, b)`.
@@ -519,7 +520,13 @@ def weighted_sum(n, first, terms):
 
 
 def interval_sum(n, times, start, end, left, right):
-    """Sums left(s)·right(s) for s from start to end with interval weights."""
+    """Sums left(s)·right(s) for s from start to end with interval weights.
+
+    Document 02, L2: "Form no product where an interval has one point only (start = end);
+    the block is +0. A longer interval whose step halves to 0 still forms its products."
+    """
+    if start == end:
+        return zeros(n)
     terms = ((step_weight(times, s, start, end), left(s), right(s)) for s in range(start, end + 1))
     return weighted_sum(n, zeros(n), terms)
 

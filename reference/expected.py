@@ -6,9 +6,9 @@ worked out in binary64 from left to right.
 
 import os
 
-from bits import hex_of
+from bits import from_bits, hex_of
 from document01 import (
-    Refusal, Report, bond_flow_into, block_of, causal_volterra_convolution, consistency_report,
+    ACCEPTED, LARGEST, Refusal, Report, bond_flow_into, block_of, causal_volterra_convolution, consistency_report,
     langreth_product, one_body_expectation, particle_number, place, retarded_dyson_with_tolerance,
     time_convolution, transient_run,
 )
@@ -32,6 +32,12 @@ def lower(formula):
     return lambda t, u, a, b: formula(t, u, a, b) if u <= t else (0.0, 0.0)
 
 
+def placed(values):
+    """The formula that has a number, or a pair of parts, at places (t, u), and +0 elsewhere."""
+    pairs = {at: value if isinstance(value, tuple) else (value, 0.0) for at, value in values.items()}
+    return lambda t, u, a, b: pairs.get((t, u), (0.0, 0.0))
+
+
 def entry_lines(name, points, n, numbers):
     lines = ["%s: t u a b, bits of re, bits of im" % name]
     for t in range(points):
@@ -45,6 +51,8 @@ def entry_lines(name, points, n, numbers):
 
 
 def answer_text(answer):
+    if answer is ACCEPTED:
+        return "accepted"
     if isinstance(answer, Refusal):
         return "refused %d operand %d first %d second %d part %s" % (*answer[:4], hex_of(answer.part))
     return "number %s" % hex_of(answer)
@@ -149,12 +157,69 @@ def cases_ef(times, clock):
     return lines + ["%s: %s" % (name, hex_of(getattr(report, name))) for name in Report._fields]
 
 
+# An interval of one point forms no product: g, i and j have largest numbers there. The interval of h has two points.
+
+
+def outcome_lines(name, points, n, outcome):
+    lines = ["", "%s: %s" % (name, answer_text(outcome.answer))]
+    for lent_name, numbers in outcome.lent.items():
+        lines += entry_lines(lent_name, points, n, numbers)
+    return lines
+
+
+def causal_case(letter, left_place):
+    """Largest numbers at one place of the left operand and at (0, 0) of the right one."""
+
+    def case(times, clock):
+        left, right = (function(clock, 1, placed({at: LARGEST})) for at in (left_place, (0, 0)))
+        lines = entry_lines("inputs of %s, left" % letter, 2, 1, left) + entry_lines("right", 2, 1, right)
+        outcome = causal_volterra_convolution(2, 1, times, left, right, *lent(2, 1, 1))
+        return lines + outcome_lines("%s) causal_volterra_convolution" % letter, 2, 1, outcome)
+
+    return case
+
+
+def case_i(times, clock):
+    """K(0,0), X(0,0) and the lesser function at (0,1) would overflow."""
+    inputs = {
+        "free": {(0, 0): LARGEST, (1, 1): 1.0},
+        "self_energy": {(0, 0): LARGEST, (1, 0): 2.0**-1022, (1, 1): LARGEST},
+        "lesser_self_energy": {(0, 0): (0.0, LARGEST), (0, 1): (0.0, 1.0), (1, 0): (0.0, 1.0), (1, 1): (0.0, 1.0)},
+    }
+    numbers = {name: function(clock, 1, placed(values)) for name, values in inputs.items()}
+    lines = [line for name in inputs for line in entry_lines("input of i, %s" % name, 2, 1, numbers[name])]
+    outcome = transient_run(2, 1, times, *numbers.values(), 1e-12, *lent(2, 1, 4))
+    return lines + outcome_lines("i) transient run, tolerance 1e-12", 2, 1, outcome)
+
+
+def case_j(times, clock):
+    """The diagonals of the retarded and of the advanced sum would overflow; left and right are alike."""
+    small = 2.0**-1024
+    diagonal = {(0, 0): LARGEST, (1, 1): LARGEST}
+    formulas = [
+        placed(diagonal | {(1, 0): small}),
+        placed(diagonal | {(0, 1): small}),
+        lambda t, u, a, b: (small, 0.0),
+        lambda t, u, a, b: (0.0, small),
+    ]
+    operand = [function(clock, 1, formula) for formula in formulas]
+    lines = []
+    for name, numbers in zip(COMPONENTS, operand):
+        lines += entry_lines("input of j, left and right %s" % name, 2, 1, numbers)
+    outcome = langreth_product(2, 1, times, operand, operand, *lent(2, 1, 4))
+    return lines + outcome_lines("j) langreth_product", 2, 1, outcome)
+
+
 def text():
     sections = [
         ("N=3 n=1 times 0, 0.5, 2", cases_ab, [0.0, 0.5, 2.0]),
         ("N=3 n=2 times 0, 1, 3", case_c, [0.0, 1.0, 3.0]),
         ("N=3 n=2 times 0, 1, 3", case_d, [0.0, 1.0, 3.0]),
         ("N=2 n=1 times 0, 0.1", cases_ef, [0.0, 0.1]),
+        ("N=2 n=1 times 0, 1", causal_case("g", (0, 0)), [0.0, 1.0]),
+        ("N=2 n=1 times 0, 2^-1074", causal_case("h", (1, 0)), [0.0, from_bits(1)]),
+        ("N=2 n=1 times 0, 1", case_i, [0.0, 1.0]),
+        ("N=2 n=1 times 0, 1", case_j, [0.0, 1.0]),
     ]
     lines = []
     for heading, case, times in sections:

@@ -1,10 +1,11 @@
 """Writes the calls that the program replay runs (crates/replay/stdin), and tells how many each function has and by which
 numbers they are refused. replay_calls/ has the calls by theme.
 
-What the program is to print (crates/replay/stdout) is what the unchanged Rust answers; oracle/replay/run --write stores it.
+What the program is to print (crates/replay/stdout) is what the unchanged Rust answers, but for the listed differences;
+oracle/replay/run --write stores it.
 
 Usage: replay.py            writes the calls
-       replay.py --check    compares what is stored with the reference's plain reading of document 01, line by line
+       replay.py --check    compares what is stored with the reference's plain reading of the documents, line by line
 """
 
 import collections
@@ -15,11 +16,11 @@ ROOT = pathlib.Path(__file__).resolve().parent.parent
 FOLDER = ROOT / "crates" / "replay"
 sys.path.insert(0, str(ROOT / "reference"))
 
-from replay_calls import blocks, compositions, convolutions, grids, limits, made, norms, observables, products, reports, solves
+from replay_calls import blocks, compositions, convolutions, grids, limits, made, norms, observables, one_point, products, reports, solves
 from replay_calls.answers import LEFT_OUT, line, refusal
 from replay_calls.calls import MADE, NAMES, QUESTIONS, words
 
-THEMES = [convolutions, solves, observables, reports, products, norms, blocks, grids, limits, made, compositions]
+THEMES = [convolutions, solves, observables, reports, products, norms, blocks, grids, limits, made, compositions, one_point]
 
 
 def calls_of(theme):

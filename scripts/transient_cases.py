@@ -107,7 +107,7 @@ def cases():
         "refused_9_free": make(free=changed_at((0, 2), 1e-9)),
         "refused_9_self_energy": make(self_energy=changed_at((1, 2), [0, 1e-9])),
         "accepted_at_the_tolerance": make(free=changed_at((0, 2), document01.DEFAULT_TOLERANCE)),
-        "refused_10_kernel": make(free=changed_at((2, 2), 1e200), self_energy=changed_at((2, 2), 1e200)),
+        "refused_10_kernel": make(free=changed_at((2, 2), 1e200), self_energy=changed_at((2, 1), 1e200)),
         "refused_10_green": make(free=changed_at((1, 0), 1e300), self_energy=changed_at((2, 1), 1e30)),
         "refused_10_mixed": make(free=changed_at((1, 1), 1e200), lesser_self_energy=function(3, 1, lambda t, u, a, b: [0, 1e200])),
         "refused_10_lesser": make(free=changed_at((1, 1), 1e200)),

@@ -53,7 +53,7 @@ def signs_of_zero():
 
 
 def overflows():
-    """Line 10: by a product, by its scaling, by a sum; on the diagonal, where the weight is 0, too."""
+    """Line 10: by a product, by its scaling, by a sum; on the diagonal the causal convolution forms no product."""
     half, most = 0.5 * LARGEST, 0.75 * LARGEST
     below = math.nextafter(LARGEST, 0.0)
     ones = {(t, u): 1.0 for t in range(3) for u in range(3)}
@@ -62,7 +62,7 @@ def overflows():
     # A product that overflows, at each place of the left factor.
     for at in ones:
         pairs.append((count, by_place(3, {at: LARGEST}), by_place(3, {at_: 2.0 for at_ in ones})))
-    # One on the diagonal alone: its weight in the causal sum is 0.
+    # One on the diagonal alone, which the causal sum does not form.
     for t in range(3):
         pairs.append((count, by_place(3, {(t, t): LARGEST}), by_place(3, {(t, t): -2.0})))
         pairs.append((count, by_place(3, {(t, t): (LARGEST, LARGEST)}), by_place(3, {(t, t): (1.0, 1.0)})))
@@ -89,7 +89,7 @@ def overflows():
 
 
 def overflows_in_blocks():
-    """Line 10 by the sum over the orbitals, and by one entry of one block."""
+    """Line 10 by the sum over the orbitals, and by one entry of one block, on the diagonal in the full convolution alone."""
     most = 0.75 * LARGEST
     for values in ([most, most], [LARGEST, -LARGEST], [2.0, -2.0]):
         left = with_entries(2, 2, {(1, 0, 1, k): (value, 0.0) for k, value in enumerate(values)})

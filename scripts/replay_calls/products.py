@@ -18,6 +18,7 @@ SUMS = {
     "lesser": (RETARDED, LESSER), "lesser, second": (LESSER, ADVANCED),
     "greater": (RETARDED, GREATER), "greater, second": (GREATER, ADVANCED),
 }
+CAUSAL_SUMS = {"retarded": causal_convolution, "advanced": anti_causal_convolution}
 ONES = {(t, u): 1.0 for t in range(2) for u in range(2)}
 
 
@@ -82,7 +83,7 @@ def stages(times, left, right, orbitals):
             found.append(name)
 
     for name, (x, y) in SUMS.items():
-        convolution = {"retarded": causal_convolution, "advanced": anti_causal_convolution}.get(name, full_convolution)
+        convolution = CAUSAL_SUMS.get(name, full_convolution)
         tried(name, lambda: convolution(*shape, times, read(left[x], *shape), read(right[y], *shape)))
     for name in ("lesser", "greater"):
         if name in made and f"{name}, second" in made:
@@ -99,8 +100,9 @@ def overflow(names, times, left, right, orbitals=1):
 
 
 def reaches(name, at):
-    """Whether the sum has a term with the left operand's block at a place."""
-    return {"retarded": at[0] >= at[1], "advanced": at[0] <= at[1]}.get(name, True)
+    """Whether the sum has a product with the left operand's block at a place. A causal sum forms none on the diagonal, so that
+    its left operand's row 0, of an advanced one row 1, reaches nothing."""
+    return {"retarded": at[0] >= at[1] and at[0] > 0, "advanced": at[0] <= at[1] and at[0] < 1}.get(name, True)
 
 
 def by_sums():
@@ -116,14 +118,15 @@ def by_sums():
         for second in (0.0, LARGEST, HALF_STEP, math.nextafter(HALF_STEP, 0.0), -LARGEST):
             left = placed({x: {(row, 0): LARGEST, (row, 1): second}})
             yield overflow([name] if second in (LARGEST, HALF_STEP) else [], [0.0, 2.0], left, placed({y: ONES}))
-        # On the diagonal alone, where the weight of a causal sum is 0.
+        # On the diagonal alone, where a causal sum forms no product.
+        found = [] if name in CAUSAL_SUMS else [name]
         for t in range(2):
-            yield overflow([name], [0.0, SMALLEST], placed({x: {(t, t): LARGEST}}), placed({y: {(t, t): -2.0}}))
-        # In one entry of a block, by the sum over the orbitals.
+            yield overflow(found, [0.0, SMALLEST], placed({x: {(t, t): LARGEST}}), placed({y: {(t, t): -2.0}}))
+        # There in one entry of a block, by the sum over the orbitals.
         left, right = zeros(2, 2), zeros(2, 2)
         left[x] = with_entries(2, 2, {(1, 1, 1, k): (LARGEST, 0.0) for k in range(2)})
         right[y] = with_entries(2, 2, {(1, 1, k, 0): (1.0, 0.0) for k in range(2)})
-        yield overflow([name], [0.0, 1.0], left, right, 2)
+        yield overflow(found, [0.0, 1.0], left, right, 2)
 
 
 def by_additions():

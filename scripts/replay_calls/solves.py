@@ -110,21 +110,22 @@ def stage(points, orbitals, times, free, self_energy, lesser_self_energy):
     return "none"
 
 
-def overflow(made, times, free, self_energy, lesser_self_energy, orbitals=1):
-    """The run that overflows at `made` and nowhere before, and the Dyson call that overflows too."""
+def overflow(made, times, free, self_energy, lesser_self_energy, orbitals=1, dyson=False):
+    """The run that overflows at `made` and nowhere before; the Dyson call too, where it overflows or is asked for."""
     found = stage(len(times), orbitals, times, free, self_energy, lesser_self_energy)
     assert found == made, (found, made, times, free, self_energy, lesser_self_energy)
     yield call(RUN, times, free, self_energy, lesser_self_energy, orbitals)
-    if made in ("K", "G"):
+    if dyson or made in ("K", "G"):
         yield call(DYSON, times, free, self_energy, orbitals=orbitals)
 
 
 def by_kernel():
-    """In a product, on the diagonal too, where the weight is 0; in a scaling; in a sum; in its last block."""
+    """In a product, but not on the diagonal, where none is formed; in a scaling; in a sum; in its last block."""
     count, none = [0.0, 1.0, 2.0], [0.0] * 18
     below = {(1, 0), (2, 0), (2, 1)}
     for at in [(0, 0), (1, 0), (1, 1), (2, 0), (2, 1), (2, 2)]:
-        yield from overflow("K", count, by_place(3, {at: LARGEST}), by_place(3, {(at[1], at[1]): 2.0}), none)
+        made = "none" if at[0] == at[1] else "K"
+        yield from overflow(made, count, by_place(3, {at: LARGEST}), by_place(3, {(at[1], at[1]): 2.0}), none, dyson=True)
     yield from overflow("K", [0.0, 4.0], by_place(2, {(1, 0): LARGEST}), by_place(2, {(0, 0): 1.0}), none[:8])
     free = by_place(2, {(1, 0): LARGEST, (1, 1): LARGEST})
     yield from overflow("K", [0.0, 2.0], free, by_place(2, {(0, 0): 1.0, (1, 0): 1.0}), none[:8])
@@ -151,12 +152,12 @@ def by_green():
 
 
 def by_sums():
-    """G is finite, free itself: the product of the lesser_self_energy and its adjoint overflows, where the weight is 0 too, or its
-    scaling, or a sum."""
+    """G is finite, free itself: the product of the lesser_self_energy and its adjoint overflows, but not at X(t, 0), where none is
+    formed, or its scaling, or a sum."""
     none = [0.0] * 18
     for at in itertools.product(range(3), repeat=2):
         free = by_place(3, {(at[1], at[1]): 2.0})
-        yield from overflow("X", [0.0, 1.0, 2.0], free, none, by_place(3, {at: LARGEST}))
+        yield from overflow("none" if at[1] == 0 else "X", [0.0, 1.0, 2.0], free, none, by_place(3, {at: LARGEST}))
     one = by_place(2, {(1, 0): 1.0, (1, 1): 1.0})
     yield from overflow("X", [0.0, 4.0], one, none[:8], by_place(2, {(0, 1): LARGEST}))
     yield from overflow("X", [0.0, 2.0], one, none[:8], by_place(2, {(1, 0): (0.0, LARGEST), (1, 1): (0.0, LARGEST)}))
@@ -168,13 +169,13 @@ def by_sums():
 
 
 def by_lesser():
-    """X is finite: G^R(t, s)·X(s, t') overflows, where the weight is 0 too, or its scaling, or a sum."""
+    """X is finite: G^R(t, s)·X(s, t') overflows, but not where t is 0, where none is formed, or its scaling, or a sum."""
     none = [0.0] * 8
     for at in (0, 1):
         # X(at, 1) is half of 1e200, and G^R(at, at) is 1e200.
         free = by_place(2, {(0, 0): 1e200, (1, 1): 1.0}) if at == 0 else by_place(2, {(1, 1): 1e200})
         lesser_self_energy = by_place(2, {(at, 1): 1e200 if at == 0 else 1.0})
-        yield from overflow("lesser", [0.0, 1.0], free, none, lesser_self_energy)
+        yield from overflow("none" if at == 0 else "lesser", [0.0, 1.0], free, none, lesser_self_energy)
     one = by_place(2, {(1, 0): 1.0, (1, 1): 1.0})
     yield from overflow("lesser", [0.0, 2.0], one, none, by_place(2, {(0, 1): LARGEST, (1, 1): LARGEST}))
     yield from overflow("lesser", [0.0, 4.0], one, none, by_place(2, {(0, 1): 0.5 * LARGEST}))
@@ -185,8 +186,9 @@ def by_lesser():
     # In the last block alone, with a kernel that is not 0.
     free, self_energy = by_place(3, {(0, 0): 1.0, (1, 1): 1.0, (2, 2): 1e160}), by_place(3, {(1, 0): 1.0, (2, 2): 1e-160})
     yield from overflow("lesser", [0.0, 1.0, 2.0], free, self_energy, by_place(3, {(2, 2): 1.0}))
+    # In an entry of a block of row 0: no product is formed.
     free = with_entries(2, 2, {(0, 0, 0, 1): (1e200, 0.0), (1, 1, 1, 1): (1.0, 0.0)})
-    yield from overflow("lesser", [0.0, 1.0], free, [0.0] * 32, with_entries(2, 2, {(0, 1, 1, 1): (0.0, 1e200)}), 2)
+    yield from overflow("none", [0.0, 1.0], free, [0.0] * 32, with_entries(2, 2, {(0, 1, 1, 1): (0.0, 1e200)}), 2)
 
 
 # ---- Tolerance -----------------------------------------------------------------
@@ -228,8 +230,9 @@ def not_retarded():
     wrong = by_place(3, {(0, 0): LARGEST, (1, 2): LARGEST})
     worse = by_place(3, {(0, 0): 4.0, (0, 2): 1.0, (1, 2): 2.0})
     twos = [2.0 * x for x in ones(3)]
+    # Of these pairs one would overflow; of the others the large products would be those of the diagonal alone, which are not formed.
+    assert stage(3, 1, [0.0, 1.0, 2.0], twos, wrong, [0.0] * 18) == "K"
     for function, (free, self_energy) in itertools.product(GIVEN, [(wrong, worse), (worse, wrong), (twos, wrong), (wrong, twos)]):
-        assert stage(3, 1, [0.0, 1.0, 2.0], free, self_energy, [0.0] * 18) == "K"
         yield call(function, [0.0, 1.0, 2.0], free, self_energy)
     yield call(DYSON_DEFAULT, [0.0, 1.0, 2.0], worse, wrong)
     yield call(DYSON_DEFAULT, [0.0, 1.0, 2.0], ones(3), worse)
@@ -309,7 +312,7 @@ def not_finite():
 
 
 def wrong_tolerance():
-    """Line 8, before lines 9 and 10."""
+    """Line 8, before line 9."""
     above = by_place(2, {(0, 1): 1.0, (0, 0): LARGEST})
     for function, tolerance in itertools.product(GIVEN, (0.0, -0.0, -SMALLEST, *NOT_FINITE[:3])):
         yield call(function, [0.0, 1.0], above, by_place(2, {(0, 0): LARGEST}), tolerance=tolerance)
