@@ -74,7 +74,8 @@ fn main() -> ExitCode {
     ExitCode::SUCCESS
 }
 
-/// How many complex multiply-adds the sums of a function make at each size: products of blocks by n³.
+/// How many complex multiply-adds the sums of a function make at each size: products of blocks by n³, with those over one point,
+/// which the Rust alone makes.
 fn multiply_adds(name: &str) -> Option<[f64; 5]> {
     let products: fn(f64) -> f64 = match name {
         "time_convolution" => |points| points * points * points,

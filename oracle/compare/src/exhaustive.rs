@@ -34,7 +34,8 @@ fn count(numbers: &[(usize, usize)]) -> u64 {
     numbers.iter().map(|&(digits, of)| (of as u64).pow(digits as u32)).product()
 }
 
-fn call_of(f: &Function, orbitals: usize, operands: Vec<Vec<f64>>) -> Call {
+/// A call on two times with these operands.
+pub fn call_of(f: &Function, orbitals: usize, operands: Vec<Vec<f64>>) -> Call {
     Call {
         points: 2,
         orbitals,

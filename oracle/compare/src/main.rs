@@ -8,9 +8,11 @@ mod exhaustive;
 mod inputs;
 mod limits;
 mod mirrored;
+mod one_point;
 mod others;
 mod random;
 mod sides;
+mod smallest;
 mod source;
 mod stages;
 mod tally;
@@ -46,6 +48,8 @@ fn jobs(calls: u64, seed: u64) -> Vec<Job> {
         limits::jobs(seed),
         boundaries::jobs(seed),
         stages::jobs(calls / 2, seed),
+        one_point::jobs(calls / 8, seed),
+        smallest::jobs(),
         tolerances::jobs(calls / 4, seed),
         exhaustive::jobs(),
         written::jobs(seed),

@@ -10,8 +10,8 @@ use judge::stages::{self, Stage};
 
 const PART: &str = "stages";
 
-/// Where the port's work stops.
-type Told = fn(&Call) -> Option<Stage>;
+/// Where the port's work stops, on one point too.
+pub type Told = fn(&Call) -> Option<Stage>;
 
 /// Which operands grow, from call to call.
 type Patterns = &'static [&'static [usize]];
@@ -34,14 +34,20 @@ const FUNCTIONS: [(&str, Patterns, Told); 6] = [
 
 const OPERATIONS: [&str; 4] = ["block_multiply", "block_scale", "block_add", "block_subtract"];
 
+/// Where the port's work on a call of this function stops.
+pub fn told(name: &str) -> Told {
+    let found = FUNCTIONS.iter().find(|(f, ..)| *f == name);
+    found.unwrap_or_else(|| panic!("no stages of {name}")).2
+}
+
 /// Steps in which a number grows to twice its size.
-const STEPS: i32 = 64;
+pub const STEPS: i32 = 64;
 
 /// Steps after which numbers are the largest.
 const MOST: i32 = 1200 * STEPS;
 
 /// Multiplies numbers of at most a half by 2^exponent, where the exponent is counted in steps; the largest become the largest numbers.
-fn grown(xs: &[f64], exponent: i32) -> Vec<f64> {
+pub fn grown(xs: &[f64], exponent: i32) -> Vec<f64> {
     let exponent = exponent.clamp(-1000 * STEPS, 1025 * STEPS);
     let (whole, rest) = (exponent.div_euclid(STEPS), 1.0 + f64::from(exponent.rem_euclid(STEPS)) / f64::from(STEPS));
     let (half, other) = (2f64.powi(whole / 2), 2f64.powi(whole - whole / 2));
@@ -108,7 +114,7 @@ fn function(seed: u64, f: &Function, (patterns, told): (Patterns, Told), index: 
     let steps = refused(source, |steps| told(&call(steps)));
     let call = call(near(source, steps));
     let (stage, mut outcome) = (told(&call), (f.compare)(&call));
-    outcome.unequal += usize::from(stage.is_some() != (outcome.number == 10));
+    outcome.unequal += usize::from(stage.is_some() != (outcome.number == 10 || outcome.one_point.is_some()));
     let stage = stage.map_or("none".into(), |stage| stage.join(", "));
     outcome.under(format!("{}, {stage}", f.name))
 }

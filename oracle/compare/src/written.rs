@@ -46,7 +46,7 @@ fn outcome(number: u8, held: Held, made: Vec<(f64, Vec<f64>)>, refused: Option<R
     let wanted: Held = written.zip(&held).map(|((before, written), slice)| expected(slice.len(), before, written.as_deref())).collect();
     let pairs = || held.iter().flatten().zip(wanted.iter().flatten());
     let unequal = pairs().filter(|(x, y)| !same(**x, **y)).count() + usize::from(number != refused_by.number);
-    Outcome { number: refused_by.number, part: refused_by.part, compared: 1 + pairs().count(), unequal, label: String::new() }
+    Outcome::of(refused_by, 1 + pairs().count(), unequal)
 }
 
 /// The lengths of what is written, of places and of the part: each exact, one short, one long and empty.

@@ -1,11 +1,9 @@
 //! The calls on times and on two-time functions. Slices lent for what is made, the scratch too, are given by their lengths.
 use crate::lines::{built, functions, functions_of_times, grid, lengths, limits, matrix, refusal, require};
-use crate::{Answer, Block};
+use crate::sums::Work;
+use crate::{Answer, Block, Filled, Judged};
 use keldysh_green::{kept, Complex64, ConsistencyReport, KeldyshGreen, RealTimeGrid, TwoTimeMatrix};
 use shared::{numbers, residuals};
-
-/// What a call leaves in each slice that it is lent for it.
-pub type Filled<const COUNT: usize> = Answer<[Vec<f64>; COUNT]>;
 
 pub fn full_weights(points: usize, times: &[f64], lent: [usize; 1]) -> Filled<1> {
     Ok([grid(points, times, &lent)?.weights().to_vec()])
@@ -61,9 +59,10 @@ pub fn time_convolution(points: usize, orbitals: usize, times: &[f64], operands:
     Ok([numbers(&keldysh_green::time_convolution(&grid, &left, &right).map_err(refusal)?)])
 }
 
-pub fn causal_volterra_convolution(points: usize, orbitals: usize, times: &[f64], operands: [&[f64]; 2], lent: [usize; 1]) -> Filled<1> {
-    let (grid, [left, right]) = functions_of_times(points, orbitals, times, operands, &lent)?;
-    Ok([numbers(&keldysh_green::causal_volterra_convolution(&grid, &left, &right).map_err(refusal)?)])
+pub fn causal_volterra_convolution(points: usize, orbitals: usize, times: &[f64], operands: [&[f64]; 2], lent: [usize; 1]) -> Judged<1> {
+    let port =
+        |grid: &RealTimeGrid, [left, right]: &[TwoTimeMatrix; 2]| Ok([keldysh_green::causal_volterra_convolution(grid, left, right)?]);
+    Judged::of(functions_of_times(points, orbitals, times, operands, &lent), port, Work::causal_volterra_convolution)
 }
 
 pub fn check_retarded_support(points: usize, orbitals: usize, xs: &[f64], tolerance: f64) -> Answer<()> {
@@ -79,15 +78,15 @@ fn dyson(
     operands: [&[f64]; 2],
     lent: [usize; 2],
     solve: impl Fn(&RealTimeGrid, &TwoTimeMatrix, &TwoTimeMatrix) -> keldysh_green::Result<TwoTimeMatrix>,
-) -> Filled<2> {
-    let (grid, [free, self_energy]) = functions_of_times(points, orbitals, times, operands, &lent)?;
-    let retarded = solve(&grid, &free, &self_energy).map_err(refusal)?;
-    let kernel = keldysh_green::causal_volterra_convolution(&grid, &free, &self_energy).map_err(refusal)?;
-    Ok([&retarded, &kernel].map(numbers))
+) -> Judged<2> {
+    let port = |grid: &RealTimeGrid, [free, self_energy]: &[TwoTimeMatrix; 2]| {
+        Ok([solve(grid, free, self_energy)?, keldysh_green::causal_volterra_convolution(grid, free, self_energy)?])
+    };
+    Judged::of(functions_of_times(points, orbitals, times, operands, &lent), port, Work::retarded_dyson)
 }
 
 /// Operands: free propagator, self-energy.
-pub fn retarded_dyson(points: usize, orbitals: usize, times: &[f64], operands: [&[f64]; 2], lent: [usize; 2]) -> Filled<2> {
+pub fn retarded_dyson(points: usize, orbitals: usize, times: &[f64], operands: [&[f64]; 2], lent: [usize; 2]) -> Judged<2> {
     dyson(points, orbitals, times, operands, lent, keldysh_green::retarded_dyson)
 }
 
@@ -99,18 +98,20 @@ pub fn retarded_dyson_with_tolerance(
     operands: [&[f64]; 2],
     tolerance: f64,
     lent: [usize; 2],
-) -> Filled<2> {
+) -> Judged<2> {
     dyson(points, orbitals, times, operands, lent, |grid, free, self_energy| {
         keldysh_green::retarded_dyson_with_tolerance(grid, free, self_energy, tolerance)
     })
 }
 
 /// G^R, G^<, K, X. Operands: free propagator, retarded self-energy, Σ^<.
-pub fn transient_run(points: usize, orbitals: usize, times: &[f64], operands: [&[f64]; 3], tolerance: f64, lent: [usize; 4]) -> Filled<4> {
-    let (grid, [free, self_energy, lesser_self_energy]) = functions_of_times(points, orbitals, times, operands, &lent)?;
-    let made = shared::transient_run(&grid, &free, &self_energy, &lesser_self_energy, tolerance).map_err(refusal)?;
-    let kernel = keldysh_green::causal_volterra_convolution(&grid, &free, &self_energy).map_err(refusal)?;
-    Ok([&made.retarded, &made.lesser, &kernel, &made.lesser_advanced].map(numbers))
+pub fn transient_run(points: usize, orbitals: usize, times: &[f64], operands: [&[f64]; 3], tolerance: f64, lent: [usize; 4]) -> Judged<4> {
+    let port = |grid: &RealTimeGrid, [free, self_energy, lesser_self_energy]: &[TwoTimeMatrix; 3]| {
+        let made = shared::transient_run(grid, free, self_energy, lesser_self_energy, tolerance)?;
+        let kernel = keldysh_green::causal_volterra_convolution(grid, free, self_energy)?;
+        Ok([made.retarded, made.lesser, kernel, made.lesser_advanced])
+    };
+    Judged::of(functions_of_times(points, orbitals, times, operands, &lent), port, Work::transient_run)
 }
 
 pub fn density_matrix(points: usize, orbitals: usize, lesser: &[f64], time: usize) -> Answer<Block> {
@@ -155,15 +156,15 @@ pub fn bond_flow_into(
 }
 
 /// The port's function of four components: retarded, advanced, lesser, greater.
-fn green(grid: &RealTimeGrid, [retarded, advanced, lesser, greater]: [TwoTimeMatrix; 4]) -> Answer<KeldyshGreen> {
-    KeldyshGreen::try_new(grid.clone(), retarded, advanced, lesser, greater).map_err(refusal)
+fn green(grid: &RealTimeGrid, [retarded, advanced, lesser, greater]: [TwoTimeMatrix; 4]) -> keldysh_green::Result<KeldyshGreen> {
+    KeldyshGreen::try_new(grid.clone(), retarded, advanced, lesser, greater)
 }
 
 /// The six residuals in the report's order.
 pub fn consistency_report(points: usize, orbitals: usize, components: [&[f64]; 4]) -> Answer<[f64; 6]> {
     let components = functions(points, orbitals, components)?;
     let grid = grid(points, &any_times(points), &[])?;
-    Ok(residuals(&green(&grid, components)?.consistency_report().map_err(refusal)?))
+    Ok(residuals(&green(&grid, components).and_then(|x| x.consistency_report()).map_err(refusal)?))
 }
 
 /// Whether six residuals, in the report's order, are at most the tolerance.
@@ -180,9 +181,11 @@ pub fn is_consistent(x: [f64; 6], tolerance: f64) -> Answer<bool> {
 }
 
 /// The four components. Operands: those of the left function, then those of the right.
-pub fn langreth_product(points: usize, orbitals: usize, times: &[f64], operands: [&[f64]; 8], lent: [usize; 4]) -> Filled<4> {
-    let (grid, [a, b, c, d, e, f, g, h]) = functions_of_times(points, orbitals, times, operands, &lent)?;
-    let (left, right) = (green(&grid, [a, b, c, d])?, green(&grid, [e, f, g, h])?);
-    let made = keldysh_green::langreth_product(&left, &right).map_err(refusal)?;
-    Ok([made.retarded(), made.advanced(), made.lesser(), made.greater()].map(numbers))
+pub fn langreth_product(points: usize, orbitals: usize, times: &[f64], operands: [&[f64]; 8], lent: [usize; 4]) -> Judged<4> {
+    let port = |grid: &RealTimeGrid, operands: &[TwoTimeMatrix; 8]| {
+        let [a, b, c, d, e, f, g, h] = operands.clone();
+        let made = keldysh_green::langreth_product(&green(grid, [a, b, c, d])?, &green(grid, [e, f, g, h])?)?;
+        Ok([made.retarded(), made.advanced(), made.lesser(), made.greater()].map(Clone::clone))
+    };
+    Judged::of(functions_of_times(points, orbitals, times, operands, &lent), port, Work::langreth_product)
 }

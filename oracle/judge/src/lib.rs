@@ -1,16 +1,20 @@
-//! The port's answer to a call, by document 01's numbers. A call may have more than one fault: it is refused by the first line, in document
-//! 01's order, whose answer is no. The port has the correctly rounded norm in hypot's place.
+//! The port's answer to a call, by document 01's numbers, but for the difference of document 02 that `Judged` tells. A call may have more
+//! than one fault: it is refused by the first line, in document 01's order, whose answer is no. The port has the correctly rounded norm in
+//! hypot's place.
 mod blocks;
 mod functions;
+mod judged;
 mod lines;
 pub mod stages;
+mod sums;
 
 pub use blocks::{add, adjoint, from_numbers, from_scalar, get, identity, is_hermitian, max_difference, multiply, norm, scale, subtract};
 pub use blocks::{trace, zero, Block};
 pub use functions::{bond_flow_into, density_matrix, one_body_expectation, particle_number};
 pub use functions::{causal_volterra_convolution, checked_interval_weight, consistency_report, full_weights, is_consistent, langreth_product};
-pub use functions::{check_retarded_support, retarded_dyson, retarded_dyson_with_tolerance, time_convolution, transient_run, Filled};
+pub use functions::{check_retarded_support, retarded_dyson, retarded_dyson_with_tolerance, time_convolution, transient_run};
 pub use functions::{check_grid, check_times, full_weight, half_step, interval_weight};
+pub use judged::{Filled, Judged};
 
 /// A refusal: its number and its places, which are 0 where its line has none.
 #[derive(Debug, Clone, Copy, PartialEq)]

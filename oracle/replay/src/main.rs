@@ -1,4 +1,4 @@
-//! The port's answers to a list of calls: reads what `crates/replay` reads from standard input, and prints what that prints.
+//! The judge's answers to a list of calls: reads what `crates/replay` reads from standard input, and prints what that prints.
 mod calls;
 mod inputs;
 mod text;

@@ -1,0 +1,132 @@
+//! The sums of a call done again by the port's operations on blocks, which says where they stop and can leave out the products that the port
+//! alone forms. The inputs are as lines 1 to 9 want them.
+use keldysh_green::{kept, DenseMatrix, KeldyshError, RealTimeGrid, Result, TwoTimeMatrix};
+
+/// What was being made, and the operation that first makes a block that is not finite.
+pub type Stage = [&'static str; 2];
+pub type Made<const COUNT: usize> = std::result::Result<[TwoTimeMatrix; COUNT], Stage>;
+type One = std::result::Result<TwoTimeMatrix, Stage>;
+
+/// The operation of a sum over an interval of one point, start = end: a product, whose weight is 0.
+pub const ONE_POINT: &str = "one point";
+
+/// Whether that product is formed: the port forms it, document 02 does not.
+#[derive(Clone, Copy, PartialEq)]
+pub enum OnePoint {
+    Formed,
+    LeftOut,
+}
+
+/// The operation's name in place of its error.
+fn by<T, E>(operation: &'static str, made: std::result::Result<T, E>) -> Result<T> {
+    made.map_err(|_| KeldyshError::NonFinite(operation))
+}
+
+/// A function whose blocks may fail by an operation.
+pub fn function(name: &'static str, like: &TwoTimeMatrix, block: impl FnMut(usize, usize) -> Result<DenseMatrix>) -> One {
+    TwoTimeMatrix::try_from_fn(like.time_points(), like.orbitals(), block).map_err(|error| match error {
+        KeldyshError::NonFinite(operation) => [name, operation],
+        error => panic!("no operation for {error:?}"),
+    })
+}
+
+fn zero(size: usize) -> Result<DenseMatrix> {
+    by("zero", kept::zero(size))
+}
+
+fn plus_term(total: &DenseMatrix, left: &DenseMatrix, right: &DenseMatrix, weight: f64) -> Result<DenseMatrix> {
+    let product = by("product", left.multiply(right))?;
+    let scaled = by("scale", kept::scale(&product, weight.into()))?;
+    by("add", kept::add(total, &scaled))
+}
+
+/// Sums over these times.
+pub struct Work {
+    pub grid: RealTimeGrid,
+    pub one_point: OnePoint,
+}
+
+impl Work {
+    /// The sum over s from start to end by the weights of that interval, 0 where it is empty.
+    fn over(&self, left: &TwoTimeMatrix, right: &TwoTimeMatrix, [t, u]: [usize; 2], [start, end]: [usize; 2]) -> Result<DenseMatrix> {
+        let mut terms = start..=end;
+        let sum =
+            |total: DenseMatrix, s| plus_term(&total, left.get(t, s)?, right.get(s, u)?, kept::interval_weight(&self.grid, s, start, end));
+        match self.one_point {
+            OnePoint::LeftOut if start == end => zero(left.orbitals()),
+            OnePoint::Formed if start == end => by(ONE_POINT, terms.try_fold(zero(left.orbitals())?, sum)),
+            _ => terms.try_fold(zero(left.orbitals())?, sum),
+        }
+    }
+
+    fn causal(&self, name: &'static str, left: &TwoTimeMatrix, right: &TwoTimeMatrix) -> One {
+        function(name, left, |t, u| self.over(left, right, [t, u], [u, t]))
+    }
+
+    fn anti_causal(&self, name: &'static str, left: &TwoTimeMatrix, right: &TwoTimeMatrix) -> One {
+        function(name, left, |t, u| self.over(left, right, [t, u], [t, u]))
+    }
+
+    fn whole(&self, name: &'static str, left: &TwoTimeMatrix, right: &TwoTimeMatrix) -> One {
+        function(name, left, |t, u| {
+            let mut terms = self.grid.weights().iter().enumerate();
+            terms.try_fold(zero(left.orbitals())?, |total, (s, &weight)| plus_term(&total, left.get(t, s)?, right.get(s, u)?, weight))
+        })
+    }
+
+    fn retarded(&self, free: &TwoTimeMatrix, kernel: &TwoTimeMatrix) -> One {
+        let (points, mut blocks) = (free.time_points(), Vec::new());
+        function("G", free, |t, u| {
+            let start = if t < u { zero(free.orbitals())? } else { free.get(t, u)?.clone() };
+            let weight = |s| kept::interval_weight(&self.grid, s, u, t);
+            let block = (u..t).try_fold(start, |total, s| plus_term(&total, kernel.get(t, s)?, &blocks[s * points + u], weight(s)))?;
+            blocks.push(block.clone());
+            Ok(block)
+        })
+    }
+
+    pub fn time_convolution(&self, [left, right]: &[TwoTimeMatrix; 2]) -> Made<1> {
+        Ok([self.whole("sum", left, right)?])
+    }
+
+    pub fn causal_volterra_convolution(&self, [left, right]: &[TwoTimeMatrix; 2]) -> Made<1> {
+        Ok([self.causal("sum", left, right)?])
+    }
+
+    /// G and K.
+    pub fn retarded_dyson(&self, [free, self_energy]: &[TwoTimeMatrix; 2]) -> Made<2> {
+        let kernel = self.causal("K", free, self_energy)?;
+        Ok([self.retarded(free, &kernel)?, kernel])
+    }
+
+    /// G^R, G^<, K, X.
+    pub fn transient_run(&self, [free, self_energy, lesser_self_energy]: &[TwoTimeMatrix; 3]) -> Made<4> {
+        let kernel = self.causal("K", free, self_energy)?;
+        let retarded = self.retarded(free, &kernel)?;
+        let advanced = function("G^A", free, |t, u| Ok(retarded.get(u, t)?.adjoint()))?;
+        let lesser_advanced = function("X", free, |t, u| self.over(lesser_self_energy, &advanced, [t, u], [0, u]))?;
+        let lesser = function("G^<", free, |t, u| self.over(&retarded, &lesser_advanced, [t, u], [0, t]))?;
+        Ok([retarded, lesser, kernel, lesser_advanced])
+    }
+
+    /// The four components.
+    pub fn langreth_product(&self, [a, b, c, d, e, f, g, h]: &[TwoTimeMatrix; 8]) -> Made<4> {
+        let (retarded, advanced) = (self.causal("retarded", a, e)?, self.anti_causal("advanced", b, f)?);
+        let lesser = added("lesser", &self.whole("lesser, first sum", a, g)?, &self.whole("lesser, second sum", c, f)?)?;
+        let greater = added("greater", &self.whole("greater, first sum", a, h)?, &self.whole("greater, second sum", d, f)?)?;
+        Ok([retarded, advanced, lesser, greater])
+    }
+}
+
+fn added(name: &'static str, left: &TwoTimeMatrix, right: &TwoTimeMatrix) -> One {
+    function(name, left, |t, u| by("add", kept::add(left.get(t, u)?, right.get(t, u)?)))
+}
+
+/// The report's subtractions.
+pub fn consistency_report([retarded, advanced, lesser, greater]: &[TwoTimeMatrix; 4]) -> Made<1> {
+    let made = function("spectral identity", retarded, |t, u| {
+        by("retarded less advanced", retarded.get(t, u)?.subtract(advanced.get(t, u)?))?;
+        by("greater less lesser", greater.get(t, u)?.subtract(lesser.get(t, u)?))
+    });
+    Ok([made?])
+}
