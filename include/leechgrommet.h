@@ -173,7 +173,7 @@ uint8_t leechgrommet_time_convolution(
     double *out, size_t out_len,
     size_t *places, size_t places_len, double *part, size_t part_len);
 
-/* The same over s from t' to t by the weights of that interval, +0 where t < t'. Asks 1 to 7, 10. */
+/* The same over s from t' to t by the weights of that interval, +0 where t ≤ t'. Asks 1 to 7, 10. */
 uint8_t leechgrommet_causal_volterra_convolution(
     const double *times, size_t times_len,
     const double *left, size_t left_len,

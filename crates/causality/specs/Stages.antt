@@ -12,6 +12,7 @@ use Rattle.two_time.specs.Layout.{TwoTime}
 use Rattle.two_time.specs.WeightedSum.{weightedSum}
 use Rattle.two_time.specs.Agreement.{weighted-agree}
 use Rattle.two_time.specs.Sums.{interval, dysonTerms, termsAt, sumsOf}
+use Rattle.two_time.specs.Intervals.{interval-count}
 use Rattle.dyson.specs.Retarded.{solve, retardedRetarded}
 
 -- two functions agree on and below the diagonal in rows to k; in rows to k; with both indices to k
@@ -38,9 +39,9 @@ module _ (n k : ℕ) (times times' : List Float) (ht : AgreeTo k times times') w
         from = refl;
         count = refl;
         start = λ c d hc hd. refl;
-        weight = λ p lo hi. weights s e p he lo (omega arith);
-        left = λ p lo hi. hx p lo (omega arith);
-        right = λ p lo hi. hy p lo (omega arith);
+        weight = λ p lo hi. weights s e p he lo (omega (arith, interval-count s e));
+        left = λ p lo hi. hx p lo (omega (arith, interval-count s e));
+        right = λ p lo hi. hy p lo (omega (arith, interval-count s e));
       })
 
   module _ (points points' : ℕ) where

@@ -1,17 +1,17 @@
 -- Demand 3 of the transient run. Assumes nothing.
-use Rattle.lists.specs.Prelude.{_≡_, true, _&&_, ℕ, _<_, arith}
+use Rattle.lists.specs.Prelude.{_≡_, refl, _∙_, true, _&&_, ℕ, _<_, arith}
 use Rattle.lists.specs.Agreement.{both}
 use Rattle.complex.specs.Arithmetic.{cfinite}
 use Rattle.refusal.specs.declared.Verdict.the-variants.{Pass}
 use Rattle.refusal.specs.Verdict.{by}
 use Rattle.refusal.specs.Agreement.{ask-pass, then-pass}
 use Rattle.refusal.specs.Checks.{finiteWork}
-use Rattle.two_time.specs.declared.sums.Sums.the-variants.{Causal, LesserAdvanced, Lesser}
+use Rattle.two_time.specs.declared.sums.Sums.the-variants.{LesserAdvanced, Lesser}
 use Rattle.two_time.specs.Layout.{TwoTime}
 use Rattle.two_time.specs.WeightedSum.{finiteSum}
 use Rattle.two_time.specs.Finite.{everywhere-each}
-use Rattle.two_time.specs.OneTest.{sum-finite}
 use Rattle.two_time.specs.Sums.{termsAt, sumsOf, sumsOfFinite, sumsNumbers, sumsFinite}
+use Rattle.groups.specs.PlaceSums.{end-test}
 use Rattle.dyson.specs.Retarded.{retardedRetarded, retardedNumbers}
 use Rattle.dyson.specs.Recursion.{above}
 use Rattle.dyson.specs.Calls.{solvedFinite}
@@ -66,8 +66,8 @@ numbers r v t u a b ht hu ha hb =
     let z = sumsFinite Lesser (r .points) (r .orbitals) (r .times) (retardedOfRun r) (lesserAdvancedOfRun r) in
     let finite : z ≡ true = both y z (both (solvedFinite (equationOfRun r)) (y && z) all .1) .1 in
     let terms = termsAt Lesser (r .points) (r .times) (of r (retardedOfRun r)) (of r (lesserAdvancedOfRun r)) in
-    sum-finite (r .orbitals) (terms t u) a b t (omega arith)
-    (everywhere-each (r .points) (r .orbitals) (λ s w c d. finiteSum (r .orbitals) (terms s w) c d) finite t u a b ht hu ha hb)
+    end-test (r .orbitals) (terms t u) a b refl
+    ∙ (everywhere-each (r .points) (r .orbitals) (λ s w c d. finiteSum (r .orbitals) (terms s w) c d) finite t u a b ht hu ha hb)
 
 reads-no-later : ReadsNoLater retarded lesser
 reads-no-later =

@@ -1,6 +1,6 @@
 -- Document 01, "Arithmetic under everything": what contracts cite, the operations, the sum and the largest, and complex numbers in a list; closed
--- cases that hold them to the document. Then laws: of sums that agree, of a maximum by rows, of what is not finite, of a slice that is filled, and of
--- where a number has bits.
+-- cases that hold them to the document. Then laws: of sums that agree, of a maximum by rows, of what is not finite, of zeros of either sign, of a slice that
+-- is filled, and of where a number has bits.
 pub mod Arithmetic
 pub mod Sum
 pub mod Numbers
@@ -8,5 +8,6 @@ pub mod Cases
 pub mod Agreement
 pub mod Largest
 pub mod Finite
+pub mod Zeros
 pub mod Filling
 pub mod Bits

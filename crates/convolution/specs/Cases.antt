@@ -1,25 +1,15 @@
 -- Closed cases of both convolutions. Expected bits by reference/expected.py.
 use Rattle.lists.specs.Prelude.{_≡_, refl, List, [], _∷_, map, ℕ, replicate, Float, nan, binary64, toBits}
 use lib.Ieee as Ieee
-use Rattle.lists.specs.Indexed.{fold, join, allBelow}
-use Rattle.complex.specs.Arithmetic.{plusZero, one, finite, cadd, cmul, cfinite}
-use Rattle.complex.specs.Sum.{sumFrom}
-use Rattle.refusal.specs.declared.Verdict.the-variants.{Refused}
-use Rattle.refusal.specs.Verdict.{by, ask, _then_, askAll, afterwards}
-use Rattle.refusal.specs.Checks.{largeEnough, withinLimits, fitting, finiteTimes, risingTimes, finiteWeights, finiteEntries, finiteWork}
-use Rattle.block.specs.Block.{layOut}
-use Rattle.block.specs.Operations.{product, scaled}
-use Rattle.grid.specs.Weights.{halfStep, fullWeight, intervalWeight}
-use Rattle.grid.specs.Calls.{gridChecks}
-use Rattle.two_time.specs.Layout.{layOutAll, everywhere}
-use Rattle.two_time.specs.WeightedSum.{productAt, termAt, partialSum, weightedSum, finiteSum}
-use Rattle.two_time.specs.Sums.{termsAt, sumsOf, sumsOfFinite, sumsNumbers, sumsFinite}
-use Rattle.two_time.specs.Calls.{allLong, sizeChecks, operandChecks, inputChecks}
+use Rattle.complex.specs.Arithmetic.{plusZero, one}
+use Rattle.refusal.specs.declared.Verdict.the-variants.{Pass, Refused}
+use Rattle.refusal.specs.Verdict.{by}
+use Rattle.two_time.specs.Computation.{computation}
 use Rattle.convolution.specs.Calls.{convolvedBy, timeConvolution, causalConvolution}
 
 -- what the cases compute with
 unfoldable computing : Unit {0}
-unfolding convolvedBy inputChecks sizeChecks allLong operandChecks gridChecks largeEnough withinLimits fitting finiteTimes risingTimes finiteWeights finiteEntries finiteWork ask askAll _then_ afterwards sumsNumbers sumsFinite sumsOf sumsOfFinite termsAt layOutAll layOut join everywhere allBelow weightedSum partialSum termAt productAt finiteSum product scaled sumFrom fold fullWeight intervalWeight halfStep cadd cmul cfinite finite Ieee.ofBits toBits Ieee.add Ieee.sub Ieee.mul Ieee.neg Ieee.lt
+unfolding computation convolvedBy
 computing = tt
 
 -- the numbers of these bit patterns, and back
@@ -52,7 +42,7 @@ right = floats (
 abbrev out : List Float
 out = replicate 18 one
 
--- +0 on the diagonal, where the weight is 0, and above it
+-- +0 on the diagonal and above it
 causal-case : bits (causalConvolution 3 1 times left right out .out) ≡
     0 ∷ 0 ∷ 0 ∷ 0 ∷ 0 ∷ 0 ∷
     0x3ff9000000000000 ∷ 0x3ff3000000000000 ∷ 0 ∷ 0 ∷ 0 ∷ 0 ∷
@@ -94,11 +84,17 @@ weight-on-the-product : bits (timeConvolution 2 1 apart (floats (1 ∷ 0 ∷ 0 �
 unfolding computing
 weight-on-the-product = refl
 
--- the product at (0,0) of the causal one, where the weight is 0: "yet the product is formed and may give 10"
-diagonal-product : causalConvolution 2 1 apart (with-first 0x7fef_ffff_ffff_ffff) (with-first 0x4000_0000_0000_0000) (replicate 8 one)
+-- the largest by 2 at (0,0) of the causal one: "Form no product where an interval has one point only (start = end); the block is +0"
+one-point : causalConvolution 2 1 apart (with-first 0x7fef_ffff_ffff_ffff) (with-first 0x4000_0000_0000_0000) (replicate 8 one)
+    ≡ record { answer = Pass; out = floats (0 ∷ 0 ∷ 0 ∷ 0 ∷ 0x3ff8_0000_0000_0000 ∷ 0 ∷ 0 ∷ 0 ∷ []) }
+unfolding computing
+one-point = refl
+
+-- the same product in the interval from 0 to 2^-1074: "A longer interval whose step halves to 0 still forms its products"
+two-points : causalConvolution 2 1 (floats (0 ∷ 1 ∷ [])) (floats (0 ∷ 0 ∷ 0 ∷ 0 ∷ 0x7fef_ffff_ffff_ffff ∷ 0 ∷ 0 ∷ 0 ∷ [])) (with-first 0x4000_0000_0000_0000) (replicate 8 one)
     ≡ record { answer = Refused (by 10); out = replicate 8 plusZero }
 unfolding computing
-diagonal-product = refl
+two-points = refl
 
 -- any other refusal leaves the output: 7 of operand 1 at number 2, and 3 for an output that is short
 other-refusals : causalConvolution 2 1 apart (with-first 0) (plusZero ∷ plusZero ∷ nan ∷ plusZero ∷ plusZero ∷ plusZero ∷ plusZero ∷ plusZero ∷ []) (replicate 8 one)

@@ -25,7 +25,7 @@ pub fn time_convolution(
     convolve(Sums::Full, times, left, right, points, orbitals, out)
 }
 
-// The causal convolution, over s from t' to t by interval weights, +0 where t < t': N(N+1)(N+2)/6 products of blocks.
+// The causal convolution, over s from t' to t by interval weights, +0 where t ≤ t': N(N+1)(N+2)/6 − N products of blocks.
 pub fn causal_volterra_convolution(
     times: &[f64],
     left: &[f64],

@@ -57,15 +57,20 @@ seen tolerance free selfEnergy =
     let s = dysonWithTolerance 2 1 tolerance (plusZero ∷ one ∷ []) free selfEnergy (replicate 8 one) (replicate 8 one) in
     numberOf (s .answer) ∷ bits (take 1 (s .retarded) ++ take 1 (s .kernel))
 
--- 8 before 9; 9 for free, then for the self-energy; 10 by a product of K on the diagonal, and by G alone, where K(1,0) = 2^1021 meets G(0,0) = 2^10
+-- 8 before 9; 9 for free, then for the self-energy; 10 by a product of K, 2^1023·2 at (1,0), and by G alone, where K(1,0) = 2^1021 meets G(0,0) = 2^10
 refused : seen plusZero (square 0 0x3ff0000000000000 0 0) (square 0 0 0 0) ∷ seen half (square 0 0x3ff0000000000000 0 0) (square 0 0x3ff0000000000000 0 0)
     ∷ seen half (square 0 0 0 0) (square 0 0x3ff0000000000000 0 0)
-    ∷ seen half (square 0x7fe0000000000000 0 0 0) (square 0x4000000000000000 0 0 0)
+    ∷ seen half (square 0 0 0x7fe0000000000000 0) (square 0x4000000000000000 0 0 0)
     ∷ seen half (square 0x4090000000000000 0 0x7fd0000000000000 0) (square 0x3ff0000000000000 0 0 0) ∷ []
     ≡ (8 ∷ 0x3ff0000000000000 ∷ 0x3ff0000000000000 ∷ []) ∷ (9 ∷ 0x3ff0000000000000 ∷ 0x3ff0000000000000 ∷ []) ∷ (9 ∷ 0x3ff0000000000000 ∷ 0x3ff0000000000000 ∷ [])
     ∷ (10 ∷ 0 ∷ 0 ∷ []) ∷ (10 ∷ 0 ∷ 0 ∷ []) ∷ []
 unfolding dysonComputation
 refused = refl
+
+-- the product 2^1023·2 of K at (0,0) is not formed: that interval has one point
+one-point : seen half (square 0x7fe0000000000000 0 0 0) (square 0x4000000000000000 0 0 0) ≡ 0 ∷ 0x7fe0000000000000 ∷ 0 ∷ []
+unfolding dysonComputation
+one-point = refl
 
 -- operand 0 is free, operand 1 the self-energy
 abbrev refusal : List Float → List Float → Verdict

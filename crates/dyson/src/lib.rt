@@ -55,7 +55,7 @@ pub fn solve_retarded(
     Summed::Overflow
 }
 
-// Solves G = free + free ∘ self-energy ∘ G: checks 1 to 7, then 8, 9 for free, 9 for the self-energy, 10. N(N+1)(N+2)/6 products
+// Solves G = free + free ∘ self-energy ∘ G: checks 1 to 7, then 8, 9 for free, 9 for the self-energy, 10. N(N+1)(N+2)/6 − N products
 // of blocks for K, which stays in the scratch, and (N−1)N(N+1)/6 for G.
 pub fn retarded_dyson_with_tolerance(
     times: &[f64],

@@ -10,9 +10,9 @@ use Rattle.two_time.specs.Layout.{place, readAs}
 use Rattle.two_time.specs.declared.sums.Sums.{Sums}
 use Rattle.two_time.specs.WeightedSum.{Terms, productAt, termAt}
 use Rattle.terms.specs.declared.Term.{Term}
-use Rattle.terms.specs.Kinds.{rightBy, factorOf, lanesBelow, lanesAbove, Reaches}
+use Rattle.terms.specs.Kinds.{rightBy, factorOf, lanesBelow, lanesAbove, lanesHere, Reaches}
 use Rattle.terms.specs.Held.{product-is, held-below, weight-below, held-above, weight-above, held-here, weight-here}
-use Rattle.terms.specs.TermAt.{TermAt, cond-most, cond-least}
+use Rattle.terms.specs.TermAt.{TermAt, cond-between, cond-most, cond-least}
 use Rattle.lanes.specs.Lanes.{laneAt}
 use Rattle.rows.specs.Rows.{stepped, packedProduct}
 use Rattle.rows.specs.Ranges.{Ranged, stepped-common, stepped-ends, stepped-none}
@@ -23,15 +23,23 @@ lane-past : (p k n b : ℕ) → k ≤ p → k * n ≤ p * n + b
 lane-past p k n b h = let l = mul-le-mul-right n h in omega arith
 
 module _ (sums : Sums) (times : List Float) (points n t s u places : ℕ) (term : Term) (at : TermAt sums times points n t s u places term) where
+  -- where the lanes of place s end
+  abbrev ended : ℕ
+  ended = cond (lanesHere sums t s) (min (s + 1 - u) places) (min (s - u) places)
+
+  ended-between : (min (s - u) places ≤ ended) × (ended ≤ min (s + 1 - u) places)
+  ended-between = cond-between (lanesHere sums t s) (min (s - u) places) (min (s + 1 - u) places) (omega arith)
+
   pub ranged : places * n ≤ 16 → Ranged term
   ranged few =
       let i = min (s - u) places in
       let j = min (s + 1 - u) places in
+      let e = ended-between in
       let a = cond-least (lanesAbove sums) j places (omega arith) in
       record {
         low = omega (arith, at .below, at .before, mul-le-mul-right n (cond-most (lanesBelow sums) i));
-        middle = omega (arith, at .before, at .after, mul-le-mul-right n (let h : i ≤ j = omega arith in h));
-        high = omega (arith, at .after, at .above, mul-le-mul-right n (a .0));
+        middle = omega (arith, at .before, at .after, mul-le-mul-right n (e .0));
+        high = omega (arith, at .after, at .above, mul-le-mul-right n (e .1), mul-le-mul-right n (a .0));
         top = omega (arith, at .above, at .lanes, mul-le-mul-right n (a .1));
         few = omega (arith, at .lanes);
       }
@@ -81,17 +89,32 @@ module _ (sums : Sums) (times : List Float) (points n t s u places : ℕ) (term 
 
       place-here : u + p ≡ s → Goal
       unfolding held
-      place-here h =
-          let i : min (s - u) places ≡ p = omega arith in
-          let j : min (s + 1 - u) places ≡ p + 1 = omega arith in
-          let lane : p * n + b < min (s + 1 - u) places * n = digits-lt (let l : p < min (s + 1 - u) places = omega arith in l) hb in
-          let low = mul-le-mul-right n (cond-most (lanesBelow sums) (min (s - u) places)) in
-          let past = lane-past p (min (s - u) places) n b (omega arith) in
-          let above = mul-le-mul-right n (cond-least (lanesAbove sums) (min (s + 1 - u) places) places (omega arith) .0) in
-          stepped-ends term (p * n + b) product z (omega (arith, at .below)) (omega (arith, at .above)) (omega (arith, at .before)) (omega (arith, at .after))
-          ∙ ap (λ (w : Float). cadd z (cmul product (real w))) (at .ends (omega arith))
-          ∙ adds _ (weight-here points t (u + p) s times (readAs stride n left) (readAs stride n right) hs sums h)
-          ∙ sym (added-in (held-here points t (u + p) s times (readAs stride n left) (readAs stride n right) hs sums reach h))
+      place-here h = by-flag (lanesHere sums t s) refl
+        where
+          lane : p * n + b < min (s + 1 - u) places * n
+          lane = digits-lt (let l : p < min (s + 1 - u) places = omega arith in l) hb
+
+          past : min (s - u) places * n ≤ p * n + b
+          past = lane-past p (min (s - u) places) n b (omega arith)
+
+          low : term .below ≤ p * n + b
+          low = omega (arith, at .below, past, mul-le-mul-right n (cond-most (lanesBelow sums) (min (s - u) places)))
+
+          high : p * n + b < term .above
+          high = omega (arith, at .above, lane, mul-le-mul-right n (cond-least (lanesAbove sums) (min (s + 1 - u) places) places (omega arith) .0))
+
+          by-flag : (f : Bool) → lanesHere sums t s ≡ f → Goal
+          by-flag true e =
+              let all : ended ≡ min (s + 1 - u) places = ap (λ (g : Bool). cond g (min (s + 1 - u) places) (min (s - u) places)) e in
+              let after : term .after ≡ min (s + 1 - u) places * n = at .after ∙ ap (λ (k : ℕ). k * n) all in
+              stepped-ends term (p * n + b) product z low high (omega (arith, at .before, past)) (omega (arith, lane))
+              ∙ ap (λ (w : Float). cadd z (cmul product (real w))) (at .ends (let l : min (s - u) places < ended = omega arith in l))
+              ∙ adds _ (weight-here points t (u + p) s times (readAs stride n left) (readAs stride n right) hs sums h)
+              ∙ sym (added-in (held-here points t (u + p) s times (readAs stride n left) (readAs stride n right) hs sums reach h ∙ e))
+          by-flag false e =
+              let none : term .after ≡ min (s - u) places * n = at .after ∙ ap (λ (g : Bool). cond g (min (s + 1 - u) places) (min (s - u) places) * n) e in
+              stepped-none term (p * n + b) product z low high (inr (omega (arith, past)))
+              ∙ sym (added-out (held-here points t (u + p) s times (readAs stride n left) (readAs stride n right) hs sums reach h ∙ e))
 
       place-after : s < u + p → Goal
       unfolding held
@@ -112,6 +135,7 @@ module _ (sums : Sums) (times : List Float) (points n t s u places : ℕ) (term 
               let lane : p * n + b < places * n = digits-lt hp hb in
               let low = mul-le-mul-right n (cond-most (lanesBelow sums) (min (s - u) places)) in
               let middle = mul-le-mul-right n (let m : min (s - u) places ≤ min (s + 1 - u) places = omega arith in m) in
+              let high = mul-le-mul-right n (ended-between .1) in
               stepped-none term (p * n + b) product z (omega (arith, past, at .below)) (omega arith) (inr (omega (arith, past, at .after)))
               ∙ sym (added-out (held-above points t (u + p) s times (readAs stride n left) (readAs stride n right) hs sums reach h ∙ e))
 

@@ -1,5 +1,5 @@
 -- The sum at a place: its lanes hold it, it is tested by its last value, and Dyson's is the causal one up to the term before t. Assumes nothing.
-use Rattle.lists.specs.Prelude.{_≡_, refl, sym, ap, _∙_, Bool, true, false, not, _||_, List, ℕ, suc, _+_, _-_, _*_, _≤_, _<_, min, arith, eqb, Float, eqb-true}
+use Rattle.lists.specs.Prelude.{_≡_, refl, sym, ap, _∙_, Bool, true, false, not, _||_, List, ℕ, _+_, _-_, _*_, _≤_, _<_, min, arith, eqb, Float, eqb-true}
 use Rattle.lists.specs.Indexed.{allIn}
 use Rattle.lists.specs.Agreement.{all-agree, join-agree}
 use Rattle.complex.specs.declared.Complex.{Complex}
@@ -10,7 +10,8 @@ use Rattle.two_time.specs.declared.sums.Sums.{Sums}
 use Rattle.two_time.specs.declared.sums.Sums.the-variants.{Full, Causal, LesserAdvanced, Lesser, AntiCausal}
 use Rattle.two_time.specs.WeightedSum.{Terms, productAt, termAt, partialSum, weightedSum, finiteSum}
 use Rattle.two_time.specs.Layout.{TwoTime, readAs}
-use Rattle.two_time.specs.Sums.{termsAt, dysonTerms, sumsOf}
+use Rattle.two_time.specs.Sums.{intervalCount, termsAt, dysonTerms, sumsOf}
+use Rattle.two_time.specs.Intervals.{interval-count}
 use Rattle.two_time.specs.OneTest.{partial-none, one-test}
 use Rattle.block.specs.Block.{Entries, layOut}
 use Rattle.lanes.specs.Lanes.{laneAt}
@@ -83,7 +84,7 @@ module _ (points n : ℕ) (times free kernel retarded : List Float) (t u a b : �
   pub forward-sum : u ≤ t → partialAt n causal t a b ≡ weightedSum n dyson a b
   unfolding partialAt weightedSum termsAt
   forward-sum h =
-      let e : min (t - u) (suc t - u) ≡ t - u = omega arith in
+      let e : min (t - u) (intervalCount u t) ≡ t - u = omega (arith, interval-count u t) in
       ap (λ (k : ℕ). partialSum n causal k a b) e ∙ same-partial (t - u)
 
 -- what the causal loop up to t asks

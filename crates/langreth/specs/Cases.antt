@@ -1,7 +1,7 @@
 -- Closed cases of the Langreth product (reference/expected.py, case e), 10 and another refusal.
 use Rattle.lists.specs.Prelude.{_≡_, refl, List, [], _∷_, map, ℕ, replicate, Float, nan}
 use Rattle.complex.specs.Arithmetic.{plusZero, one}
-use Rattle.refusal.specs.declared.Verdict.the-variants.{Refused}
+use Rattle.refusal.specs.declared.Verdict.the-variants.{Pass, Refused}
 use Rattle.refusal.specs.Verdict.{by}
 use Rattle.two_time.specs.Computation.{computation}
 use Rattle.two_time.specs.Example.{floats}
@@ -56,16 +56,32 @@ components : bits (langrethProduct 2 1 times left right ones .out) ≡
 unfolding langrethComputation
 components = refl
 
--- 10 by the product of the advanced components at (1,1), where the weight is 0: each output +0. And 7 of operand 7, the right greater function
-abbrev most : List Float
-most = floats (0 ∷ 0 ∷ 0 ∷ 0 ∷ 0 ∷ 0 ∷ 0x7fe0000000000000 ∷ 0 ∷ [])
+-- components that are zero but for the retarded and the advanced one
+abbrev zero-but : List Float → List Float → Components
+zero-but retarded advanced = let zeros = replicate 8 plusZero in componentsOf retarded advanced zeros zeros
 
-abbrev zero-but-advanced : List Float → Components
-zero-but-advanced x = let zeros = replicate 8 plusZero in componentsOf zeros x zeros zeros
+abbrev zeros : Components
+zeros = let each = replicate 8 plusZero in zero-but each each
 
-refused : langrethProduct 2 1 times (zero-but-advanced most) (zero-but-advanced most) ones
+-- 2^1023 at (0,0) or (1,1)
+abbrev at-0-0 : List Float
+at-0-0 = floats (0x7fe0000000000000 ∷ 0 ∷ 0 ∷ 0 ∷ 0 ∷ 0 ∷ 0 ∷ 0 ∷ [])
+
+abbrev at-1-1 : List Float
+at-1-1 = floats (0 ∷ 0 ∷ 0 ∷ 0 ∷ 0 ∷ 0 ∷ 0x7fe0000000000000 ∷ 0 ∷ [])
+
+-- their products on the diagonal are not formed: those intervals have one point
+one-point : langrethProduct 2 1 times (zero-but at-0-0 at-1-1) (zero-but at-0-0 at-1-1) ones ≡ record { answer = Pass; out = zeros }
+unfolding langrethComputation
+one-point = refl
+
+-- 10 by the product of the advanced components at (0,1): each output +0. And 7 of operand 7, the right greater function
+abbrev at-0-1 : List Float
+at-0-1 = floats (0 ∷ 0 ∷ 0x7fe0000000000000 ∷ 0 ∷ 0 ∷ 0 ∷ 0 ∷ 0 ∷ [])
+
+refused : langrethProduct 2 1 times (zero-but at-0-0 at-0-1) (zero-but at-0-0 at-1-1) ones
     ∷ langrethProduct 2 1 times ones (componentsOf (ones .retarded) (ones .advanced) (ones .lesser) (nan ∷ replicate 7 one)) ones ∷ []
-    ≡ record { answer = Refused (by 10); out = zero-but-advanced (replicate 8 plusZero) }
+    ≡ record { answer = Refused (by 10); out = zeros }
     ∷ record { answer = Refused (record { number = 7; operand = 7; first = 0; second = 0; part = plusZero }); out = ones } ∷ []
 unfolding langrethComputation
 refused = refl

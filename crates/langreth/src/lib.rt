@@ -10,7 +10,7 @@ use two_time::checks::all_fit;
 use two_time::layout::clear;
 
 // The Langreth product of two functions by their components: C^R = A^R∘B^R, C^A = A^A∘B^A, C^< = A^R∘B^< + A^<∘B^A, C^> alike. Checks 1
-// to 7, then 10. At most 4·N³ + N(N+1)(N+2)/3 products of blocks.
+// to 7, then 10. At most 4·N³ + N(N+1)(N+2)/3 − 2·N products of blocks.
 pub fn langreth_product(
     times: &[f64],
     left_retarded: &[f64],

@@ -4,7 +4,7 @@ use Rattle.complex.specs.Arithmetic.{plusZero}
 use Rattle.two_time.specs.declared.sums.Sums.{Sums}
 use Rattle.terms.specs.declared.Term.{Term}
 use Rattle.terms.specs.declared.Span.{Span}
-use Rattle.terms.specs.Kinds.{lanesBelow, lanesAbove, commonWeight, endWeight, firstOf, lastOf}
+use Rattle.terms.specs.Kinds.{lanesBelow, lanesAbove, lanesHere, commonWeight, endWeight, firstOf, lastOf}
 
 -- s is a point, N and n are within the limits of check 2, and the places are at most 16
 abbrev pub termFits : ℕ → ℕ → ℕ → ℕ → Bool
@@ -15,18 +15,19 @@ abbrev pub noLanes : Term
 noLanes = record { common = plusZero; ends = plusZero; below = 0; before = 0; after = 0; above = 0; lanes = 0 }
 
 -- `term_of`: how term s of row t goes to the lanes of `places` places from u on, n lanes to a place. Of the places `before` lie before s, and `after` before
--- s + 1; where they differ a place is s, and its lanes take the term by the weight at the end of their interval.
+-- s + 1; where they differ a place is s, and its lanes, if its sum has s, take the term by the weight at the end of their interval.
 unfoldable pub termOf : Sums → List Float → ℕ → ℕ → ℕ → ℕ → ℕ → ℕ → Term
 termOf sums times points n t s u places =
     let before = min (s - u) places in
     let after = min (s + 1 - u) places in
+    let ended = cond (lanesHere sums t s) after before in
     cond (termFits points n s places)
     (record {
       common = commonWeight sums times points t s;
-      ends = cond (ltb before after) (endWeight sums times points t s) plusZero;
+      ends = cond (ltb before ended) (endWeight sums times points t s) plusZero;
       below = cond (lanesBelow sums) before 0 * n;
       before = before * n;
-      after = after * n;
+      after = ended * n;
       above = cond (lanesAbove sums) after places * n;
       lanes = places * n;
     })

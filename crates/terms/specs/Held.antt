@@ -1,5 +1,5 @@
 -- Whether the sum at a place has s, and by what weight, told by the kind of sums and where the place lies. Assumes nothing.
-use Rattle.lists.specs.Prelude.{_≡_, refl, ap, Bool, true, _&&_, List, ℕ, suc, _+_, _-_, _≤_, _<_, arith, leb, ltb, Float, le-leb, lt-leb, lt-ltb, le-ltb, ne-eqb}
+use Rattle.lists.specs.Prelude.{_≡_, refl, ap, Bool, true, _&&_, List, ℕ, _+_, _≤_, _<_, decLt, arith, leb, ltb, Float, le-leb, lt-leb, lt-ltb, le-ltb, ne-eqb}
 use Rattle.lists.specs.Agreement.{never}
 use Rattle.block.specs.Operations.{product}
 use Rattle.grid.specs.Weights.{intervalWeight}
@@ -7,8 +7,9 @@ use Rattle.two_time.specs.declared.sums.Sums.{Sums}
 use Rattle.two_time.specs.declared.sums.Sums.the-variants.{Full, Causal, LesserAdvanced, Lesser, AntiCausal}
 use Rattle.two_time.specs.Layout.{TwoTime}
 use Rattle.two_time.specs.WeightedSum.{Terms}
-use Rattle.two_time.specs.Sums.{termsAt}
-use Rattle.terms.specs.Kinds.{rightBy, factorOf, lanesBelow, lanesAbove, commonWeight, endWeight, Reaches}
+use Rattle.two_time.specs.Sums.{intervalCount, termsAt}
+use Rattle.two_time.specs.Intervals.{interval-count}
+use Rattle.terms.specs.Kinds.{rightBy, factorOf, lanesBelow, lanesAbove, lanesHere, commonWeight, endWeight, Reaches}
 
 -- a point after the start has a weight that does not depend on the start, and one before the end one that does not depend on the end
 after-start : (times : List Float) (s u v t : ℕ) → u < s → v < s → s ≤ t → intervalWeight times s u t ≡ intervalWeight times s v t
@@ -44,10 +45,10 @@ module _ (points t u s : ℕ) (times : List Float) (x y : TwoTime) where
     pub held-below : (sums : Sums) → Reaches sums t s → u < s → heldBy sums ≡ lanesBelow sums
     unfolding termsAt lanesBelow Reaches
     held-below Full r h = rw (le-leb 0 s (omega arith), lt-ltb s (0 + points) (omega arith))
-    held-below Causal r h = rw (le-leb u s (omega arith), lt-ltb s (u + (suc t - u)) (omega arith))
-    held-below LesserAdvanced r h = rw (le-leb 0 s (omega arith), le-ltb s (0 + (suc u - 0)) (omega arith))
-    held-below Lesser r h = rw (le-leb 0 s (omega arith), lt-ltb s (0 + (suc t - 0)) (omega arith))
-    held-below AntiCausal r h = rw (le-leb t s r, le-ltb s (t + (suc u - t)) (omega arith))
+    held-below Causal r h = rw (le-leb u s (omega arith), lt-ltb s (u + intervalCount u t) (omega (arith, interval-count u t)))
+    held-below LesserAdvanced r h = rw (le-leb 0 s (omega arith), le-ltb s (0 + intervalCount 0 u) (omega (arith, interval-count 0 u)))
+    held-below Lesser r h = rw (le-leb 0 s (omega arith), lt-ltb s (0 + intervalCount 0 t) (omega (arith, r .0, r .1, interval-count 0 t)))
+    held-below AntiCausal r h = rw (le-leb t s r, le-ltb s (t + intervalCount t u) (omega (arith, interval-count t u)))
 
     pub weight-below : (sums : Sums) → Reaches sums t s → u < s → lanesBelow sums ≡ true → at sums .weight s ≡ commonWeight sums times points t s
     unfolding termsAt lanesBelow Reaches commonWeight
@@ -62,9 +63,9 @@ module _ (points t u s : ℕ) (times : List Float) (x y : TwoTime) where
     unfolding termsAt lanesAbove Reaches
     held-above Full r h = rw (le-leb 0 s (omega arith), lt-ltb s (0 + points) (omega arith))
     held-above Causal r h = rw (lt-leb u s h)
-    held-above LesserAdvanced r h = rw (le-leb 0 s (omega arith), lt-ltb s (0 + (suc u - 0)) (omega arith))
-    held-above Lesser r h = rw (le-leb 0 s (omega arith), lt-ltb s (0 + (suc t - 0)) (omega arith))
-    held-above AntiCausal r h = rw (le-leb t s r, lt-ltb s (t + (suc u - t)) (omega arith))
+    held-above LesserAdvanced r h = rw (le-leb 0 s (omega arith), lt-ltb s (0 + intervalCount 0 u) (omega (arith, interval-count 0 u)))
+    held-above Lesser r h = rw (le-leb 0 s (omega arith), lt-ltb s (0 + intervalCount 0 t) (omega (arith, r .0, r .1, interval-count 0 t)))
+    held-above AntiCausal r h = rw (le-leb t s r, lt-ltb s (t + intervalCount t u) (omega (arith, interval-count t u)))
 
     pub weight-above : (sums : Sums) → Reaches sums t s → s < u → lanesAbove sums ≡ true → at sums .weight s ≡ commonWeight sums times points t s
     unfolding termsAt lanesAbove Reaches commonWeight
@@ -74,14 +75,26 @@ module _ (points t u s : ℕ) (times : List Float) (x y : TwoTime) where
     weight-above Lesser r h e = refl
     weight-above AntiCausal r h e = before-end times s t u (s + 1) r h (omega arith)
 
-    -- at place s
-    pub held-here : (sums : Sums) → Reaches sums t s → u ≡ s → heldBy sums ≡ true
-    unfolding termsAt Reaches
+    -- at place s; an interval that is s alone has no term
+    pub held-here : (sums : Sums) → Reaches sums t s → u ≡ s → heldBy sums ≡ lanesHere sums t s
+    unfolding termsAt lanesHere Reaches
     held-here Full r h = rw (le-leb 0 s (omega arith), lt-ltb s (0 + points) (omega arith))
-    held-here Causal r h = rw (le-leb u s (omega arith), lt-ltb s (u + (suc t - u)) (omega arith))
-    held-here LesserAdvanced r h = rw (le-leb 0 s (omega arith), lt-ltb s (0 + (suc u - 0)) (omega arith))
-    held-here Lesser r h = rw (le-leb 0 s (omega arith), lt-ltb s (0 + (suc t - 0)) (omega arith))
-    held-here AntiCausal r h = rw (le-leb t s r, lt-ltb s (t + (suc u - t)) (omega arith))
+    held-here Causal r h =
+        elim (decLt s t) [
+          | yes l ↦ rw (lt-ltb s t l, le-leb u s (omega arith), lt-ltb s (u + intervalCount u t) (omega (arith, interval-count u t)))
+          | no l ↦ rw (le-ltb s t (let k : t ≤ s = omega arith in k), le-leb u s (omega arith), le-ltb s (u + intervalCount u t) (omega (arith, interval-count u t)))
+        ]
+    held-here LesserAdvanced r h =
+        elim (decLt 0 s) [
+          | yes l ↦ rw (lt-ltb 0 s l, le-leb 0 s (omega arith), lt-ltb s (0 + intervalCount 0 u) (omega (arith, interval-count 0 u)))
+          | no l ↦ rw (le-ltb 0 s (let k : s ≤ 0 = omega arith in k), le-leb 0 s (omega arith), le-ltb s (0 + intervalCount 0 u) (omega (arith, interval-count 0 u)))
+        ]
+    held-here Lesser r h = rw (le-leb 0 s (omega arith), lt-ltb s (0 + intervalCount 0 t) (omega (arith, r .0, r .1, interval-count 0 t)))
+    held-here AntiCausal r h =
+        elim (decLt t s) [
+          | yes l ↦ rw (lt-ltb t s l, le-leb t s r, lt-ltb s (t + intervalCount t u) (omega (arith, interval-count t u)))
+          | no l ↦ rw (le-ltb t s (let k : s ≤ t = omega arith in k), le-leb t s r, le-ltb s (t + intervalCount t u) (omega (arith, interval-count t u)))
+        ]
 
     pub weight-here : (sums : Sums) → u ≡ s → at sums .weight s ≡ endWeight sums times points t s
     unfolding termsAt endWeight

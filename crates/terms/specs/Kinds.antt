@@ -1,11 +1,12 @@
 -- For each kind of sums: its right factor, which places have s, with what weight, and which s a row of places has.
-use Rattle.lists.specs.Prelude.{Bool, true, false, List, ℕ, _+_, _≤_, max, Float}
+use Rattle.lists.specs.Prelude.{Bool, true, false, List, ℕ, _+_, _≤_, _<_, max, ltb, Float}
 use Rattle.block.specs.Block.{Entries}
 use Rattle.block.specs.Operations.{adjoint}
 use Rattle.grid.specs.Weights.{fullWeight, intervalWeight}
 use Rattle.two_time.specs.declared.sums.Sums.{Sums}
 use Rattle.two_time.specs.declared.sums.Sums.the-variants.{Full, Causal, LesserAdvanced, Lesser, AntiCausal}
 use Rattle.two_time.specs.Layout.{TwoTime}
+use Rattle.two_time.specs.Sums.{intervalCount}
 use Rattle.terms.specs.declared.Factor.{Factor}
 use Rattle.terms.specs.declared.Factor.the-variants.{Stored, Adjoint}
 
@@ -37,6 +38,14 @@ lanesAbove LesserAdvanced = true
 lanesAbove Lesser = true
 lanesAbove AntiCausal = true
 
+-- s, which row t has, belongs to the sum at place s, unless the interval there is s alone
+unfoldable pub lanesHere : Sums → ℕ → ℕ → Bool
+lanesHere Full t s = true
+lanesHere Causal t s = ltb s t
+lanesHere LesserAdvanced t s = ltb 0 s
+lanesHere Lesser t s = true
+lanesHere AntiCausal t s = ltb t s
+
 -- the weight of s at every place but s that has it, and at place s
 unfoldable pub commonWeight : Sums → List Float → ℕ → ℕ → ℕ → Float
 commonWeight Full times points t s = fullWeight points times s
@@ -57,7 +66,7 @@ unfoldable pub Reaches : Sums → ℕ → ℕ → Type 0
 Reaches Full t s = 0 ≤ s
 Reaches Causal t s = s ≤ t
 Reaches LesserAdvanced t s = 0 ≤ s
-Reaches Lesser t s = s ≤ t
+Reaches Lesser t s = (0 < t) × (s ≤ t)
 Reaches AntiCausal t s = t ≤ s
 
 -- the first s of the places of row t from u on, and the s after their last
@@ -72,5 +81,5 @@ unfoldable pub lastOf : Sums → ℕ → ℕ → ℕ → ℕ → ℕ
 lastOf Full points t u places = points
 lastOf Causal points t u places = max u (t + 1)
 lastOf LesserAdvanced points t u places = u + places
-lastOf Lesser points t u places = t + 1
+lastOf Lesser points t u places = intervalCount 0 t
 lastOf AntiCausal points t u places = max t (u + places)

@@ -4,6 +4,7 @@ use Rattle.two_time.specs.declared.sums.Sums.{Sums}
 use Rattle.two_time.specs.declared.sums.Sums.the-variants.{Full, Causal, LesserAdvanced, Lesser, AntiCausal}
 use Rattle.two_time.specs.Layout.{TwoTime}
 use Rattle.two_time.specs.Sums.{termsAt}
+use Rattle.two_time.specs.Intervals.{interval-count}
 use Rattle.terms.specs.declared.Span.{Span}
 use Rattle.terms.specs.Kinds.{Reaches, firstOf, lastOf}
 use Rattle.terms.specs.Calls.{spanOf}
@@ -14,7 +15,7 @@ module _ (points t u places : ℕ) (ht : t < points) (hu : u + places ≤ points
   first-last Full = omega arith
   first-last Causal = omega arith
   first-last LesserAdvanced = omega arith
-  first-last Lesser = omega arith
+  first-last Lesser = omega (arith, interval-count 0 t)
   first-last AntiCausal = omega arith
 
   pub last-most : (sums : Sums) → lastOf sums points t u places ≤ points
@@ -22,7 +23,7 @@ module _ (points t u places : ℕ) (ht : t < points) (hu : u + places ≤ points
   last-most Full = omega arith
   last-most Causal = omega arith
   last-most LesserAdvanced = omega arith
-  last-most Lesser = omega arith
+  last-most Lesser = omega (arith, interval-count 0 t)
   last-most AntiCausal = omega arith
 
   pub between : (sums : Sums) (s : ℕ) → firstOf sums t u ≤ s → s < lastOf sums points t u places → Reaches sums t s
@@ -30,7 +31,7 @@ module _ (points t u places : ℕ) (ht : t < points) (hu : u + places ≤ points
   between Full s a b = omega arith
   between Causal s a b = omega arith
   between LesserAdvanced s a b = omega arith
-  between Lesser s a b = omega arith
+  between Lesser s a b = (omega (arith, interval-count 0 t), omega (arith, interval-count 0 t))
   between AntiCausal s a b = omega arith
 
   module _ (times : List Float) (x y : TwoTime) (c : ℕ) (h : c < places) where
@@ -45,10 +46,10 @@ module _ (points t u places : ℕ) (ht : t < points) (hu : u + places ≤ points
     pub last-enough : (sums : Sums) → termsAt sums points times x y t (u + c) .count ≤ lastOf sums points t u places - termsAt sums points times x y t (u + c) .from
     unfolding lastOf termsAt
     last-enough Full = omega arith
-    last-enough Causal = omega arith
-    last-enough LesserAdvanced = omega arith
-    last-enough Lesser = omega arith
-    last-enough AntiCausal = omega arith
+    last-enough Causal = omega (arith, interval-count (u + c) t)
+    last-enough LesserAdvanced = omega (arith, interval-count 0 (u + c))
+    last-enough Lesser = omega (arith, interval-count 0 t)
+    last-enough AntiCausal = omega (arith, interval-count t (u + c))
 
 -- what a loop from the first to before the last serves
 pub record Spanned (sums : Sums) (points t u places : ℕ) (span : Span) : Type 0 where

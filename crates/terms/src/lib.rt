@@ -2,7 +2,8 @@
 // p·n + b is column b of the group's place p.
 ghost use Rattle.lists.specs.Prelude.{_≡_, cond, _+_, _-_, _<_, _≤_, min, max, ltb};
 ghost use Rattle.complex.specs.Arithmetic.{plusZero};
-ghost use Rattle.terms.specs.Kinds.{factorOf, lanesBelow, lanesAbove, commonWeight, endWeight, firstOf, lastOf};
+ghost use Rattle.two_time.specs.Sums.{intervalCount};
+ghost use Rattle.terms.specs.Kinds.{factorOf, lanesBelow, lanesAbove, lanesHere, commonWeight, endWeight, firstOf, lastOf};
 ghost use Rattle.terms.specs.Calls.{termOf, spanFits, spanOf};
 use grid::full_weight;
 use grid::interval_weight;
@@ -70,6 +71,26 @@ fn above_start(sums: Sums, after: usize, places: usize) -> usize
         Sums::Lesser => after,
         Sums::AntiCausal => after,
     }
+}
+
+// Whether the sum at place s has s, which row t has: not where the interval there is s alone.
+fn lanes_here(sums: Sums, t: usize, s: usize) -> bool
+    ensures { λ r. ⌜ r ≡ lanesHere sums t s ⌝ }
+{
+    match sums {
+        Sums::Full => true,
+        Sums::Causal => s < t,
+        Sums::LesserAdvanced => 0 < s,
+        Sums::Lesser => true,
+        Sums::AntiCausal => t < s,
+    }
+}
+
+// Where the lanes of place s end.
+fn here_end(here: bool, before: usize, after: usize) -> usize
+    ensures { λ r. ⌜ r ≡ cond here after before ⌝ }
+{
+    if here { after } else { before }
 }
 
 // The weight of s at every place but s, and at place s.
@@ -154,7 +175,9 @@ pub fn term_of(
     let before = places_before(s, u, places);
     let after = places_before(s + 1, u, places);
     let common = common_weight(sums, times, points, t, s);
-    let ends = end_weight_of(sums, times, points, t, s, before, after);
+    let here = lanes_here(sums, t, s);
+    let ended = here_end(here, before, after);
+    let ends = end_weight_of(sums, times, points, t, s, before, ended);
     let below = below_end(sums, before);
     let above = above_start(sums, after, places);
     Term {
@@ -162,7 +185,7 @@ pub fn term_of(
         ends,
         below: below * orbitals,
         before: before * orbitals,
-        after: after * orbitals,
+        after: ended * orbitals,
         above: above * orbitals,
         lanes: places * orbitals,
     }
@@ -172,6 +195,14 @@ fn most(x: usize, y: usize) -> usize
     ensures { λ r. ⌜ r ≡ max x y ⌝ }
 {
     if x < y { y } else { x }
+}
+
+// How many terms the sum over the interval from 0 to `end` has.
+fn interval_count(end: usize) -> usize
+    requires { ⌜ end < 256 ⌝ }
+    ensures { λ r. ⌜ r ≡ intervalCount 0 end ⌝ }
+{
+    if 0 < end { end + 1 } else { 0 }
 }
 
 // The first s of the places from u on, and the s after their last.
@@ -192,12 +223,13 @@ fn last_of(sums: Sums, points: usize, t: usize, u: usize, places: usize) -> usiz
     ensures { λ r. ⌜ r ≡ lastOf sums points t u places ⌝ }
 {
     let row_end = t + 1;
+    let row_count = interval_count(t);
     let places_end = u + places;
     match sums {
         Sums::Full => points,
         Sums::Causal => most(u, row_end),
         Sums::LesserAdvanced => places_end,
-        Sums::Lesser => row_end,
+        Sums::Lesser => row_count,
         Sums::AntiCausal => most(t, places_end),
     }
 }

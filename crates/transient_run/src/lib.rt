@@ -96,8 +96,8 @@ fn work(
 }
 
 // The transient run of free, the retarded and the lesser self-energy: G^R and G^< in the outputs, K and
-// X in the scratch. G^A is never stored: its blocks are read as adjoints of G^R's. N(N+1)(2N+1)/6 products of blocks for K and
-// G^R and N·N·(N+1) for X and G^<.
+// X in the scratch. G^A is never stored: its blocks are read as adjoints of G^R's. N(N+1)(2N+1)/6 − N products of blocks for
+// K and G^R and N·N·(N+1) − 2·N for X and G^<.
 pub fn transient_run(
     times: &[f64],
     free: &[f64],

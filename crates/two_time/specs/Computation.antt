@@ -14,7 +14,7 @@ use Rattle.grid.specs.Weights.{halfStep, fullWeight, intervalWeight}
 use Rattle.grid.specs.Calls.{gridChecks}
 use Rattle.two_time.specs.Layout.{layOutAll, everywhere}
 use Rattle.two_time.specs.WeightedSum.{productAt, termAt, partialSum, weightedSum, finiteSum}
-use Rattle.two_time.specs.Sums.{termsAt, sumsOf, sumsOfFinite, sumsNumbers, sumsFinite}
+use Rattle.two_time.specs.Sums.{intervalCount, termsAt, sumsOf, sumsOfFinite, sumsNumbers, sumsFinite}
 use Rattle.two_time.specs.Calls.{allLong, sizeChecks, operandChecks, inputChecks}
 
 -- numbers, blocks and weights
@@ -29,5 +29,5 @@ checks = tt
 
 -- the sums at all places, and all of the above
 unfoldable pub computation : Unit {0}
-unfolding checks layOut layOutAll everywhere productAt termAt partialSum weightedSum finiteSum termsAt sumsOf sumsOfFinite sumsNumbers sumsFinite
+unfolding checks layOut layOutAll everywhere productAt termAt partialSum weightedSum finiteSum intervalCount termsAt sumsOf sumsOfFinite sumsNumbers sumsFinite
 computation = tt

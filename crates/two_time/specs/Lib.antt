@@ -13,6 +13,7 @@ pub mod ReadBack
 pub mod Parts
 pub mod SizeChecks
 pub mod Checks
+pub mod Intervals
 pub mod OneTest
 pub mod Finite
 pub mod Agreement

@@ -1,7 +1,6 @@
 -- A sum over times by its running sums: one more term, and that one test at its end tests every block made for it. Assumes nothing.
 use Rattle.lists.specs.Prelude.{_≡_, refl, sym, _∙_, Bool, true, false, _&&_, _||_, ℕ, zero, suc, _+_, le-refl, add-one, arith, eqb, ne-eqb}
 use Rattle.lists.specs.Indexed.{fold, allBelow}
-use Rattle.lists.specs.Agreement.{other}
 use Rattle.complex.specs.Arithmetic.{real, cadd, cmul, cfinite}
 use Rattle.complex.specs.Sum.{sumFrom}
 use Rattle.complex.specs.Finite.{cadd-finite, cmul-finite}
@@ -57,7 +56,3 @@ module _ (n : ℕ) (x : Terms) (a b : ℕ) where
   pub one-test : finiteSum n x a b ≡ eqb (x .count) 0 || cfinite (weightedSum n x a b)
   unfolding finiteSum weightedSum
   one-test = up-to (x .count)
-
-  -- a sum of at least one term that is finite on the way ends finite
-  pub sum-finite : (last : ℕ) → x .count ≡ suc last → finiteSum n x a b ≡ true → cfinite (weightedSum n x a b) ≡ true
-  sum-finite last e h = other (eqb (x .count) 0) _ (sym one-test ∙ h) (ne-eqb (x .count) 0 (λ z. omega arith))

@@ -1,5 +1,5 @@
 -- Document 01: the terms of every sum over times at a place (t, u), and the sums at all places.
-use Rattle.lists.specs.Prelude.{ℕ, suc, _-_, Bool, List, Float}
+use Rattle.lists.specs.Prelude.{ℕ, suc, _-_, Bool, cond, List, ltb, Float}
 use Rattle.block.specs.Block.{Entries}
 use Rattle.block.specs.Operations.{zeros, adjoint}
 use Rattle.grid.specs.Weights.{fullWeight, intervalWeight}
@@ -8,15 +8,20 @@ use Rattle.two_time.specs.declared.sums.Sums.the-variants.{Full, Causal,
 use Rattle.two_time.specs.Layout.{TwoTime, readAs, layOutAll, everywhere}
 use Rattle.two_time.specs.WeightedSum.{Terms, weightedSum, finiteSum}
 
--- s from `start` to `end`, by the weights of that interval; none where it ends before it starts, so the sum is +0 there
+-- How many terms the sum over an interval has: none where it ends before it starts. Document 02, L2: "Form no product where an interval has one point
+-- only (start = end); the block is +0. A longer interval whose step halves to 0 still forms its products."
+unfoldable pub intervalCount : ℕ → ℕ → ℕ
+intervalCount start end = cond (ltb start end) (suc end - start) 0
+
+-- s from `start` to `end`, by the weights of that interval, from +0
 abbrev pub interval : List Float → ℕ → ℕ → (ℕ → Entries) → (ℕ → Entries) → Terms
 interval times start end left right =
-    record { start = zeros; weight = λ s. intervalWeight times s start end; left = left; right = right; from = start; count = suc end - start }
+    record { start = zeros; weight = λ s. intervalWeight times s start end; left = left; right = right; from = start; count = intervalCount start end }
 
--- "`time_convolution` sums all s with full weights. `causal_volterra_convolution` sums s from t' to t with interval weights, +0 where t < t'": on
--- the diagonal the weight is 0, yet the product is formed. Of the transient run: "X(t,t') sums s from 0 to t' over Σ^<(t,s)·G^A(s,t') with weights
--- (s, 0, t'); G^<(t,t') sums s from 0 to t over G^R(t,s)·X(s,t') with weights (s, 0, t)", where "G^A(s,t') is the adjoint of G^R(t',s)". Of
--- Langreth: "advanced sums s from t to t' with weights (s, t, t') where t ≤ t' and is +0 elsewhere".
+-- "`time_convolution` sums all s with full weights. `causal_volterra_convolution` sums s from t' to t with interval weights, +0 where t < t'". Of the
+-- transient run: "X(t,t') sums s from 0 to t' over Σ^<(t,s)·G^A(s,t') with weights (s, 0, t'); G^<(t,t') sums s from 0 to t over G^R(t,s)·X(s,t') with
+-- weights (s, 0, t)", where "G^A(s,t') is the adjoint of G^R(t',s)". Of Langreth: "advanced sums s from t to t' with weights (s, t, t') where t ≤ t'
+-- and is +0 elsewhere".
 unfoldable pub termsAt : Sums → ℕ → List Float → TwoTime → TwoTime → ℕ → ℕ → Terms
 termsAt Full points times x y t u =
     record { start = zeros; weight = fullWeight points times; left = λ s. x t s; right = λ s. y s u; from = 0; count = points }
