@@ -37,6 +37,13 @@ short-significand m step l h f = go f
     go (inl e) = omega arith
     go (inr g) = absurd (omega (arith, below))
 
+-- at least 10: rounding carries by one digit at most
+pub carried-most : (m : ℕ) → m ≤ 2 ^ 53 → 11 - leadingZeros 64 m ≤ 1
+carried-most m l =
+    let t = leading-length 64 m (lt-of-le-of-lt l (lit< tt)) in
+    let most : t .0 ≤ 54 = le-of-suc-le-suc (lt-of-not-le (λ (g : 55 ≤ t .0). let no : ⊥ = omega (arith, pow-mono g) in no)) in
+    omega arith
+
 -- up to 11 it has 53 digits, or it was carried to 2^53 and is shifted to the next step
 pub long-significand : (m step : ℕ) → m ≤ 2 ^ 53 → let z = leadingZeros 64 m in z ≤ 11 → (step + (11 - z) + 1) * 2 ^ 52 + m / 2 ^ (11 - z) % 2 ^ 52 ≡ step * 2 ^ 52 + m
 long-significand m step l h = go (leading-length 64 m (lt-of-le-of-lt l (lit< tt)))

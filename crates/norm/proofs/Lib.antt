@@ -2,7 +2,8 @@
 -- What the words hold, and a digit of the root.
 mod Words
 mod Root
--- The exponents by leading zeros, and which way the root's digits are rounded.
+-- The exponents as `i16` numbers and by leading zeros, and which way the root's digits are rounded.
+mod Sixteen
 mod Exponents
 mod Rounding
 -- The parts' bits to the sum of their squares, the check of a guess and what it settles, and the definition's cases by the parts' bits.

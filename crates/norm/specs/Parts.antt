@@ -1,5 +1,10 @@
 -- A part's size from its bits without the sign: the significand times a power of two, in units of 2^-1074. And the bits of such a size.
-use Rattle.lists.specs.Prelude.{_⊎_, _≡_, ℕ, _+_, _-_, _*_, _/_, _%_, _^_, _≤_, _<_, false, cond, ltb, Float, binary64, units, ofBits, toBits}
+use Rattle.lists.specs.Prelude.{_⊎_, _≡_, ℕ, _+_, _-_, _*_, _/_, _%_, _^_, _≤_, _<_, false, cond, ltb, Float, binary64, units, ofBits, toBits, pos, ℤ}
+use lib.Signed.{mag}
+
+-- an exponent as code holds it, an `i16`: a natural number, at most `most`
+abbrev pub UpTo : ℕ → ℤ → Type 0
+UpTo most k = (k ≡ pos (mag k)) × (mag k ≤ most)
 
 -- the bits without the sign
 abbrev pub unsigned : Float → ℕ

@@ -1,62 +1,88 @@
 // The exponents: how far a part is shifted, how far apart two are, what the leading zeros of a sum or a root say, and the bits of a
-// significand at its step. A shift or a gap is at most 2045, a count of digits at most 128, a step at most 2072, a field at most 2047.
+// significand at its step. Each is an `i16` that stands for a natural number, and its range is in its comment; the largest is 2072.
 use super::wide::Wide;
-ghost use Rattle.lists.specs.Prelude.{_≡_, _+_, _*_, _/_, _^_, _≤_, _<_};
-ghost use Rattle.norm.specs.Parts.{shiftOf, Rounded, Encodes};
+ghost use Rattle.lists.specs.Prelude.{_≡_, _+_, _-_, _*_, _/_, _^_, _≤_, _<_, leb, pos};
+ghost use lib.Count.{leadingZeros};
+ghost use lib.Signed.{mag};
+ghost use Rattle.norm.specs.Parts.{UpTo, shiftOf, Rounded, Encodes};
 ghost use Rattle.norm.specs.Words.{two, Long, Dropped};
 
 // A part this many shifts or more below changes nothing.
-pub(crate) const FAR: u64 = 27;
+pub(crate) const FAR: i16 = 27;
 
-// How far the part of the bits a is shifted: its exponent's field counted from 1, and a field of 0 counts as 1.
-pub(crate) fn shift(a: u64) -> u64
-    ensures { λ r. ⌜ r ≡ shiftOf a ⌝ }
+// The leading zeros of a word, 0 to 64.
+fn zeros(x: u64) -> i16
+    ensures { λ r. ⌜ r ≡ pos (leadingZeros 64 x) ⌝ }
+{
+    u64::leading_zeros(x) as i16
+}
+
+// A shift's own operand, 0 to 64.
+pub(crate) fn places(k: i16) -> u64
+    requires { ⌜ UpTo 64 k ⌝ }
+    ensures { λ r. ⌜ r ≡ mag k ⌝ }
+{
+    k as u64
+}
+
+// Whether an exponent is at least another, both 0 to 2100.
+pub(crate) fn reaches(k: i16, least: i16) -> bool
+    requires { ⌜ UpTo 2100 k × UpTo 2100 least ⌝ }
+    ensures { λ r. ⌜ r ≡ leb (mag least) (mag k) ⌝ }
+{
+    least <= k
+}
+
+// How far the part of the bits a is shifted, 0 to 2045: its exponent's field counted from 1, and a field of 0 counts as 1.
+pub(crate) fn shift(a: u64) -> i16
+    requires { ⌜ a < 2047 * 2 ^ 52 ⌝ }
+    ensures { λ r. ⌜ r ≡ pos (shiftOf a) ⌝ }
 {
     if a < 0x10_0000_0000_0000 {
         0
     } else {
-        (a >> 52) - 1
+        (a >> 52) as i16 - 1
     }
 }
 
-// How many shifts the part a, the larger, is above b.
-pub(crate) fn gap(a: u64, b: u64) -> u64
-    requires { ⌜ b ≤ a ⌝ }
-    ensures { λ r. ⌜ r + shiftOf b ≡ shiftOf a ⌝ }
+// How many shifts the part a, the larger, is above b, 0 to 2045.
+pub(crate) fn gap(a: u64, b: u64) -> i16
+    requires { ⌜ (b ≤ a) × (a < 2047 * 2 ^ 52) ⌝ }
+    ensures { λ r. ⌜ r ≡ pos (shiftOf a - shiftOf b) ⌝ }
 {
     shift(a) - shift(b)
 }
 
-// How far the significand q, which is without its leading digit, is below one that has it: by its leading zeros.
-pub(crate) fn missing(q: u64) -> u64
+// How far the significand q, which is without its leading digit, is below one that has it, 1 to 52: by its leading zeros.
+pub(crate) fn missing(q: u64) -> i16
     requires { ⌜ (0 < q) × (q < 2 ^ 52) ⌝ }
-    ensures { λ r. ⌜ (1 ≤ r) × (r ≤ 52) × (q * 2 ^ r < 2 ^ 53) ⌝ }
+    ensures { λ r. ⌜ UpTo 52 r × (1 ≤ mag r) × (q * 2 ^ mag r < 2 ^ 53) ⌝ }
 {
-    u64::leading_zeros(q) as u64 - 11
+    zeros(q) - 11
 }
 
-// How many digits stand below the unit once the parts are raised by `up` and their sum is cut by `more`.
-pub(crate) fn below_unit(up: u64, more: u64) -> u64
-    requires { ⌜ (1 ≤ up) × (more ≤ 1) ⌝ }
-    ensures { λ r. ⌜ r + more ≡ up ⌝ }
+// How many digits stand below the unit once the parts are raised by `up` and their sum is cut by `more`, 0 to 52.
+pub(crate) fn below_unit(up: i16, more: i16) -> i16
+    requires { ⌜ UpTo 52 up × (1 ≤ mag up) × UpTo 1 more ⌝ }
+    ensures { λ r. ⌜ r ≡ pos (mag up - mag more) ⌝ }
 {
     up - more
 }
 
 // 2^d
-pub(crate) fn power(d: u64) -> u64
-    requires { ⌜ d ≤ 52 ⌝ }
-    ensures { λ r. ⌜ r ≡ 2 ^ d ⌝ }
+pub(crate) fn power(d: i16) -> u64
+    requires { ⌜ UpTo 52 d ⌝ }
+    ensures { λ r. ⌜ r ≡ 2 ^ mag d ⌝ }
 {
-    1 << d
+    1 << places(d)
 }
 
 // 1 where the sum of the squares a and b has 65 digits, one more than a word: half of it has no leading zeros. The 1 stands for what the
 // halves leave out.
-pub(crate) fn longer(a: u64, b: u64) -> u64
-    ensures { λ r. ⌜ r ≤ 1 ⌝ }
+pub(crate) fn longer(a: u64, b: u64) -> i16
+    ensures { λ r. ⌜ UpTo 1 r ⌝ }
 {
-    if u64::leading_zeros((a >> 1) + (b >> 1) + 1) == 0 {
+    if zeros((a >> 1) + (b >> 1) + 1) == 0 {
         1
     } else {
         0
@@ -64,73 +90,81 @@ pub(crate) fn longer(a: u64, b: u64) -> u64
 }
 
 // The whole part of x / 4^k.
-pub(crate) fn fourths(x: u64, k: u64) -> u64
-    requires { ⌜ k < 28 ⌝ }
-    ensures { λ r. ⌜ r ≡ x / 2 ^ (2 * k) ⌝ }
+pub(crate) fn fourths(x: u64, k: i16) -> u64
+    requires { ⌜ UpTo 27 k ⌝ }
+    ensures { λ r. ⌜ r ≡ x / 2 ^ (2 * mag k) ⌝ }
 {
-    x >> (2 * k)
+    x >> places(k + k)
 }
 
-// How far the square of a part that is gap shifts above is raised, four times, to the units of the other's.
-pub(crate) fn square_shift(gap: u64) -> u64
-    requires { ⌜ gap < 27 ⌝ }
-    ensures { λ r. ⌜ r ≡ 2 * gap + 2 ⌝ }
+// How far the square of a part that is gap shifts above is raised, four times, to the units of the other's, 2 to 54.
+pub(crate) fn square_shift(gap: i16) -> i16
+    requires { ⌜ UpTo 26 gap ⌝ }
+    ensures { λ r. ⌜ r ≡ pos (2 * mag gap + 2) ⌝ }
 {
-    2 * gap + 2
+    gap + gap + 2
 }
 
-// How many places of a word are left beside k.
-pub(crate) fn places_beside(k: u64) -> u64
-    requires { ⌜ k ≤ 64 ⌝ }
-    ensures { λ r. ⌜ r + k ≡ 64 ⌝ }
+// How many places of a word are left beside k, 0 to 64: a shift's own operand.
+pub(crate) fn places_beside(k: i16) -> u64
+    requires { ⌜ UpTo 64 k ⌝ }
+    ensures { λ r. ⌜ r + mag k ≡ 64 ⌝ }
 {
-    64 - k
+    places(64 - k)
 }
 
-// How many binary digits w has.
-fn digits(w: Wide) -> u64
-    ensures { λ r. ⌜ Long (two w) r ⌝ }
+// How many binary digits w has, 0 to 128.
+fn digits(w: Wide) -> i16
+    ensures { λ r. ⌜ UpTo 128 r × Long (two w) (mag r) ⌝ }
 {
     if w.hi == 0 {
-        64 - u64::leading_zeros(w.lo) as u64
+        64 - zeros(w.lo)
     } else {
-        128 - u64::leading_zeros(w.hi) as u64
+        128 - zeros(w.hi)
     }
 }
 
-// How many digits of a root are dropped: all but 53, and at least the one below the unit.
-pub(crate) fn dropped(root: Wide) -> u64
+// How many digits of a root are dropped, 1 to 28: all but 53, and at least the one below the unit.
+pub(crate) fn dropped(root: Wide) -> i16
     requires { ⌜ two root < 2 ^ 81 ⌝ }
-    ensures { λ r. ⌜ Dropped (two root) r ⌝ }
+    ensures { λ r. ⌜ UpTo 28 r × Dropped (two root) (mag r) ⌝ }
 {
     let z = digits(root);
-    if z < 54 { 1 } else { z - 53 }
+    if reaches(z, 54) { z - 53 } else { 1 }
 }
 
-// How many of the k digits dropped of a root stand from the unit on: one is below it.
-pub(crate) fn from_unit(k: u64) -> u64
-    requires { ⌜ 1 ≤ k ⌝ }
-    ensures { λ r. ⌜ r + 1 ≡ k ⌝ }
+// How many of the k digits dropped of a root stand from the unit on, 0 to 27: one is below it.
+pub(crate) fn from_unit(k: i16) -> i16
+    requires { ⌜ UpTo 28 k × (1 ≤ mag k) ⌝ }
+    ensures { λ r. ⌜ r ≡ pos (mag k - 1) ⌝ }
 {
     k - 1
+}
+
+// A field of the bits, 0 to 2047, at its place.
+fn field_bits(field: i16) -> u64
+    requires { ⌜ UpTo 2047 field ⌝ }
+    ensures { λ r. ⌜ r ≡ mag field * 2 ^ 52 ⌝ }
+{
+    field as u64 * 0x10_0000_0000_0000
 }
 
 // The bits of m steps of 2^(more + shift) units: "the count of leading zeros gives the exponent" (document 01). It is 11 where the
 // significand m has all 53 digits, 10 where rounding carried it to 2^53, which is 2^52 at the next step, and more where the number is
 // subnormal. A significand at a step of 2^2046 units is past the largest number, and a carry below can raise the field up to infinity's.
-pub(crate) fn encoded(m: u64, more: u64, shift: u64) -> u64
-    requires { ⌜ Rounded m (more + shift) × (more < 28) × (shift ≤ 2045) ⌝ }
-    ensures { λ r. ⌜ Encodes r m (more + shift) ⌝ }
+// `more` is 0 to 27, `shift` 0 to 2045, the step 0 to 2072, what is carried 0 or 1, the field 1 to 2047.
+pub(crate) fn encoded(m: u64, more: i16, shift: i16) -> u64
+    requires { ⌜ Rounded m (mag more + mag shift) × UpTo 27 more × UpTo 2045 shift ⌝ }
+    ensures { λ r. ⌜ Encodes r m (mag more + mag shift) ⌝ }
 {
     let step = more + shift;
-    if step >= 2046 {
+    if reaches(step, 2046) {
         return 0x7ff0_0000_0000_0000;
     }
-    let zeros = u64::leading_zeros(m) as u64;
-    if zeros > 11 {
+    let leading = zeros(m);
+    if reaches(leading, 12) {
         return m;
     }
-    let carried = 11 - zeros;
-    let field = step + carried + 1;
-    field * 0x10_0000_0000_0000 + (m >> carried) % 0x10_0000_0000_0000
+    let carried = 11 - leading;
+    field_bits(step + carried + 1) + (m >> places(carried)) % 0x10_0000_0000_0000
 }

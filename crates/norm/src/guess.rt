@@ -4,9 +4,12 @@ use super::exponent::encoded;
 use super::exponent::fourths;
 use super::exponent::longer;
 use super::exponent::missing;
+use super::exponent::places;
 use super::exponent::power;
 use super::near_root::near_root;
 ghost use Rattle.lists.specs.Prelude.{_≡_, ℕ, _+_, _*_, _/_, _^_, _≤_, _<_};
+ghost use lib.Signed.{mag};
+ghost use Rattle.norm.specs.Parts.{UpTo};
 ghost use Rattle.norm.specs.Checked.{Between, Covers, Ranked, Settles, wholeSquares};
 
 fn one_if(b: bool) -> u64
@@ -52,13 +55,13 @@ fn settled(t: u64, m: u64) -> u64
 }
 
 // The same for a root that is rounded at the unit, the last d digits of m being below it: the one of m / 2^d and the next that is nearest,
-// or 0, also where that has a digit more.
-fn settled_at_unit(t: u64, m: u64, d: u64) -> u64
-    requires { ⌜ (2 ^ 52 ≤ m) × (m < 2 ^ 53) × (d ≤ 52) ⌝ }
-    ensures { λ r. ⌜ (r < 2 ^ 53) × (0 < r → (sum more : ℕ) → Covers t sum more → Between sum r (2 ^ (d + more))) ⌝ }
+// or 0, also where that has a digit more. d is 0 to 52.
+fn settled_at_unit(t: u64, m: u64, d: i16) -> u64
+    requires { ⌜ (2 ^ 52 ≤ m) × (m < 2 ^ 53) × UpTo 52 d ⌝ }
+    ensures { λ r. ⌜ (r < 2 ^ 53) × (0 < r → (sum more : ℕ) → Covers t sum more → Between sum r (2 ^ (mag d + more))) ⌝ }
 {
     let unit = power(d);
-    let whole = m >> d;
+    let whole = m >> places(d);
     let q = whole + one_if(high_square((2 * whole + 1) * unit) < t);
     let high = (2 * q + 1) * unit;
     if high >= 0x40_0000_0000_0000 {
@@ -78,16 +81,16 @@ fn settled_at_unit(t: u64, m: u64, d: u64) -> u64
     q
 }
 
-// The sum of two squares, in steps of 2^44·4^more.
+// The sum of two squares, in steps of 2^44·4^more; `more` is 0 or 1.
 struct Sum {
     t: u64,
-    more: u64,
+    more: i16,
 }
 
-// The sum of the squares of 2·qa and 2·qb / 2^gap, in as many steps as fit a word, or 0.
-fn summed(qa: u64, qb: u64, gap: u64) -> Sum
-    requires { ⌜ (qa < 2 ^ 53) × (qb < 2 ^ 53) × (gap < 27) ⌝ }
-    ensures { λ r. ⌜ (r .more ≤ 1) × (0 < r .t → Covers (r .t) (wholeSquares qa qb gap) (r .more)) ⌝ }
+// The sum of the squares of 2·qa and 2·qb / 2^gap, in as many steps as fit a word, or 0. The gap is 0 to 26.
+fn summed(qa: u64, qb: u64, gap: i16) -> Sum
+    requires { ⌜ (qa < 2 ^ 53) × (qb < 2 ^ 53) × UpTo 26 gap ⌝ }
+    ensures { λ r. ⌜ UpTo 1 (r .more) × (0 < r .t → Covers (r .t) (wholeSquares qa qb (mag gap)) (mag (r .more))) ⌝ }
 {
     let large = high_square(2 * qa);
     let small = high_square(2 * qb);
@@ -105,10 +108,10 @@ fn summed(qa: u64, qb: u64, gap: u64) -> Sum
 }
 
 // The bits of the norm of the significands qa and qb that are gap shifts apart, the larger shifted by `shift`, rounded to 53 digits: 0 where
-// the guess fails.
-fn at_53_digits(qa: u64, qb: u64, gap: u64, shift: u64) -> u64
-    requires { ⌜ (qa < 2 ^ 53) × (qb < 2 ^ 53) × (gap < 27) × (shift ≤ 2045) ⌝ }
-    ensures { λ r. ⌜ (0 < r → Settles qa qb gap shift r) ⌝ }
+// the guess fails. The gap is 0 to 26, the shift 0 to 2045.
+fn at_53_digits(qa: u64, qb: u64, gap: i16, shift: i16) -> u64
+    requires { ⌜ (qa < 2 ^ 53) × (qb < 2 ^ 53) × UpTo 26 gap × UpTo 2045 shift ⌝ }
+    ensures { λ r. ⌜ (0 < r → Settles qa qb (mag gap) (mag shift) r) ⌝ }
 {
     let s = summed(qa, qb, gap);
     let t = s.t;
@@ -125,28 +128,26 @@ fn at_53_digits(qa: u64, qb: u64, gap: u64, shift: u64) -> u64
     encoded(q, s.more, shift)
 }
 
-// The same for parts of a and b units, both without their leading digit, rounded at the unit.
+// The same for parts of a and b units, both without their leading digit, rounded at the unit: so many units are their own bits.
 fn at_unit(a: u64, b: u64) -> u64
     requires { ⌜ (0 < a) × (a < 2 ^ 52) × (b ≤ a) ⌝ }
     ensures { λ r. ⌜ (0 < r → Settles a b 0 0 r) ⌝ }
 {
     let up = missing(a);
-    let s = summed(a << up, b << up, 0);
+    let by = places(up);
+    let s = summed(a << by, b << by, 0);
     let t = s.t;
     if t < 0x4000_0000_0000_0000 {
         return 0;
     }
-    let m = settled_at_unit(t, near_root(t), below_unit(up, s.more));
-    if m == 0 {
-        return 0;
-    }
-    encoded(m, 0, 0)
+    settled_at_unit(t, near_root(t), below_unit(up, s.more))
 }
 
 // The bits of the norm of the significands qa and qb that are gap shifts apart, the larger shifted by `shift`: 0 where the guess fails.
-pub(crate) fn guessed(qa: u64, qb: u64, gap: u64, shift: u64) -> u64
-    requires { ⌜ (qa < 2 ^ 53) × (qb < 2 ^ 53) × (gap < 27) × (shift ≤ 2045) × Ranked qa qb shift ⌝ }
-    ensures { λ r. ⌜ (0 < r → Settles qa qb gap shift r) ⌝ }
+// The gap is 0 to 26, the shift 0 to 2045.
+pub(crate) fn guessed(qa: u64, qb: u64, gap: i16, shift: i16) -> u64
+    requires { ⌜ (qa < 2 ^ 53) × (qb < 2 ^ 53) × UpTo 26 gap × UpTo 2045 shift × Ranked qa qb (mag shift) ⌝ }
+    ensures { λ r. ⌜ (0 < r → Settles qa qb (mag gap) (mag shift) r) ⌝ }
 {
     if qa < 0x10_0000_0000_0000 {
         at_unit(qa, qb)

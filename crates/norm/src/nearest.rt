@@ -2,10 +2,13 @@
 use super::exponent::dropped;
 use super::exponent::encoded;
 use super::exponent::from_unit;
+use super::exponent::places;
 use super::exponent::places_beside;
 use super::square_root::Root;
 use super::wide::Wide;
 ghost use Rattle.lists.specs.Prelude.{_⊎_, _≡_, ℕ, _+_, _*_, _^_, _≤_, _<_, binary64, ofBits};
+ghost use lib.Signed.{mag};
+ghost use Rattle.norm.specs.Parts.{UpTo};
 ghost use Rattle.norm.specs.Norm.{roundedRoot};
 ghost use Rattle.norm.specs.Words.{two, read, RoundsBy};
 
@@ -27,15 +30,16 @@ fn rounding_up(q: u64, tail: u64, rest: Wide) -> u64
     1
 }
 
-// The bits of the norm: s has the root in halves of 2^shift units.
-pub(crate) fn rounded(s: Root, shift: u64) -> u64
-    requires { ⌜ (two (s .rest) ≤ 2 * two (s .root)) × (two (s .root) < 2 ^ 81) × (shift ≤ 2045) × ((shift ≡ 0) ⊎ (2 ^ 53 ≤ two (s .root))) ⌝ }
-    ensures { λ r. ⌜ (r ≤ 2047 * 2 ^ 52) × ((n : ℕ) → read s * 4 ^ shift ≡ 4 * n → ofBits binary64 r ≡ roundedRoot n) ⌝ }
+// The bits of the norm: s has the root in halves of 2^shift units. The shift is 0 to 2045.
+pub(crate) fn rounded(s: Root, shift: i16) -> u64
+    requires { ⌜ (two (s .rest) ≤ 2 * two (s .root)) × (two (s .root) < 2 ^ 81) × UpTo 2045 shift × ((mag shift ≡ 0) ⊎ (2 ^ 53 ≤ two (s .root))) ⌝ }
+    ensures { λ r. ⌜ (r ≤ 2047 * 2 ^ 52) × ((n : ℕ) → read s * 4 ^ mag shift ≡ 4 * n → ofBits binary64 r ≡ roundedRoot n) ⌝ }
 {
     let root = s.root;
     let k = dropped(root);
     let up = places_beside(k);
-    let q = (root.hi << up) + (root.lo >> k);
+    let down = places(k);
+    let q = (root.hi << up) + (root.lo >> down);
     let more = rounding_up(q, root.lo << up, s.rest);
     encoded(q + more, from_unit(k), shift)
 }

@@ -1,6 +1,7 @@
 // The norm of two finite parts by their bits without the signs.
 use super::exponent::FAR;
 use super::exponent::gap;
+use super::exponent::reaches;
 use super::exponent::shift;
 use super::exponent::square_shift;
 use super::guess::guessed;
@@ -10,9 +11,10 @@ use super::wide::plus;
 use super::wide::raised;
 use super::wide::square;
 ghost use Rattle.lists.specs.Prelude.{_⊎_, _≡_, _+_, _*_, _^_, _≤_, _<_, binary64, ofBits};
+ghost use lib.Signed.{mag};
 ghost use Rattle.norm.specs.Checked.{Settles};
 ghost use Rattle.norm.specs.Norm.{roundedRoot};
-ghost use Rattle.norm.specs.Parts.{significandOf, unitsOf};
+ghost use Rattle.norm.specs.Parts.{UpTo, significandOf, unitsOf};
 
 fn significand(a: u64) -> u64
     ensures { λ r. ⌜ r ≡ significandOf a ⌝ }
@@ -25,10 +27,10 @@ fn significand(a: u64) -> u64
 }
 
 // The bits of the norm of the significands qa and qb that are gap shifts apart, the smaller shifted by `unit`, from the digits of the
-// root: twice the parts, aligned, so that the root has a digit below the unit.
-fn by_digits(qa: u64, qb: u64, gap: u64, unit: u64) -> u64
-    requires { ⌜ (qa < 2 ^ 53) × (qb < 2 ^ 53) × (gap < 27) × (unit ≤ 2045) × ((unit ≡ 0) ⊎ (2 ^ 52 ≤ qa)) ⌝ }
-    ensures { λ r. ⌜ Settles qa qb gap (gap + unit) r ⌝ }
+// root: twice the parts, aligned, so that the root has a digit below the unit. The gap is 0 to 26, `unit` 0 to 2045.
+fn by_digits(qa: u64, qb: u64, gap: i16, unit: i16) -> u64
+    requires { ⌜ (qa < 2 ^ 53) × (qb < 2 ^ 53) × UpTo 26 gap × UpTo 2045 unit × ((mag unit ≡ 0) ⊎ (2 ^ 52 ≤ qa)) ⌝ }
+    ensures { λ r. ⌜ Settles qa qb (mag gap) (mag gap + mag unit) r ⌝ }
 {
     let n = plus(raised(square(qa), square_shift(gap)), square(2 * qb));
     rounded(root_of(n), unit)
@@ -43,7 +45,7 @@ pub(crate) fn norm_bits(a: u64, b: u64) -> u64
         return a;
     }
     let apart = gap(a, b);
-    if apart >= FAR {
+    if reaches(apart, FAR) {
         return a;
     }
     let qa = significand(a);

@@ -1,6 +1,9 @@
 // Numbers of two and of three words: what the root needs of them, each contract in natural numbers.
+use super::exponent::places;
 use super::exponent::places_beside;
 ghost use Rattle.lists.specs.Prelude.{_≡_, _+_, _-_, _*_, _^_, _≤_, _<_, leb};
+ghost use lib.Signed.{mag};
+ghost use Rattle.norm.specs.Parts.{UpTo};
 ghost use Rattle.norm.specs.Words.{two, three};
 
 // hi·2^64 + lo
@@ -82,16 +85,17 @@ pub(crate) fn square(s: u64) -> Wide
     }
 }
 
-// w·2^j, whose two words become three.
-pub(crate) fn raised(w: Wide, j: u64) -> Three
-    requires { ⌜ (1 ≤ j) × (j < 64) ⌝ }
-    ensures { λ r. ⌜ three r ≡ two w * 2 ^ j ⌝ }
+// w·2^j, whose two words become three; j is 1 to 63.
+pub(crate) fn raised(w: Wide, j: i16) -> Three
+    requires { ⌜ UpTo 63 j × (1 ≤ mag j) ⌝ }
+    ensures { λ r. ⌜ three r ≡ two w * 2 ^ mag j ⌝ }
 {
+    let up = places(j);
     let down = places_beside(j);
     Three {
         high: w.hi >> down,
-        mid: (w.hi << j) + (w.lo >> down),
-        low: w.lo << j,
+        mid: (w.hi << up) + (w.lo >> down),
+        low: w.lo << up,
     }
 }
 
