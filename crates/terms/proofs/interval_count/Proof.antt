@@ -9,5 +9,5 @@ unfolding intervalCount
 interval-count-spec =
     tie.close (tie.spec
     (λ c. search needs)  -- add-t1
-    (λ c. rw (lt-ltb 0 _ (c .if1 .taken)) (omega arith))  -- returns
-    (λ c. rw (le-ltb 0 _ (c .if1 .left))))  -- returns-2
+    (λ c. rw (lt-ltb 0 (c .before .args .end) (omega (arith, c .if1 .taken))) (omega arith))  -- returns
+    (λ c. rw (le-ltb 0 (c .before .args .end) (omega (arith, c .if1 .left)))))  -- returns-2
