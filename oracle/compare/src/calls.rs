@@ -146,7 +146,7 @@ fn langreth_product(call: &Call) -> Outcome {
 type Ours = fn(&[f64], &[f64], &[f64], usize, usize, &mut [f64]) -> here::Answer;
 type Theirs<T> = fn(usize, usize, &[f64], [&[f64]; 2], [usize; 1]) -> T;
 
-fn convolution<T: Into<judge::Judged<1>>>(call: &Call, ours: Ours, theirs: Theirs<T>) -> Outcome {
+fn convolution<T: Into<judge::Judged<judge::Slices<1>>>>(call: &Call, ours: Ours, theirs: Theirs<T>) -> Outcome {
     let (points, orbitals, times, [left, right]) = (call.points, call.orbitals, &call.times, call.operands());
     let [mut out] = lent(call.made());
     let answer = ours(times, left, right, points, orbitals, &mut out);

@@ -1,24 +1,23 @@
 //! What is compared of the two sides of a call.
-use judge::{Judged, Refused};
+use judge::{Judged, Listed, Refused, Slices};
 
 /// What lent slices hold before a call.
 pub const LENT: f64 = -7.25;
 
 /// The number of the judge's refusal, or ours where it alone refuses, and 0 where both accept; the part that the refusal carries; how many
-/// numbers are compared, and how many differ; the sum in which the port refuses by 10 on one point; what the call is counted under in its
-/// part.
+/// numbers are compared, and how many differ; the listed difference from the port; what the call is counted under in its part.
 pub struct Outcome {
     pub number: u8,
     pub part: f64,
     pub compared: usize,
     pub unequal: usize,
-    pub one_point: Option<&'static str>,
+    pub listed: Option<Listed>,
     pub label: String,
 }
 
 impl Outcome {
     pub fn of(refused: Refused, compared: usize, unequal: usize) -> Self {
-        Self { number: refused.number, part: refused.part, compared, unequal, one_point: None, label: String::new() }
+        Self { number: refused.number, part: refused.part, compared, unequal, listed: None, label: String::new() }
     }
 
     pub fn under(self, label: impl Into<String>) -> Self {
@@ -64,20 +63,22 @@ pub fn outcome<T>(here: Result<T, here::Answer>, port: judge::Answer<T>, numbers
     }
 }
 
-/// The same of a call that was lent slices for what it makes, which after 10 hold +0 and after another refusal what they held. Where the sums
-/// done again without products on one point are not the port's, one more number differs.
-pub fn filled<const COUNT: usize>(answer: here::Answer, lent: [Vec<f64>; COUNT], judged: impl Into<Judged<COUNT>>) -> Outcome {
-    let judged = judged.into();
-    let made = |made: [Vec<f64>; COUNT]| made.concat();
-    let mut outcome = if answer.number == 0 {
-        outcome(Ok(lent), judged.answer, made)
-    } else {
-        let held: f64 = if answer.number == 10 { 0.0 } else { LENT };
-        let left = lent.iter().flatten().filter(|x| !same(**x, held)).count();
-        outcome(Err(answer), judged.answer, made).and(&Outcome::of(Refused::by(0), lent.iter().flatten().count(), left))
-    };
-    outcome.unequal += usize::from(!judged.agrees);
-    Outcome { one_point: judged.one_point, ..outcome }
+/// The same of a judged call, with its listed difference. Where what the judge did again is not the port's, one more number differs.
+pub fn judged<T>(here: Result<T, here::Answer>, judged: impl Into<Judged<T>>, numbers: impl Fn(T) -> Vec<f64>) -> Outcome {
+    let Judged { answer, listed, agrees } = judged.into();
+    let outcome = outcome(here, answer, numbers);
+    Outcome { listed, unequal: outcome.unequal + usize::from(!agrees), ..outcome }
+}
+
+/// The same of a call that was lent slices for what it makes, which after 10 hold +0 and after another refusal what they held.
+pub fn filled<const COUNT: usize>(answer: here::Answer, lent: Slices<COUNT>, port: impl Into<Judged<Slices<COUNT>>>) -> Outcome {
+    let made = |made: Slices<COUNT>| made.concat();
+    if answer.number == 0 {
+        return judged(Ok(lent), port, made);
+    }
+    let held: f64 = if answer.number == 10 { 0.0 } else { LENT };
+    let left = lent.iter().flatten().filter(|x| !same(**x, held)).count();
+    judged(Err(answer), port, made).and(&Outcome::of(Refused::by(0), lent.iter().flatten().count(), left))
 }
 
 /// A decision as a number.

@@ -7,7 +7,7 @@ use crate::one_point::FUNCTIONS;
 use crate::sides::{same, Outcome};
 use crate::stages;
 use crate::Job;
-use judge::stages::ONE_POINT;
+use judge::{stages::ONE_POINT, Listed};
 
 const PART: &str = "smallest";
 
@@ -99,7 +99,7 @@ fn call(x: &Smallest, times: &[f64], lent: &[Real], operation: &'static str) -> 
     let (f, points) = (calls::function(x.function), times.len());
     let operands = functions(points, f.retarded.len(), lent);
     let call = Call { points, times: times.to_vec(), ..call_of(f, 1, operands) };
-    let one_point = (operation == ONE_POINT).then_some(x.sum);
+    let one_point = (operation == ONE_POINT).then_some(Listed::OnePoint(x.sum));
     let as_told = match left(f, &call) {
         Ok(left) => {
             let told = functions(points, f.made, x.left);
@@ -108,7 +108,7 @@ fn call(x: &Smallest, times: &[f64], lent: &[Real], operation: &'static str) -> 
         Err(refused) => one_point.is_none() && refused.number == 10,
     };
     let mut outcome = (f.compare)(&call);
-    let stops = stages::told(f.name)(&call) == Some([x.sum, operation]) && outcome.one_point == one_point;
+    let stops = stages::told(f.name)(&call) == Some([x.sum, operation]) && outcome.listed == one_point;
     outcome.unequal += usize::from(!as_told) + usize::from(!stops);
     outcome.under(format!("{}, {}, {operation}", f.name, x.sum))
 }

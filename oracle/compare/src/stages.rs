@@ -114,7 +114,7 @@ fn function(seed: u64, f: &Function, (patterns, told): (Patterns, Told), index: 
     let steps = refused(source, |steps| told(&call(steps)));
     let call = call(near(source, steps));
     let (stage, mut outcome) = (told(&call), (f.compare)(&call));
-    outcome.unequal += usize::from(stage.is_some() != (outcome.number == 10 || outcome.one_point.is_some()));
+    outcome.unequal += usize::from(stage.is_some() != (outcome.number == 10 || outcome.listed.is_some()));
     let stage = stage.map_or("none".into(), |stage| stage.join(", "));
     outcome.under(format!("{}, {stage}", f.name))
 }

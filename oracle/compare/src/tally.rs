@@ -1,5 +1,6 @@
 //! What is counted, and how it is printed.
 use crate::sides::Outcome;
+use judge::Listed;
 use std::collections::BTreeMap;
 
 /// One line of a table.
@@ -50,8 +51,8 @@ pub struct Difference {
 pub struct Tally {
     functions: BTreeMap<&'static str, Row>,
     parts: BTreeMap<(&'static str, String), Row>,
-    /// Calls that the port refuses by 10 on one point, by function and sum: the listed difference.
-    one_point: BTreeMap<[&'static str; 2], Row>,
+    /// Calls in which document 02 parts from the port, by function and difference.
+    listed: BTreeMap<(&'static str, Listed), Row>,
     differences: Vec<Difference>,
 }
 
@@ -59,8 +60,8 @@ impl Tally {
     pub fn count(&mut self, part: &'static str, function: &'static str, index: u64, outcome: Outcome) {
         self.functions.entry(function).or_default().count(&outcome);
         if outcome.unequal != 0 {
-            let one_point = outcome.one_point.map_or(String::new(), |sum| format!(", the port refuses by 10 on one point in {sum}"));
-            let told = format!("{} of {} differ, refusal {}{one_point}", outcome.unequal, outcome.compared, outcome.number);
+            let listed = outcome.listed.map_or(String::new(), |listed| format!(", the port: {listed}"));
+            let told = format!("{} of {} differ, refusal {}{listed}", outcome.unequal, outcome.compared, outcome.number);
             self.differences.push(Difference { part, function, index, told });
         }
         self.parts.entry((part, String::new())).or_default().count(&outcome);
@@ -68,8 +69,8 @@ impl Tally {
             let row = self.parts.entry((part, outcome.label.clone())).or_default();
             row.count(&outcome);
         }
-        if let Some(sum) = outcome.one_point {
-            self.one_point.entry([function, sum]).or_default().count(&outcome);
+        if let Some(listed) = outcome.listed {
+            self.listed.entry((function, listed)).or_default().count(&outcome);
         }
     }
 
@@ -80,8 +81,8 @@ impl Tally {
         for (name, row) in other.parts {
             self.parts.entry(name).or_default().join(row);
         }
-        for (name, row) in other.one_point {
-            self.one_point.entry(name).or_default().join(row);
+        for (name, row) in other.listed {
+            self.listed.entry(name).or_default().join(row);
         }
         self.differences.extend(other.differences);
     }
@@ -93,7 +94,7 @@ impl Tally {
         total
     }
 
-    /// A table by function, one by part and what its calls are counted under, one of the listed difference, and the calls that differ.
+    /// A table by function, one by part and what its calls are counted under, one of the listed differences, and the calls that differ.
     pub fn print(&mut self, seed: u64) {
         let heading =
             |of: &str| println!("{of:<56} {:>8} {:>8} {:>12} {:>6}  refused, by number", "calls", "accepted", "numbers", "differ");
@@ -105,8 +106,8 @@ impl Tally {
             row.print(&if label.is_empty() { part.to_string() } else { format!("  {label}") });
         }
         println!();
-        heading("the port refuses by 10 on one point");
-        self.one_point.iter().for_each(|(name, row)| row.print(&name.join(", ")));
+        heading("listed difference: the port");
+        self.listed.iter().for_each(|((function, listed), row)| row.print(&format!("{function}, {listed}")));
         println!();
         self.differences.sort();
         for Difference { part, function, index, told } in &self.differences {

@@ -1,7 +1,7 @@
 //! The calls on times and on two-time functions. Slices lent for what is made, the scratch too, are given by their lengths.
 use crate::lines::{built, functions, functions_of_times, grid, lengths, limits, matrix, refusal, require};
 use crate::sums::Work;
-use crate::{Answer, Block, Filled, Judged};
+use crate::{Answer, Block, Filled, Judged, Slices};
 use keldysh_green::{kept, Complex64, ConsistencyReport, KeldyshGreen, RealTimeGrid, TwoTimeMatrix};
 use shared::{numbers, residuals};
 
@@ -59,7 +59,13 @@ pub fn time_convolution(points: usize, orbitals: usize, times: &[f64], operands:
     Ok([numbers(&keldysh_green::time_convolution(&grid, &left, &right).map_err(refusal)?)])
 }
 
-pub fn causal_volterra_convolution(points: usize, orbitals: usize, times: &[f64], operands: [&[f64]; 2], lent: [usize; 1]) -> Judged<1> {
+pub fn causal_volterra_convolution(
+    points: usize,
+    orbitals: usize,
+    times: &[f64],
+    operands: [&[f64]; 2],
+    lent: [usize; 1],
+) -> Judged<Slices<1>> {
     let port =
         |grid: &RealTimeGrid, [left, right]: &[TwoTimeMatrix; 2]| Ok([keldysh_green::causal_volterra_convolution(grid, left, right)?]);
     Judged::of(functions_of_times(points, orbitals, times, operands, &lent), port, Work::causal_volterra_convolution)
@@ -78,7 +84,7 @@ fn dyson(
     operands: [&[f64]; 2],
     lent: [usize; 2],
     solve: impl Fn(&RealTimeGrid, &TwoTimeMatrix, &TwoTimeMatrix) -> keldysh_green::Result<TwoTimeMatrix>,
-) -> Judged<2> {
+) -> Judged<Slices<2>> {
     let port = |grid: &RealTimeGrid, [free, self_energy]: &[TwoTimeMatrix; 2]| {
         Ok([solve(grid, free, self_energy)?, keldysh_green::causal_volterra_convolution(grid, free, self_energy)?])
     };
@@ -86,7 +92,7 @@ fn dyson(
 }
 
 /// Operands: free propagator, self-energy.
-pub fn retarded_dyson(points: usize, orbitals: usize, times: &[f64], operands: [&[f64]; 2], lent: [usize; 2]) -> Judged<2> {
+pub fn retarded_dyson(points: usize, orbitals: usize, times: &[f64], operands: [&[f64]; 2], lent: [usize; 2]) -> Judged<Slices<2>> {
     dyson(points, orbitals, times, operands, lent, keldysh_green::retarded_dyson)
 }
 
@@ -98,14 +104,21 @@ pub fn retarded_dyson_with_tolerance(
     operands: [&[f64]; 2],
     tolerance: f64,
     lent: [usize; 2],
-) -> Judged<2> {
+) -> Judged<Slices<2>> {
     dyson(points, orbitals, times, operands, lent, |grid, free, self_energy| {
         keldysh_green::retarded_dyson_with_tolerance(grid, free, self_energy, tolerance)
     })
 }
 
 /// G^R, G^<, K, X. Operands: free propagator, retarded self-energy, Σ^<.
-pub fn transient_run(points: usize, orbitals: usize, times: &[f64], operands: [&[f64]; 3], tolerance: f64, lent: [usize; 4]) -> Judged<4> {
+pub fn transient_run(
+    points: usize,
+    orbitals: usize,
+    times: &[f64],
+    operands: [&[f64]; 3],
+    tolerance: f64,
+    lent: [usize; 4],
+) -> Judged<Slices<4>> {
     let port = |grid: &RealTimeGrid, [free, self_energy, lesser_self_energy]: &[TwoTimeMatrix; 3]| {
         let made = shared::transient_run(grid, free, self_energy, lesser_self_energy, tolerance)?;
         let kernel = keldysh_green::causal_volterra_convolution(grid, free, self_energy)?;
@@ -181,7 +194,7 @@ pub fn is_consistent(x: [f64; 6], tolerance: f64) -> Answer<bool> {
 }
 
 /// The four components. Operands: those of the left function, then those of the right.
-pub fn langreth_product(points: usize, orbitals: usize, times: &[f64], operands: [&[f64]; 8], lent: [usize; 4]) -> Judged<4> {
+pub fn langreth_product(points: usize, orbitals: usize, times: &[f64], operands: [&[f64]; 8], lent: [usize; 4]) -> Judged<Slices<4>> {
     let port = |grid: &RealTimeGrid, operands: &[TwoTimeMatrix; 8]| {
         let [a, b, c, d, e, f, g, h] = operands.clone();
         let made = keldysh_green::langreth_product(&green(grid, [a, b, c, d])?, &green(grid, [e, f, g, h])?)?;

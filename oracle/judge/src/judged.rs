@@ -1,38 +1,56 @@
-//! The answer of a call on sums over intervals. The port forms a product where an interval has one point, start = end, and refuses by 10
-//! where it overflows; document 02 has none there. Each other answer is the port's.
+//! The answer to a call on which document 02 parts from the port: the port's, or document 02's with the listed difference that it is.
 use crate::lines::refusal;
 use crate::sums::{Made, OnePoint, Stage, Work, ONE_POINT};
 use crate::{Answer, Refused};
 use keldysh_green::{RealTimeGrid, TwoTimeMatrix};
 use shared::numbers;
+use std::fmt::{self, Display, Formatter};
 
 /// What a call leaves in each slice that it is lent for it.
-pub type Filled<const COUNT: usize> = Answer<[Vec<f64>; COUNT]>;
+pub type Slices<const COUNT: usize> = [Vec<f64>; COUNT];
+pub type Filled<const COUNT: usize> = Answer<Slices<COUNT>>;
 
-pub struct Judged<const COUNT: usize> {
-    /// The port's answer, or document 02's where the port stops on one point.
-    pub answer: Filled<COUNT>,
-    /// The sum in which the port stops on one point.
-    pub one_point: Option<&'static str>,
-    /// Whether the sums without products on one point answer as the port does, in all bits or by the stage at which it stops. Where the port
-    /// stops on one point they are not to.
+/// A difference from the port that document 02 makes.
+#[derive(Debug, Clone, Copy, PartialEq, Eq, PartialOrd, Ord)]
+pub enum Listed {
+    /// The port forms a product where an interval has one point, start = end, and refuses by 10, in this sum; document 02 has none there.
+    OnePoint(&'static str),
+}
+
+impl Display for Listed {
+    fn fmt(&self, f: &mut Formatter) -> fmt::Result {
+        match self {
+            Self::OnePoint(sum) => write!(f, "10 on one point in {sum}"),
+        }
+    }
+}
+
+pub struct Judged<T> {
+    /// The port's answer, or document 02's where the port has another.
+    pub answer: Answer<T>,
+    /// The difference, where it is document 02's.
+    pub listed: Option<Listed>,
+    /// Whether what the judge did again agrees with the port: the sums without products on one point answer as the port does, in all bits or
+    /// by the stage at which it stops. Where the port stops on one point they are not to.
     pub agrees: bool,
 }
 
-impl<const COUNT: usize> From<Filled<COUNT>> for Judged<COUNT> {
-    /// The port's answer to a call without such sums.
-    fn from(answer: Filled<COUNT>) -> Self {
-        Self { answer, one_point: None, agrees: true }
+impl<T> From<Answer<T>> for Judged<T> {
+    /// The port's answer to a call that document 02 leaves as it was.
+    fn from(answer: Answer<T>) -> Self {
+        Self { answer, listed: None, agrees: true }
     }
 }
 
-impl<const COUNT: usize> Judged<COUNT> {
+impl<T> Judged<T> {
     /// The answer, where nothing speaks against it.
-    pub fn agreed(self) -> Filled<COUNT> {
-        assert!(self.agrees, "the sums done again are not the port's");
+    pub fn agreed(self) -> Answer<T> {
+        assert!(self.agrees, "what was done again is not the port's");
         self.answer
     }
+}
 
+impl<const COUNT: usize> Judged<Slices<COUNT>> {
     /// The port's answer to a call that its lines 8 and 9 may refuse, judged by the same sums done again.
     pub(crate) fn of<const OPERANDS: usize>(
         call: Answer<(RealTimeGrid, [TwoTimeMatrix; OPERANDS])>,
@@ -48,7 +66,7 @@ impl<const COUNT: usize> Judged<COUNT> {
             Ok(made) => {
                 let made = made.each_ref().map(numbers);
                 let agrees = again(OnePoint::LeftOut).is_ok_and(|again| bits(&again).eq(bits(&made)));
-                Self { answer: Ok(made), one_point: None, agrees }
+                Self { answer: Ok(made), listed: None, agrees }
             }
             Err(error) => match refusal(error) {
                 refused @ Refused { number: 10, .. } => Self::stopped(refused, again),
@@ -58,15 +76,15 @@ impl<const COUNT: usize> Judged<COUNT> {
     }
 
     /// The port refuses by 10: where it stops decides.
-    fn stopped(port: Refused, again: impl Fn(OnePoint) -> Result<[Vec<f64>; COUNT], Stage>) -> Self {
+    fn stopped(port: Refused, again: impl Fn(OnePoint) -> Result<Slices<COUNT>, Stage>) -> Self {
         let (stage, made) = (again(OnePoint::Formed).err(), again(OnePoint::LeftOut));
         match stage {
-            Some([sum, ONE_POINT]) => Self { answer: made.map_err(|_| Refused::by(10)), one_point: Some(sum), agrees: true },
-            stage => Self { answer: Err(port), one_point: None, agrees: stage.is_some() && made.err() == stage },
+            Some([sum, ONE_POINT]) => Self { answer: made.map_err(|_| Refused::by(10)), listed: Some(Listed::OnePoint(sum)), agrees: true },
+            stage => Self { answer: Err(port), listed: None, agrees: stage.is_some() && made.err() == stage },
         }
     }
 }
 
-fn bits<const COUNT: usize>(slices: &[Vec<f64>; COUNT]) -> impl Iterator<Item = u64> + '_ {
+fn bits<const COUNT: usize>(slices: &Slices<COUNT>) -> impl Iterator<Item = u64> + '_ {
     slices.iter().flatten().map(|x| x.to_bits())
 }

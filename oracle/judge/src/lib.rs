@@ -1,4 +1,4 @@
-//! The port's answer to a call, by document 01's numbers, but for the difference of document 02 that `Judged` tells. A call may have more
+//! The port's answer to a call, by document 01's numbers, but for the differences of document 02 that `Judged` tells. A call may have more
 //! than one fault: it is refused by the first line, in document 01's order, whose answer is no. The port has the correctly rounded norm in
 //! hypot's place.
 mod blocks;
@@ -14,7 +14,7 @@ pub use functions::{bond_flow_into, density_matrix, one_body_expectation, partic
 pub use functions::{causal_volterra_convolution, checked_interval_weight, consistency_report, full_weights, is_consistent, langreth_product};
 pub use functions::{check_retarded_support, retarded_dyson, retarded_dyson_with_tolerance, time_convolution, transient_run};
 pub use functions::{check_grid, check_times, full_weight, half_step, interval_weight};
-pub use judged::{Filled, Judged};
+pub use judged::{Filled, Judged, Listed, Slices};
 
 /// A refusal: its number and its places, which are 0 where its line has none.
 #[derive(Debug, Clone, Copy, PartialEq)]

@@ -1,7 +1,7 @@
 //! One call of the list: its inputs in the list's order, and the judge's answer.
 use crate::inputs::Inputs;
 use crate::text::{accepted, answered, block, decided, filled, number, numbers, observed};
-use judge::{Answer, Block, Judged};
+use judge::{Answer, Block, Judged, Slices};
 
 /// The answer to the function of this number.
 pub fn answer(function: u64, x: &mut Inputs) -> String {
@@ -59,7 +59,7 @@ fn outputs<const COUNT: usize>(x: &mut Inputs) -> [Vec<f64>; COUNT] {
 
 type Convolution<T> = fn(usize, usize, &[f64], [&[f64]; 2], [usize; 1]) -> T;
 
-fn convolution<T: Into<Judged<1>>>(x: &mut Inputs, judged: Convolution<T>) -> String {
+fn convolution<T: Into<Judged<Slices<1>>>>(x: &mut Inputs, judged: Convolution<T>) -> String {
     let lent = outputs(x);
     filled(judged(x.points, x.orbitals, &x.times, x.operands(), lengths(&lent)), lent, x.made)
 }

@@ -1,5 +1,5 @@
 //! Answers as the list's text has them.
-use judge::{Answer, Block, Judged, Refused};
+use judge::{Answer, Block, Judged, Refused, Slices};
 use shared::Xorshift;
 
 pub fn number(x: f64) -> String {
@@ -63,7 +63,7 @@ fn digest(xs: &[f64]) -> String {
 }
 
 /// What the slices lent for it hold after a call: what was made, +0 after 10, what they held after another refusal.
-pub fn filled<const COUNT: usize>(judged: impl Into<Judged<COUNT>>, held: [Vec<f64>; COUNT], by_digest: bool) -> String {
+pub fn filled<const COUNT: usize>(judged: impl Into<Judged<Slices<COUNT>>>, held: Slices<COUNT>, by_digest: bool) -> String {
     let answer = judged.into().agreed();
     let verdict = verdict(&answer);
     let holds = answer.unwrap_or_else(|refused| match refused.number {
