@@ -1,5 +1,5 @@
-"""A plain reading of document 01, as document 02's L2 amends it, in Python, whose
-floats are binary64.
+"""A plain reading of document 01, as document 02's L2 and L7 amend it, in Python,
+whose floats are binary64.
 
 A complex number is a pair (re, im). A two-time function is a flat list of
 numbers; entry (a, b) of block (t, u) begins at `place(points, n, t, u, a, b)`.
@@ -741,10 +741,20 @@ class Report(NamedTuple):
     lesser_antihermiticity: float
     greater_antihermiticity: float
     spectral_identity: float
+    equal_time: float
+
+
+def minus_i_identity(n):
+    return [MINUS_I if a == b else ZERO for a in range(n) for b in range(n)]
 
 
 def place_residuals(n, t, u, retarded, advanced, lesser, greater):
-    """The six residuals of one place, +0 where a residual does not ask the place."""
+    """The seven residuals of one place, +0 where a residual does not ask the place.
+
+    Document 02, L7: "the equal-time rule, that G^> - G^< at (t,t) is -i times the identity",
+    its "largest violation by norm". G^> - G^< is the report's own block, which may give 10;
+    what it differs by from the rule asks nothing.
+    """
     turned = lambda function: adjoint_of(function[u][t], n, n)
     minus_turned = lambda function: scaled(turned(function), (-1.0, 0.0))
     causal = subtracted(retarded[t][u], advanced[t][u])
@@ -756,6 +766,7 @@ def place_residuals(n, t, u, retarded, advanced, lesser, greater):
         difference_max(lesser[t][u], minus_turned(lesser)),
         difference_max(greater[t][u], minus_turned(greater)),
         difference_max(causal, correlation),
+        difference_max(correlation, minus_i_identity(n)) if t == u else 0.0,
     )
 
 

@@ -9,7 +9,7 @@ import os
 from bits import from_bits, hex_of
 from document01 import (
     ACCEPTED, LARGEST, Refusal, Report, bond_flow_into, block_of, causal_volterra_convolution, consistency_report,
-    langreth_product, one_body_expectation, particle_number, place, retarded_dyson_with_tolerance,
+    is_consistent, langreth_product, one_body_expectation, particle_number, place, retarded_dyson_with_tolerance,
     time_convolution, transient_run,
 )
 
@@ -55,6 +55,8 @@ def answer_text(answer):
         return "accepted"
     if isinstance(answer, Refusal):
         return "refused %d operand %d first %d second %d part %s" % (*answer[:4], hex_of(answer.part))
+    if isinstance(answer, bool):
+        return "yes" if answer else "no"
     return "number %s" % hex_of(answer)
 
 
@@ -152,9 +154,11 @@ def cases_ef(times, clock):
     lines += ["", "e) langreth_product"]
     for name in COMPONENTS:
         lines += entry_lines(name, 2, 1, outcome.lent[name])
-    report = consistency_report(2, 1, *left)
-    lines += ["", "f) consistency_report of e's left operand"]
-    return lines + ["%s: %s" % (name, hex_of(getattr(report, name))) for name in Report._fields]
+    return lines + ["", "f) consistency_report of e's left operand"] + residual_lines(consistency_report(2, 1, *left))
+
+
+def residual_lines(report):
+    return ["%s: %s" % (name, hex_of(residual)) for name, residual in zip(Report._fields, report)]
 
 
 # An interval of one point forms no product: g, i and j have largest numbers there. The interval of h has two points.
@@ -210,7 +214,46 @@ def case_j(times, clock):
     return lines + outcome_lines("j) langreth_product", 2, 1, outcome)
 
 
+# The equal-time rule of the report: G^> - G^< at (t, t) is -i times the identity. The retarded and the advanced
+# component of k to o are +0.
+
+
+def report_case(letter, n, lesser, greater):
+    """`lesser` and `greater` have entries by (t, u, a, b), and +0 elsewhere."""
+
+    def case(times, clock):
+        given = lambda entries: function(clock, n, lambda *at: entries.get(at, (0.0, 0.0)))
+        components = {"lesser": given(lesser), "greater": given(greater)}
+        lines = []
+        for name, numbers in components.items():
+            lines += entry_lines("input of %s, %s" % (letter, name), 2, n, numbers)
+        none = given({})
+        answer = consistency_report(2, n, none, none, *components.values())
+        told = residual_lines(answer) if isinstance(answer, Report) else [answer_text(answer)]
+        return lines + ["", "%s) consistency_report" % letter] + told
+
+    return case
+
+
+def equal_times(n, value):
+    """The value at each entry (a, a) of each block (t, t)."""
+    return {(t, t, a, a): value for t in range(2) for a in range(n)}
+
+
+def case_p(times, clock):
+    """Decisions that the seventh residual makes, and line 8 before it."""
+    lines = ["p) is_consistent"]
+    for others, seventh, tolerance in [
+        (0.5, 0.5, 0.5), (0.5, 0.75, 0.5), (0.5, float("nan"), 0.5), (0.5, float("inf"), 0.5), (0.75, 0.5, 0.5),
+        (0.5, float("nan"), 0.0),
+    ]:
+        answer = is_consistent(Report(*[others] * 6, seventh), tolerance)
+        lines.append("six of %s, equal_time %s, tolerance %s: %s" % (others, seventh, tolerance, answer_text(answer)))
+    return lines
+
+
 def text():
+    rule = equal_times(1, (0.0, -1.0))
     sections = [
         ("N=3 n=1 times 0, 0.5, 2", cases_ab, [0.0, 0.5, 2.0]),
         ("N=3 n=2 times 0, 1, 3", case_c, [0.0, 1.0, 3.0]),
@@ -220,6 +263,15 @@ def text():
         ("N=2 n=1 times 0, 2^-1074", causal_case("h", (1, 0)), [0.0, from_bits(1)]),
         ("N=2 n=1 times 0, 1", case_i, [0.0, 1.0]),
         ("N=2 n=1 times 0, 1", case_j, [0.0, 1.0]),
+        # The difference of the two blocks is rounded to -i before -i is taken from it.
+        ("N=2 n=1", report_case("k", 1, equal_times(1, (0.0, 2.0**-60)), rule), [0.0, 1.0]),
+        # Beside the diagonal of a block the rule has zero.
+        ("N=2 n=2", report_case("l", 2, {}, equal_times(2, (0.0, -1.0)) | {(1, 1, 0, 1): (3.0, 4.0)}), [0.0, 1.0]),
+        # The rule asks nothing of two times.
+        ("N=2 n=1", report_case("m", 1, {}, rule | {(0, 1, 0, 0): (7.0, 0.0)}), [0.0, 1.0]),
+        ("N=2 n=1", report_case("n", 1, {}, rule | {(1, 1, 0, 0): (LARGEST, LARGEST)}), [0.0, 1.0]),
+        ("N=2 n=1", report_case("o", 1, {(1, 1, 0, 0): (-LARGEST, 0.0)}, rule | {(1, 1, 0, 0): (LARGEST, 0.0)}), [0.0, 1.0]),
+        ("seven residuals", case_p, []),
     ]
     lines = []
     for heading, case, times in sections:

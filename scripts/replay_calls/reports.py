@@ -4,7 +4,8 @@ import itertools
 import math
 import random
 
-from document01 import LARGEST, Report, consistency_report, function_length, lay_out, read, table
+from bits import same_bits
+from document01 import LARGEST, Report, consistency_report, function_length, lay_out, minus_i_identity, norm, place, read, table
 from replay_calls.calls import (
     CONSISTENT, HALF_STEP, HUGE, INFINITY, KINDS, MOST, NAN, NOT_FINITE, REPORT, SMALLEST, WRONG_TOLERANCES, Call, beside,
     by_place, other_length, some, with_entries,
@@ -40,8 +41,16 @@ def placed(values, points=2):
     return components
 
 
+def empty_device(points=2, orbitals=1, factor=1.0):
+    """Times the identity, at equal times, G^R is -i/2, G^A i/2 and G^> -i; all else is +0. All seven identities hold. With another
+    factor of the three, all but the equal-time rule."""
+    of = {RETARDED: -0.5, ADVANCED: 0.5, LESSER: 0.0, GREATER: -1.0}
+    places = [(t, t, a, a) for t in range(points) for a in range(orbitals)]
+    return [with_entries(points, orbitals, {at: (0.0, factor * of[component]) for at in places}) for component in range(4)]
+
+
 def exact(points, orbitals, rng):
-    """Components of whole numbers with which all six identities hold."""
+    """Components of whole numbers and halves with which all seven identities hold."""
     drawn = lambda: read(some("whole", function_length(points, orbitals), rng), points, orbitals)
     pairs = list(itertools.product(range(orbitals), repeat=2))
     turned = lambda f, sign: table(
@@ -51,12 +60,16 @@ def exact(points, orbitals, rng):
         points, lambda t, u: [(x[0] + sign * y[0], x[1] + sign * y[1]) for x, y in zip(f[t][u], g[t][u])]
     )
     first, second = drawn(), drawn()
-    retarded = table(points, lambda t, u: first[t][u] if t >= u else [(0.0, 0.0)] * len(pairs))
+    # At equal times a Hermitian block less i/2, so that G^R - G^A is -i times the identity.
+    hermitian = plus(first, turned(first, 1.0))
+    at_equal_times = lambda t: [(x[0], x[1] + 0.5 * y[1]) for x, y in zip(hermitian[t][t], minus_i_identity(orbitals))]
+    later = lambda t, u: first[t][u] if t > u else [(0.0, 0.0)] * len(pairs)
+    retarded = table(points, lambda t, u: at_equal_times(t) if t == u else later(t, u))
     advanced = turned(retarded, 1.0)
     lesser = plus(second, turned(second, -1.0))
     greater = plus(lesser, plus(retarded, advanced, -1.0))
     components = [lay_out(function) for function in (retarded, advanced, lesser, greater)]
-    assert consistency_report(points, orbitals, *components) == Report(*[0.0] * 6)
+    assert consistency_report(points, orbitals, *components) == Report(*[0.0] * 7)
     return components
 
 
@@ -154,6 +167,84 @@ def thresholds():
         yield report(zeros(), tolerance=tolerance)
 
 
+# ---- The equal-time rule -------------------------------------------------------
+
+
+def with_rule(residual, entries, orbitals=1, points=2, tolerance=0.5, off=GREATER):
+    """The empty device with other entries of one component, by (t, u, a, b); its seventh residual is told."""
+    components = empty_device(points, orbitals)
+    for at, value in entries.items():
+        begin = place(points, orbitals, *at)
+        components[off][begin : begin + 2] = value
+    told = consistency_report(points, orbitals, *components)
+    assert same_bits(told.equal_time, residual), (told, entries)
+    return report(components, points, orbitals, tolerance)
+
+
+def equal_times_alone():
+    """The rule holds, or it is violated alone: the decision is the seventh residual's."""
+    for points, orbitals in [(2, 1), (3, 1), (2, 2), (3, 2), (2, 11)]:
+        yield report(empty_device(points, orbitals), points, orbitals, SMALLEST)
+    for factor, residual in [(0.0, 1.0), (0.75, 0.25), (1.25, 0.25), (-1.0, 2.0), (2.0, 1.0), (2.0**53 + 2.0, 2.0**53)]:
+        for points, orbitals in [(2, 1), (3, 2)]:
+            components = empty_device(points, orbitals, factor)
+            told = consistency_report(points, orbitals, *components)
+            assert told == Report(*[0.0] * 6, residual), told
+            for tolerance in beside(residual):
+                yield report(components, points, orbitals, tolerance)
+    # An occupied device: G^< is i, and G^> is +0.
+    retarded, advanced, lesser, _ = empty_device()
+    yield report([retarded, advanced, by_place(2, {(t, t): (0.0, 1.0) for t in range(2)}), lesser], tolerance=SMALLEST)
+
+
+def equal_times_grouped():
+    """G^> - G^< is rounded first, then -i is taken from it: what is too small beside -i is lost, and only there."""
+    small = 2.0**-60
+    for t in range(2):
+        yield with_rule(0.0, {(t, t, 0, 0): (0.0, small)}, off=LESSER, tolerance=SMALLEST)
+        yield with_rule(small, {(t, t, 0, 0): (small, 0.0)}, off=LESSER, tolerance=small)
+    yield with_rule(0.0, {(t, t, 0, 0): (0.0, small) for t in range(2)}, off=LESSER, tolerance=SMALLEST)
+    # Half of the last digit of 1 and of the number below, ties to even, and the digit itself.
+    for x, residual in [(2.0**-53, 0.0), (3 * 2.0**-54, 2.0**-52), (2.0**-52, 2.0**-52), (-(2.0**-54), 0.0), (-(2.0**-53), 2.0**-53)]:
+        yield with_rule(residual, {(1, 1, 0, 0): (0.0, x)}, off=LESSER, tolerance=2.0**-53)
+    # The difference from -i is rounded too: to even, and not past the largest number.
+    for x, residual in [(2.0**53, 2.0**53), (2.0**53 + 2.0, 2.0**53 + 4.0), (LARGEST, LARGEST), (-LARGEST, LARGEST)]:
+        yield with_rule(residual, {(0, 0, 0, 0): (0.0, x)}, tolerance=residual)
+
+
+def equal_times_entries():
+    """The rule has -i on the diagonal of a block at equal times, zero beside it, and asks nothing of two times."""
+    for t, (a, b) in itertools.product(range(2), itertools.product(range(2), repeat=2)):
+        at = (t, t, a, b)
+        yield with_rule(norm((3.0, 5.0 if a == b else 4.0)), {at: (3.0, 4.0)}, 2, tolerance=5.0)
+        yield with_rule(1.0 if a != b else 0.0, {at: (0.0, -1.0)}, 2, tolerance=1.0)
+        yield with_rule(INFINITY, {at: (LARGEST, LARGEST)}, 2, tolerance=LARGEST)
+        if a != b:
+            yield with_rule(SMALLEST, {at: (-0.0, SMALLEST)}, 2, tolerance=SMALLEST)
+            yield with_rule(0.0, {at: (-0.0, -0.0)}, 2, tolerance=SMALLEST)
+    for t, u in ((0, 1), (1, 0)):
+        yield with_rule(0.0, {(t, u, 0, 0): (7.0, 0.0)}, tolerance=7.0)
+        yield with_rule(0.0, {(t, u, 0, 0): (LARGEST, LARGEST)}, tolerance=LARGEST)
+        yield with_rule(0.0, {(t, u, a, a): (0.0, -1.0) for a in range(2)}, 2, tolerance=1.0)
+    # The largest of all times and entries, whichever comes first.
+    for off in itertools.permutations((1.0, 2.0, 4.0)):
+        yield with_rule(4.0, {(t, t, 0, 0): (0.0, -1.0 - x) for t, x in enumerate(off)}, points=3, tolerance=4.0)
+    for off in itertools.permutations((0.5, 1.0, 2.0, 4.0)):
+        pairs = zip(itertools.product(range(2), repeat=2), off)
+        yield with_rule(4.0, {(1, 1, a, b): (x, -1.0 if a == b else 0.0) for (a, b), x in pairs}, 2, tolerance=4.0)
+
+
+def equal_times_overflow():
+    """Line 10 by G^> - G^< at equal times, in each entry of a block, where the rule holds but for it; and none just below."""
+    for t, (a, b), part in itertools.product(range(2), itertools.product(range(2), repeat=2), range(2)):
+        pair = lambda value: [value, 0.0] if part == 0 else [0.0, value]
+        for other in (HALF_STEP, math.nextafter(HALF_STEP, 0.0)):
+            components = empty_device(2, 2)
+            begin = place(2, 2, t, t, a, b)
+            components[GREATER][begin : begin + 2], components[LESSER][begin : begin + 2] = pair(LARGEST), pair(-other)
+            yield report(components, 2, 2, LARGEST)
+
+
 # ---- Refusals of a report ------------------------------------------------------
 
 
@@ -195,26 +286,27 @@ def not_finite():
 
 def decisions():
     """The tolerance is below, at and above one residual, where the others are smaller."""
-    for at, value in itertools.product(range(6), (1.0, 1e-12, SMALLEST, LARGEST)):
-        residuals = [value if index == at else 0.0 for index in range(6)]
+    for at, value in itertools.product(range(7), (1.0, 1e-12, SMALLEST, LARGEST)):
+        residuals = [value if index == at else 0.0 for index in range(7)]
         for tolerance in beside(value):
             yield consistent(residuals, tolerance)
-    for tolerance in sorted(x for index in range(1, 7) for x in beside(index / 8)):
-        yield consistent([index / 8 for index in (4, 1, 6, 3, 5, 2)], tolerance)
+    for tolerance in sorted(x for index in range(1, 8) for x in beside(index / 8)):
+        yield consistent([index / 8 for index in (4, 1, 6, 3, 5, 2, 7)], tolerance)
 
 
 def decisions_not_finite():
     """A NaN and an infinity are above every tolerance, and -infinity below; no tolerance is either."""
-    for at, value in itertools.product(range(6), (*NOT_FINITE, -1.0, -0.0)):
-        yield consistent([value if index == at else 0.5 for index in range(6)], LARGEST)
+    for at, value in itertools.product(range(7), (*NOT_FINITE, -1.0, -0.0)):
+        yield consistent([value if index == at else 0.5 for index in range(7)], LARGEST)
     for tolerance in WRONG_TOLERANCES:
-        yield consistent([0.0] * 6, tolerance)
-        yield consistent([NAN, *[tolerance] * 5], tolerance)
+        yield consistent([0.0] * 7, tolerance)
+        yield consistent([NAN, *[tolerance] * 6], tolerance)
+        yield consistent([*[tolerance] * 6, NAN], tolerance)
     for value in (0.0, -0.0, SMALLEST, -INFINITY, NAN):
-        yield consistent([value] * 6, SMALLEST)
+        yield consistent([value] * 7, SMALLEST)
 
 
 CASES = [
-    ordinary, identities_hold, one_entry_off, lone_entries, infinite_residuals, overflows, thresholds, sizes, lengths,
-    not_finite, decisions, decisions_not_finite,
+    ordinary, identities_hold, one_entry_off, lone_entries, infinite_residuals, overflows, thresholds, equal_times_alone,
+    equal_times_grouped, equal_times_entries, equal_times_overflow, sizes, lengths, not_finite, decisions, decisions_not_finite,
 ]
