@@ -247,7 +247,8 @@ uint8_t leechgrommet_bond_flow_into(
     size_t *places, size_t places_len, double *part, size_t part_len);
 
 /* The largest norms by which the components violate: retarded support, advanced support, G^A = adjoint of G^R, anti-Hermiticity of G^< and
- * of G^>, G^R - G^A = G^> - G^<; in that order to `residuals`, a slice of 6. Asks 1, 2, 3, 7, 10. */
+ * of G^>, G^R - G^A = G^> - G^<, and at equal times G^> - G^< = -i times the identity; in that order to `residuals`, a slice of 7. Asks 1, 2,
+ * 3, 7, 10. */
 uint8_t leechgrommet_consistency_report(
     const double *retarded, size_t retarded_len,
     const double *advanced, size_t advanced_len,
@@ -257,10 +258,10 @@ uint8_t leechgrommet_consistency_report(
     double *residuals, size_t residuals_len,
     size_t *places, size_t places_len, double *part, size_t part_len);
 
-/* Whether all six residuals are at most the tolerance: 1 or 0 to `decided`, a slice of 1. A NaN is not. Asks 3, 8. */
+/* Whether all seven residuals, a slice of 7 in the report's order, are at most the tolerance: 1 or 0 to `decided`, a slice of 1. A NaN is not.
+ * Asks 3, 8. */
 uint8_t leechgrommet_is_consistent(
-    double retarded_causality, double advanced_causality, double advanced_adjoint,
-    double lesser_antihermiticity, double greater_antihermiticity, double spectral_identity, double tolerance,
+    const double *residuals, size_t residuals_len, double tolerance,
     uint8_t *decided, size_t decided_len,
     size_t *places, size_t places_len, double *part, size_t part_len);
 

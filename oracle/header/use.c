@@ -43,8 +43,8 @@ static void particle_number(const char *call, const double *lesser, size_t point
 
 int main(void)
 {
-    double times[POINTS] = {0, 1, 2}, step[NUMBERS] = {0}, lesser_self_energy[NUMBERS] = {0}, most[NUMBERS], least[NUMBERS];
-    double retarded[NUMBERS], lesser[NUMBERS], kernel[NUMBERS], lesser_advanced[NUMBERS], value[2] = {LENT, LENT}, residuals[6] = {0};
+    double times[POINTS] = {0, 1, 2}, step[NUMBERS] = {0}, lesser_self_energy[NUMBERS] = {0}, none[NUMBERS] = {0}, most[NUMBERS], least[NUMBERS];
+    double retarded[NUMBERS], lesser[NUMBERS], kernel[NUMBERS], lesser_advanced[NUMBERS], value[2] = {LENT, LENT}, residuals[7] = {0};
     double numbers[LEECHGROMMET_BLOCK_NUMBERS];
     size_t t, u, shape[2] = {7, 7};
     uint8_t decided[1] = {7}, answer;
@@ -77,18 +77,26 @@ int main(void)
     print_answer("causal_volterra_convolution", answer, retarded, 2);
     times[2] = 2;
 
-    for (t = 0; t < 6; t++)
+    for (t = 0; t < 7; t++)
         residuals[t] = LENT;
     answer = leechgrommet_consistency_report(step, NUMBERS, step, NUMBERS, lesser_self_energy, NUMBERS, lesser_self_energy, NUMBERS, POINTS, 1,
-        residuals, 5, places, 3, part, 1);
-    print_answer("consistency_report of five residuals", answer, residuals, 6);
-    answer = leechgrommet_consistency_report(most, NUMBERS, least, NUMBERS, lesser_self_energy, NUMBERS, lesser_self_energy, NUMBERS, POINTS, 1,
         residuals, 6, places, 3, part, 1);
-    print_answer("consistency_report", answer, residuals, 6);
-
-    answer = leechgrommet_is_consistent(0, 0, 0, 0, 0, 0, 0, decided, 0, places, 3, part, 1);
+    print_answer("consistency_report of six residuals", answer, residuals, 7);
+    answer = leechgrommet_consistency_report(most, NUMBERS, least, NUMBERS, lesser_self_energy, NUMBERS, lesser_self_energy, NUMBERS, POINTS, 1,
+        residuals, 7, places, 3, part, 1);
+    print_answer("consistency_report", answer, residuals, 7);
+    answer = leechgrommet_is_consistent(residuals, 7, 0, decided, 0, places, 3, part, 1);
     print_answer("is_consistent without a byte", answer, value, 0);
-    answer = leechgrommet_is_consistent(0, 0, 0, 0, 0, 0, 1e-12, decided, 1, places, 3, part, 1);
+    answer = leechgrommet_is_consistent(residuals, 6, 0, decided, 1, places, 3, part, 1);
+    print_answer("is_consistent of six residuals", answer, value, 0);
+    answer = leechgrommet_is_consistent(residuals, 7, 1e-12, decided, 1, places, 3, part, 1);
+    printf("is_consistent: %d, %d\n", answer, decided[0]);
+
+    /* All identities hold but the equal-time rule: G^> - G^< is +0. */
+    answer = leechgrommet_consistency_report(none, NUMBERS, none, NUMBERS, lesser_self_energy, NUMBERS, lesser_self_energy, NUMBERS, POINTS, 1,
+        residuals, 7, places, 3, part, 1);
+    print_answer("consistency_report without a spectrum", answer, residuals, 7);
+    answer = leechgrommet_is_consistent(residuals, 7, 1e-12, decided, 1, places, 3, part, 1);
     printf("is_consistent: %d, %d\n", answer, decided[0]);
 
     for (t = 0; t < LEECHGROMMET_BLOCK_NUMBERS; t++)

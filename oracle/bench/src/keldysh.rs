@@ -18,7 +18,8 @@ pub fn consistency_report(bench: &mut Bench, points: usize, orbitals: usize) -> 
     let green = build();
     let here = || here::consistency_report(black_box(&inputs.functions).each_ref().map(|xs| &xs[..]), points, orbitals);
     let port = || black_box(&green).consistency_report();
-    bench.residuals(&here().unwrap(), &residuals(&port().unwrap()));
+    // The port has no seventh residual.
+    bench.residuals(&here().unwrap()[..6], &residuals(&port().unwrap()));
     bench.measure(here, port, build)
 }
 

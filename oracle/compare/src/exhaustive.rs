@@ -100,7 +100,7 @@ fn product(index: u64) -> Outcome {
 fn consistent(index: u64) -> Outcome {
     let digits = &mut Digits(index);
     let tolerance = digits.next(&TOLERANCES);
-    is_consistent(std::array::from_fn(|_| digits.next(&RESIDUALS)), tolerance).under("is_consistent, six numbers of five")
+    is_consistent(std::array::from_fn(|_| digits.next(&RESIDUALS)), tolerance).under("is_consistent, seven numbers of five")
 }
 
 fn norm_of_two(index: u64) -> Outcome {
@@ -119,7 +119,7 @@ pub fn jobs() -> Vec<Job> {
     jobs.push(Job::of(PART, "bond_flow_into", count(&[(5, SIGNS.len())]), flow));
     jobs.push(Job::of(PART, "block_is_hermitian", count(&[(8, ZEROS.len())]), hermitian));
     jobs.push(Job::of(PART, "block_multiply", count(&[(4, SIGNS.len())]), product));
-    jobs.push(Job::of(PART, "is_consistent", count(&[(6, RESIDUALS.len()), (1, TOLERANCES.len())]), consistent));
+    jobs.push(Job::of(PART, "is_consistent", count(&[(7, RESIDUALS.len()), (1, TOLERANCES.len())]), consistent));
     jobs.push(Job::of(PART, "norm", count(&[(2, 23)]), norm_of_two));
     jobs
 }

@@ -2,20 +2,35 @@
 use crate::inputs::Call;
 use crate::source::Source;
 
-/// The positions of all real parts, each with that of the adjoint's entry.
-fn places(call: &Call) -> Vec<(usize, usize)> {
+/// The positions of all real parts, each with that of the adjoint's entry, and whether they are at equal times.
+fn places(call: &Call) -> Vec<(usize, usize, bool)> {
     let (points, n) = (call.points, call.orbitals);
     let at = |t: usize, u: usize, a: usize, b: usize| 2 * (((t * points + u) * n + a) * n + b);
     let digits = (0..points * points * n * n).map(|p| (p / (points * n * n), p / (n * n) % points, p / n % n, p % n));
-    digits.map(|(t, u, a, b)| (at(t, u, a, b), at(u, t, b, a))).collect()
+    digits.map(|(t, u, a, b)| (at(t, u, a, b), at(u, t, b, a), t == u)).collect()
 }
 
-/// Half of the calls satisfy the identities as far as rounding lets them.
+/// Makes G^R at equal times a Hermitian block less i/2, so that G^R less its adjoint is -i times the identity.
+fn equal_times(call: &mut Call) {
+    for (p, q, _) in places(call).into_iter().filter(|(.., equal_times)| *equal_times) {
+        let retarded = &mut call.operands[0];
+        if q == p {
+            retarded[p + 1] = -0.5;
+        } else {
+            (retarded[q], retarded[q + 1]) = (retarded[p], -retarded[p + 1]);
+        }
+    }
+}
+
+/// Half of the calls satisfy the identities as far as rounding lets them, half of those the equal-time rule too.
 pub fn components(source: &mut Source, call: &mut Call) {
     if source.one_in(2) {
         return;
     }
-    for (p, q) in places(call) {
+    if source.one_in(2) {
+        equal_times(call);
+    }
+    for (p, q, _) in places(call) {
         let [retarded, advanced, lesser, greater] = &mut call.operands[..] else { unreachable!() };
         (advanced[p], advanced[p + 1]) = (retarded[q], -retarded[q + 1]);
         if q >= p {

@@ -1,6 +1,6 @@
-//! Calls on a few numbers: the norm, blocks of one number and of a size, six residuals, a chain of products.
+//! Calls on a few numbers: the norm, blocks of one number and of a size, seven residuals, a chain of products.
 use crate::inputs::{faults, NO_TOLERANCE};
-use crate::sides::{block_outcome, decided, outcome, Outcome};
+use crate::sides::{block_outcome, decided, judged, outcome, Outcome};
 use crate::source::{Source, NOT_FINITE};
 
 pub fn norm(re: f64, im: f64) -> Outcome {
@@ -19,8 +19,8 @@ pub fn identity(size: usize) -> Outcome {
     block_outcome(|out| here::block_identity(size, out), judge::identity(size))
 }
 
-pub fn is_consistent(x: [f64; 6], tolerance: f64) -> Outcome {
-    outcome(here::is_consistent(x, tolerance), judge::is_consistent(x, tolerance), decided)
+pub fn is_consistent(x: [f64; 7], tolerance: f64) -> Outcome {
+    judged(here::is_consistent(&x, tolerance), judge::is_consistent(&x, tolerance), decided)
 }
 
 /// Of a block that is refused the first number is +0.

@@ -76,10 +76,10 @@ fn consistent(seed: u64, index: u64) -> Outcome {
     let (label, step) = STEPS[index as usize % STEPS.len()];
     let source = &mut Source::of(seed, [PART, "is_consistent"], index / STEPS.len() as u64);
     let palette = source.palette();
-    let x: [f64; 6] = std::array::from_fn(|_| source.number(palette).abs());
+    let x: [f64; 7] = std::array::from_fn(|_| source.number(palette).abs());
     let tolerance = step(x.into_iter().fold(0.0, f64::max));
-    let yes = judge::is_consistent(x, tolerance);
-    is_consistent(x, tolerance).under(format!("is_consistent, {label}: {}", decided(yes)))
+    let yes = judge::is_consistent(&x, tolerance);
+    is_consistent(x, tolerance).under(format!("is_consistent, {label}: {}", decided(yes.answer)))
 }
 
 pub fn jobs(calls: u64, seed: u64) -> Vec<Job> {

@@ -5,7 +5,7 @@ use crate::calls;
 use crate::sides::{self, ours, same, Outcome, LENT};
 use crate::source::Source;
 use crate::Job;
-use judge::Refused;
+use judge::{Judged, Refused};
 
 const PART: &str = "written";
 
@@ -35,7 +35,9 @@ fn expected(length: usize, held: f64, written: Option<&[f64]>) -> Vec<f64> {
 
 /// The slices `made` are those that line 3 asks: what each held, and what it holds after the call if all have their lengths. If one has not,
 /// the answer is 3, unless it is 1 or 2, and all are as they were. Then come places and part, which a refusal writes.
-fn outcome(number: u8, held: Held, made: Vec<(f64, Vec<f64>)>, refused: Option<Refused>) -> Outcome {
+fn outcome<T>(number: u8, held: Held, made: Vec<(f64, Vec<f64>)>, theirs: impl Into<Judged<T>>) -> Outcome {
+    let theirs = theirs.into();
+    let (refused, listed) = (theirs.answer.err(), theirs.listed);
     let fits = made.iter().zip(&held).all(|((_, written), slice)| written.len() == slice.len());
     let earlier = refused.is_some_and(|x| x.number == 1 || x.number == 2);
     let refused = if fits || earlier { refused } else { Some(Refused::by(3)) };
@@ -46,7 +48,8 @@ fn outcome(number: u8, held: Held, made: Vec<(f64, Vec<f64>)>, refused: Option<R
     let wanted: Held = written.zip(&held).map(|((before, written), slice)| expected(slice.len(), before, written.as_deref())).collect();
     let pairs = || held.iter().flatten().zip(wanted.iter().flatten());
     let unequal = pairs().filter(|(x, y)| !same(**x, **y)).count() + usize::from(number != refused_by.number);
-    Outcome::of(refused_by, 1 + pairs().count(), unequal)
+    let unequal = unequal + usize::from(!theirs.agrees);
+    Outcome { listed: listed.filter(|_| fits), ..Outcome::of(refused_by, 1 + pairs().count(), unequal) }
 }
 
 /// The lengths of what is written, of places and of the part: each exact, one short, one long and empty.
@@ -74,7 +77,7 @@ fn block_trace(seed: u64, index: u64) -> Outcome {
     let [x] = call.lent();
     let number = here::block_trace_written(&ours(&x), &mut value, &mut places, &mut part);
     let theirs = judge::trace(&x);
-    outcome(number, vec![value, numbers(&places), part], vec![(LENT, afterwards(theirs))], theirs.err())
+    outcome(number, vec![value, numbers(&places), part], vec![(LENT, afterwards(theirs))], theirs)
 }
 
 fn particle_number(seed: u64, index: u64) -> Outcome {
@@ -85,7 +88,7 @@ fn particle_number(seed: u64, index: u64) -> Outcome {
     let number =
         here::particle_number_written(xs, call.points, call.orbitals, call.time, call.tolerance, &mut value, &mut places, &mut part);
     let theirs = judge::particle_number(call.points, call.orbitals, xs, call.time, call.tolerance);
-    outcome(number, vec![value, numbers(&places), part], vec![(LENT, afterwards(theirs.map(|x| [x])))], theirs.err())
+    outcome(number, vec![value, numbers(&places), part], vec![(LENT, afterwards(theirs.map(|x| [x])))], theirs)
 }
 
 fn density_matrix(seed: u64, index: u64) -> Outcome {
@@ -98,27 +101,32 @@ fn density_matrix(seed: u64, index: u64) -> Outcome {
     let theirs = judge::density_matrix(call.points, call.orbitals, xs, call.time);
     let block = theirs.clone().unwrap_or_else(|_| judge::Block::empty());
     let made = vec![(PLACE as f64, numbers(&[block.rows, block.columns])), (LENT, block.values.to_vec())];
-    outcome(number, vec![numbers(&shape), out, numbers(&places), part], made, theirs.err())
+    outcome(number, vec![numbers(&shape), out, numbers(&places), part], made, theirs)
 }
 
 fn consistency_report(seed: u64, index: u64) -> Outcome {
     let (mut lengths, f) = (Lengths(index), calls::function("consistency_report"));
-    let (mut residuals, (mut places, mut part)) = (vec![LENT; lengths.next(6)], lengths.places_and_part());
+    let (mut residuals, (mut places, mut part)) = (vec![LENT; lengths.next(7)], lengths.places_and_part());
     let (call, _) = Source::of(seed, [PART, f.name], index).faulty_call(f);
     let number = here::consistency_report_written(call.operands(), call.points, call.orbitals, &mut residuals, &mut places, &mut part);
     let theirs = judge::consistency_report(call.points, call.orbitals, call.operands());
-    outcome(number, vec![residuals, numbers(&places), part], vec![(LENT, afterwards(theirs))], theirs.err())
+    outcome(number, vec![residuals, numbers(&places), part], vec![(LENT, afterwards(theirs))], theirs)
 }
 
+/// Of the residuals that it reads, too, another count is 3.
 fn is_consistent(index: u64) -> Outcome {
     let mut lengths = Lengths(index);
     let (mut decided, (mut places, mut part)) = (vec![PLACE as u8; lengths.next(1)], lengths.places_and_part());
-    let (x, tolerance) = ([0.5; 6], [0.5, 0.25, 0.0, f64::NAN][lengths.0 as usize % 4]);
-    let number = here::is_consistent_written(x, tolerance, &mut decided, &mut places, &mut part);
-    let theirs = judge::is_consistent(x, tolerance);
+    let (mut x, turn) = (vec![0.5; lengths.next(7)], lengths.0 as usize);
+    let tolerance = [0.5, 0.25, 0.0, f64::NAN][turn % 4];
+    if let Some(last) = x.last_mut() {
+        *last = [0.5, 0.25, 0.75, f64::NAN][turn / 4 % 4];
+    }
+    let number = here::is_consistent_written(&x, tolerance, &mut decided, &mut places, &mut part);
+    let theirs = judge::is_consistent(&x, tolerance);
     let decided = decided.into_iter().map(f64::from).collect();
-    let written = theirs.map_or(vec![PLACE as f64], sides::decided);
-    outcome(number, vec![decided, numbers(&places), part], vec![(PLACE as f64, written)], theirs.err())
+    let written = theirs.answer.map_or(vec![PLACE as f64], sides::decided);
+    outcome(number, vec![decided, numbers(&places), part], vec![(PLACE as f64, written)], theirs)
 }
 
 pub fn jobs(seed: u64) -> Vec<Job> {
@@ -127,6 +135,6 @@ pub fn jobs(seed: u64) -> Vec<Job> {
         Job::of(PART, "particle_number", 64 * TURNS, move |index| particle_number(seed, index)),
         Job::of(PART, "density_matrix", 256 * TURNS, move |index| density_matrix(seed, index)),
         Job::of(PART, "consistency_report", 64 * TURNS, move |index| consistency_report(seed, index)),
-        Job::of(PART, "is_consistent", 64 * TURNS, is_consistent),
+        Job::of(PART, "is_consistent", 256 * TURNS, is_consistent),
     ]
 }

@@ -24,12 +24,8 @@ mod exported {
         ) -> u8;
 
         pub fn leechgrommet_is_consistent(
-            retarded_causality: f64,
-            advanced_causality: f64,
-            advanced_adjoint: f64,
-            lesser_antihermiticity: f64,
-            greater_antihermiticity: f64,
-            spectral_identity: f64,
+            residuals: *const f64,
+            residuals_len: usize,
             tolerance: f64,
             decided: *mut u8,
             decided_len: usize,
@@ -76,8 +72,9 @@ mod exported {
     }
 }
 
-/// The six residuals: retarded and advanced causality, advanced adjoint, lesser and greater anti-Hermiticity, spectral identity.
-pub fn consistency_report(components: [&[f64]; 4], points: usize, orbitals: usize) -> Result<[f64; 6], Answer> {
+/// The seven residuals: retarded and advanced causality, advanced adjoint, lesser and greater anti-Hermiticity, spectral identity, equal-time
+/// rule.
+pub fn consistency_report(components: [&[f64]; 4], points: usize, orbitals: usize) -> Result<[f64; 7], Answer> {
     measured(|residuals, places, part| consistency_report_written(components, points, orbitals, residuals, places, part))
 }
 
@@ -113,21 +110,17 @@ pub fn consistency_report_written(
     }
 }
 
-/// Whether six residuals, in the report's order, are at most the tolerance.
-pub fn is_consistent(residuals: [f64; 6], tolerance: f64) -> Result<bool, Answer> {
+/// Whether seven residuals, in the report's order, are at most the tolerance.
+pub fn is_consistent(residuals: &[f64], tolerance: f64) -> Result<bool, Answer> {
     decided(|decided, places, part| is_consistent_written(residuals, tolerance, decided, places, part))
 }
 
 /// The same with slices of any lengths for what is written.
-pub fn is_consistent_written(residuals: [f64; 6], tolerance: f64, decided: &mut [u8], places: &mut [usize], part: &mut [f64]) -> u8 {
+pub fn is_consistent_written(residuals: &[f64], tolerance: f64, decided: &mut [u8], places: &mut [usize], part: &mut [f64]) -> u8 {
     unsafe {
         exported::leechgrommet_is_consistent(
-            residuals[0],
-            residuals[1],
-            residuals[2],
-            residuals[3],
-            residuals[4],
-            residuals[5],
+            residuals.as_ptr(),
+            residuals.len(),
             tolerance,
             decided.as_mut_ptr(),
             decided.len(),
@@ -201,8 +194,8 @@ mod tests {
         let lesser = [2.0, 0.0, 0.0, 0.0, 0.0, 0.0, 0.0, 0.0];
         let mut greater = [0.0, 0.0, 0.0, 0.0, 0.0, 0.0, 0.0, -5.0];
         let residuals = consistency_report([&retarded, &advanced, &lesser, &greater], 2, 1);
-        // |i - (3 - 4i)| is the root of 34.
-        assert_eq!(residuals, Ok([5.0, 1.0, 34f64.sqrt(), 4.0, 0.0, 5.0]));
+        // |i - (3 - 4i)| is the root of 34, and |-5i - (-i)| is 4.
+        assert_eq!(residuals, Ok([5.0, 1.0, 34f64.sqrt(), 4.0, 0.0, 5.0, 4.0]));
         greater[6] = f64::NAN;
         let refused = consistency_report([&retarded, &advanced, &lesser, &greater], 2, 1);
         assert_eq!(refused, Err(Answer { number: 7, operand: 3, first: 6, ..ACCEPTED }));
@@ -212,10 +205,12 @@ mod tests {
 
     #[test]
     fn consistent() {
-        assert_eq!(is_consistent([0.5; 6], 0.5), Ok(true));
-        assert_eq!(is_consistent([0.5, 0.5, 0.5, 0.5, 0.5, 0.75], 0.5), Ok(false));
-        assert_eq!(is_consistent([f64::NAN, 0.0, 0.0, 0.0, 0.0, 0.0], 0.5), Ok(false));
-        assert_eq!(is_consistent([0.0; 6], 0.0), Err(Answer { number: 8, ..ACCEPTED }));
+        assert_eq!(is_consistent(&[0.5; 7], 0.5), Ok(true));
+        assert_eq!(is_consistent(&[0.5, 0.5, 0.5, 0.5, 0.5, 0.75, 0.5], 0.5), Ok(false));
+        assert_eq!(is_consistent(&[0.5, 0.5, 0.5, 0.5, 0.5, 0.5, 0.75], 0.5), Ok(false));
+        assert_eq!(is_consistent(&[f64::NAN, 0.0, 0.0, 0.0, 0.0, 0.0, 0.0], 0.5), Ok(false));
+        assert_eq!(is_consistent(&[0.0; 7], 0.0), Err(Answer { number: 8, ..ACCEPTED }));
+        assert_eq!(is_consistent(&[0.0; 6], 0.0), Err(Answer { number: 3, ..ACCEPTED }));
     }
 
     #[test]

@@ -1,8 +1,8 @@
 //! The calls on times and on two-time functions. Slices lent for what is made, the scratch too, are given by their lengths.
 use crate::lines::{built, functions, functions_of_times, grid, lengths, limits, matrix, refusal, require};
 use crate::sums::Work;
-use crate::{Answer, Block, Filled, Judged, Slices};
-use keldysh_green::{kept, Complex64, ConsistencyReport, KeldyshGreen, RealTimeGrid, TwoTimeMatrix};
+use crate::{Answer, Block, Filled, Judged, Listed, Refused, Slices};
+use keldysh_green::{kept, Complex64, ConsistencyReport, DenseMatrix, KeldyshGreen, RealTimeGrid, TwoTimeMatrix};
 use shared::{numbers, residuals};
 
 pub fn full_weights(points: usize, times: &[f64], lent: [usize; 1]) -> Filled<1> {
@@ -173,15 +173,32 @@ fn green(grid: &RealTimeGrid, [retarded, advanced, lesser, greater]: [TwoTimeMat
     KeldyshGreen::try_new(grid.clone(), retarded, advanced, lesser, greater)
 }
 
-/// The six residuals in the report's order.
-pub fn consistency_report(points: usize, orbitals: usize, components: [&[f64]; 4]) -> Answer<[f64; 6]> {
-    let components = functions(points, orbitals, components)?;
-    let grid = grid(points, &any_times(points), &[])?;
-    Ok(residuals(&green(&grid, components).and_then(|x| x.consistency_report()).map_err(refusal)?))
+/// The largest violation of the equal-time rule, that G^> - G^< at (t,t) is -i times the identity. The port has none: it is made by the
+/// port's difference of blocks and largest norm of a difference.
+fn equal_time(x: &KeldyshGreen) -> keldysh_green::Result<f64> {
+    let n = x.greater().orbitals();
+    let rule = (0..n * n).map(|at| Complex64::new(0.0, if at / n == at % n { -1.0 } else { 0.0 }));
+    let rule = DenseMatrix::try_new(n, n, rule.collect())?;
+    (0..x.grid().len()).try_fold(0.0, |largest: f64, t| {
+        let difference = x.greater().get(t, t)?.subtract(x.lesser().get(t, t)?)?;
+        Ok(largest.max(kept::max_difference(&difference, &rule)?))
+    })
 }
 
-/// Whether six residuals, in the report's order, are at most the tolerance.
-pub fn is_consistent(x: [f64; 6], tolerance: f64) -> Answer<bool> {
+/// The seven residuals in the report's order: the port's six, then that of the equal-time rule.
+pub fn consistency_report(points: usize, orbitals: usize, components: [&[f64]; 4]) -> Answer<[f64; 7]> {
+    let components = functions(points, orbitals, components)?;
+    let grid = grid(points, &any_times(points), &[])?;
+    let green = green(&grid, components).map_err(refusal)?;
+    let [a, b, c, d, e, f] = residuals(&green.consistency_report().map_err(refusal)?);
+    Ok([a, b, c, d, e, f, equal_time(&green).map_err(refusal)?])
+}
+
+/// Whether seven residuals, in the report's order, are at most the tolerance: the port decides over its six. Another count is 3.
+pub fn is_consistent(x: &[f64], tolerance: f64) -> Judged<bool> {
+    let Ok(x) = <[f64; 7]>::try_from(x) else {
+        return Err(Refused::by(3)).into();
+    };
     let report = ConsistencyReport {
         retarded_causality: x[0],
         advanced_causality: x[1],
@@ -190,7 +207,9 @@ pub fn is_consistent(x: [f64; 6], tolerance: f64) -> Answer<bool> {
         greater_antihermiticity: x[4],
         spectral_identity: x[5],
     };
-    report.is_consistent(tolerance).map_err(refusal)
+    let (port, within) = (report.is_consistent(tolerance).map_err(refusal), x[6] <= tolerance);
+    let listed = (port == Ok(true) && !within).then_some(Listed::EqualTime);
+    Judged { answer: port.map(|yes| yes && within), listed, agrees: true }
 }
 
 /// The four components. Operands: those of the left function, then those of the right.

@@ -15,16 +15,20 @@ pub type Filled<const COUNT: usize> = Answer<Slices<COUNT>>;
 pub enum Listed {
     /// The port forms a product where an interval has one point, start = end, and refuses by 10, in this sum; document 02 has none there.
     OnePoint(&'static str),
+    /// The port says yes by its six residuals; the seventh, which it does not have, is above the tolerance.
+    EqualTime,
 }
 
 impl Display for Listed {
     fn fmt(&self, f: &mut Formatter) -> fmt::Result {
         match self {
             Self::OnePoint(sum) => write!(f, "10 on one point in {sum}"),
+            Self::EqualTime => write!(f, "yes by six residuals"),
         }
     }
 }
 
+#[derive(Clone)]
 pub struct Judged<T> {
     /// The port's answer, or document 02's where the port has another.
     pub answer: Answer<T>,

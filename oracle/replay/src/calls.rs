@@ -17,7 +17,7 @@ pub fn answer(function: u64, x: &mut Inputs) -> String {
         8 => one_body_expectation(x),
         9 => bond_flow_into(x),
         10 => consistency_report(x),
-        11 => answered(judge::is_consistent(x.numbers(), x.tolerance), decided),
+        11 => consistent(&x.numbers::<7>(), x.tolerance),
         12 => langreth_product(x),
         13 => number(judge::norm(x.number(), x.number())),
         14 => block(judge::from_numbers(x.place(), x.place(), x.operands::<1>()[0])),
@@ -109,7 +109,11 @@ fn bond_flow_into(x: &mut Inputs) -> String {
 /// The residuals and what they are decided to be.
 fn consistency_report(x: &mut Inputs) -> String {
     let report = judge::consistency_report(x.points, x.orbitals, x.operands());
-    answered(report, |report| numbers(&report) + " " + &answered(judge::is_consistent(report, x.tolerance), decided))
+    answered(report, |report| numbers(&report) + " " + &consistent(&report, x.tolerance))
+}
+
+fn consistent(residuals: &[f64], tolerance: f64) -> String {
+    answered(judge::is_consistent(residuals, tolerance).agreed(), decided)
 }
 
 fn pair(x: &mut Inputs, judged: fn(&Block, &Block) -> Answer<Block>) -> String {
