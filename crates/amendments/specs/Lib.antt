@@ -1,3 +1,5 @@
 -- What the requests of document 02 keep of document 01. A definition as document 01 first had it stands in the file of its law alone.
 -- L2: no product where an interval has one point.
 pub mod OnePoint
+-- L7: a seventh residual.
+pub mod SeventhResidual

@@ -31,9 +31,9 @@ module _ (places : List ℕ) (part : List Float) where
   fits Pass = verdict-number Pass
   fits (Refused r) = rw either (verdict-number (Refused r))
 
-  pub numbers-number : (n : Numbers) (before : List Float) → length before ≡ min (n .count) 6 → numbersAnswer n before places part .answer .number ≡ numberOf (n .verdict)
+  pub numbers-number : (n : Numbers) (before : List Float) → length before ≡ min (n .count) 7 → numbersAnswer n before places part .answer .number ≡ numberOf (n .verdict)
   unfolding numbersAnswer
-  numbers-number n before h = rw (eq-eqb (length before) (min (n .count) 6) h) (fits (n .verdict))
+  numbers-number n before h = rw (eq-eqb (length before) (min (n .count) 7) h) (fits (n .verdict))
 
   pub decision-number : (d : Decision) (before : List ℕ) → length before ≡ 1 → decisionAnswer d before places part .answer .number ≡ decisionNumber d
   unfolding decisionAnswer decisionNumber numberOf

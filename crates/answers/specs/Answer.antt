@@ -57,9 +57,9 @@ pub record With (Out : Type 0) : Type 0 where
 abbrev pub afterWith : {A : Type 0} → ℕ → Passed A → Passed ℕ → Passed Float → With (List A)
 afterWith number out places part = record { answer = after number places part; out = now (out .exit) }
 
--- at most six numbers, as the first of six values: one that is measured, and a complex number by its two parts
+-- at most seven numbers, as the first of seven values: one that is measured, and a complex number by its two parts
 abbrev pub numbered : Verdict → List Float → Numbers
-numbered verdict numbers = record { verdict = verdict; count = length numbers; values = numbers ++ replicate (6 - length numbers) plusZero }
+numbered verdict numbers = record { verdict = verdict; count = length numbers; values = numbers ++ replicate (7 - length numbers) plusZero }
 
 abbrev pub measuredNumbers : Measured → Numbers
 measuredNumbers (Of x) = numbered Pass (x ∷ [])
@@ -71,7 +71,7 @@ complexNumbers (NoValue r) = numbered (Refused r) (replicate 2 plusZero)
 
 unfoldable pub numbersAnswer : Numbers → List Float → List ℕ → List Float → With (List Float)
 numbersAnswer n before places part =
-    let count = min (n .count) 6 in
+    let count = min (n .count) 7 in
     let verdict = withOutput (eqb (length before) count) (n .verdict) in
     record { answer = answerOf verdict places part; out = afterwards zeroed verdict (written (take count (n .values)) before) before }
 

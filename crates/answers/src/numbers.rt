@@ -1,4 +1,4 @@
-// Answers in numbers: one for a measure, two for a complex number, six for a report.
+// Answers in numbers: one for a measure, two for a complex number, seven for a report.
 ghost use Rattle.lists.specs.Prelude.{_≡_, min, length, replicate};
 ghost use Rattle.complex.specs.Arithmetic.{plusZero};
 ghost use Rattle.refusal.specs.Verdict.{zeroed, afterwards};
@@ -9,11 +9,11 @@ use matrix::Value;
 use refusal::Measured;
 use refusal::Verdict;
 
-// A verdict, and how many of the values an accepted call answers with: at most six.
+// A verdict, and how many of the values an accepted call answers with: at most seven.
 pub struct Numbers {
     pub verdict: Verdict,
     pub count: usize,
-    pub values: [f64; 6],
+    pub values: [f64; 7],
 }
 
 impl Numbers {
@@ -25,12 +25,12 @@ impl Numbers {
             Measured::Of(x) => Numbers {
                 verdict: Verdict::Pass,
                 count: 1,
-                values: [x, 0.0, 0.0, 0.0, 0.0, 0.0],
+                values: [x, 0.0, 0.0, 0.0, 0.0, 0.0, 0.0],
             },
             Measured::Refused(r) => Numbers {
                 verdict: Verdict::Refused(r),
                 count: 1,
-                values: [0.0; 6],
+                values: [0.0; 7],
             },
         }
     }
@@ -43,21 +43,21 @@ impl Numbers {
             Value::Of(z) => Numbers {
                 verdict: Verdict::Pass,
                 count: 2,
-                values: [z.re, z.im, 0.0, 0.0, 0.0, 0.0],
+                values: [z.re, z.im, 0.0, 0.0, 0.0, 0.0, 0.0],
             },
             Value::Refused(r) => Numbers {
                 verdict: Verdict::Refused(r),
                 count: 2,
-                values: [0.0; 6],
+                values: [0.0; 7],
             },
         }
     }
 }
 
-fn six_at_most(count: usize) -> usize
-    ensures { λ r. ⌜ r ≡ min count 6 ⌝ }
+fn seven_at_most(count: usize) -> usize
+    ensures { λ r. ⌜ r ≡ min count 7 ⌝ }
 {
-    if count < 6 { count } else { 6 }
+    if count < 7 { count } else { 7 }
 }
 
 // Copies the numbers to a slice of as many.
@@ -105,7 +105,7 @@ pub fn write_numbers(
 {
     let values = numbers.values;
     let asked = numbers.verdict;
-    let count = six_at_most(numbers.count);
+    let count = seven_at_most(numbers.count);
     let verdict = with_output(value.len() == count, asked);
     store(verdict, &values[..count], value);
     write_answer(verdict, places, part)

@@ -24,6 +24,7 @@ fn reported(answer: Reported, tolerance: f64) {
             show::number(residuals.lesser_antihermiticity);
             show::number(residuals.greater_antihermiticity);
             show::number(residuals.spectral_identity);
+            show::number(residuals.equal_time);
             show::decision(residuals.is_consistent(tolerance));
         }
         Reported::Refused(r) => show::refused(r),
@@ -43,7 +44,7 @@ fn report(head: Head, numbers: &[f64], at: &Places) {
     reported(answer, head.tolerance);
 }
 
-// The decision alone, by six residuals.
+// The decision alone, by seven residuals.
 fn consistent(tolerance: f64) {
     let given = ConsistencyReport {
         retarded_causality: words::number(),
@@ -52,6 +53,7 @@ fn consistent(tolerance: f64) {
         lesser_antihermiticity: words::number(),
         greater_antihermiticity: words::number(),
         spectral_identity: words::number(),
+        equal_time: words::number(),
     };
     show::decision(given.is_consistent(tolerance));
 }

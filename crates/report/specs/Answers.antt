@@ -47,14 +47,14 @@ module _ (points orbitals : ℕ) (retarded advanced lesser greater : List Float)
       unfolding consistencyReport
       report-made q s = reported-yes (work-asked ∙ q) s
 
--- the consistency question, refused by 8 or answered by a test of all six
+-- the consistency question, refused by 8 or answered by a test of all seven
 module _ (x : ConsistencyReport) (tolerance : Float) where
   pub tolerance-refused : {v : Verdict} {r : Refusal} → v ≡ validTolerance tolerance → v ≡ Refused r → Undecided r ≡ isConsistent x tolerance
   unfolding isConsistent decide
   tolerance-refused e p = rw (sym e ∙ p)
 
   pub all-within : (all : Bool) {v : Verdict} → v ≡ validTolerance tolerance → v ≡ Pass
-      → le (x .«retarded_causality») tolerance && le (x .«advanced_causality») tolerance && le (x .«advanced_adjoint») tolerance && le (x .«lesser_antihermiticity») tolerance && le (x .«greater_antihermiticity») tolerance && le (x .«spectral_identity») tolerance ≡ all
+      → le (x .«retarded_causality») tolerance && le (x .«advanced_causality») tolerance && le (x .«advanced_adjoint») tolerance && le (x .«lesser_antihermiticity») tolerance && le (x .«greater_antihermiticity») tolerance && le (x .«spectral_identity») tolerance && le (x .«equal_time») tolerance ≡ all
       → decide Pass all ≡ isConsistent x tolerance
   unfolding isConsistent
   all-within all e p h = ap₂ decide (sym (sym e ∙ p)) (sym h ∙ simp and-assoc)

@@ -30,9 +30,10 @@ module _ (points orbitals : ℕ) (retarded advanced lesser greater : List Float)
   consistencyReport =
       reported (reportChecks then finiteWork (differencesFinite points orbitals retarded advanced lesser greater)) (reportOf points orbitals retarded advanced lesser greater)
 
--- "`is_consistent`: all six at most the tolerance", after 8; a NaN is not at most it
+-- "`is_consistent`: all six at most the tolerance", after 8, and "the consistency question reads seven residuals" (document 02, L7); a NaN is
+-- not at most it
 unfoldable pub isConsistent : ConsistencyReport → Float → Decision
 isConsistent x tolerance =
     decide (validTolerance tolerance)
     (le (x .«retarded_causality») tolerance && (le (x .«advanced_causality») tolerance && (le (x .«advanced_adjoint») tolerance
-    && (le (x .«lesser_antihermiticity») tolerance && (le (x .«greater_antihermiticity») tolerance && le (x .«spectral_identity») tolerance)))))
+    && (le (x .«lesser_antihermiticity») tolerance && (le (x .«greater_antihermiticity») tolerance && (le (x .«spectral_identity») tolerance && le (x .«equal_time») tolerance))))))

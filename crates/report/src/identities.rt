@@ -1,6 +1,7 @@
 // The identities of the report: what each leaves at an entry, and of which places it speaks.
 ghost use Rattle.lists.specs.Prelude.{_≡_, _≤_, length};
-ghost use Rattle.block.specs.Operations.{subtracted};
+ghost use Rattle.complex.specs.Arithmetic.{minusI};
+ghost use Rattle.block.specs.Operations.{identity, scaled, subtracted};
 ghost use Rattle.two_time.specs.Layout.{readAs, lengthOf};
 ghost use Rattle.two_time.specs.Places.{Placed};
 ghost use Rattle.report.specs.Residuals.{minusMirror, deviationOf, counted};
@@ -15,6 +16,7 @@ pub(crate) enum Identity {
     LesserAntihermiticity,
     GreaterAntihermiticity,
     Spectral,
+    EqualTime,
 }
 
 const MINUS_ONE: Complex = Complex { re: -1.0, im: 0.0 };
@@ -75,6 +77,17 @@ fn antihermitian(
     here.minus(mirror.times(MINUS_ONE))
 }
 
+// Entry (a, b) of -i times the identity.
+fn minus_i_identity(a: usize, b: usize) -> Complex
+    ensures { λ r. ⌜ r ≡ scaled minusI identity a b ⌝ }
+{
+    if a == b {
+        Complex::MINUS_I
+    } else {
+        Complex::ZERO
+    }
+}
+
 // Entry (a, b) of what the identity leaves at (t, u).
 pub(crate) fn deviation(
     identity: Identity,
@@ -106,6 +119,10 @@ pub(crate) fn deviation(
             let causal = difference(retarded, advanced, points, orbitals, t, u, a, b);
             causal.minus(difference(greater, lesser, points, orbitals, t, u, a, b))
         }
+        Identity::EqualTime => {
+            let jump = difference(greater, lesser, points, orbitals, t, u, a, b);
+            jump.minus(minus_i_identity(a, b))
+        }
     }
 }
 
@@ -120,5 +137,6 @@ pub(crate) fn counts(identity: Identity, t: usize, u: usize) -> bool
         Identity::LesserAntihermiticity => true,
         Identity::GreaterAntihermiticity => true,
         Identity::Spectral => true,
+        Identity::EqualTime => t == u,
     }
 }

@@ -28,6 +28,8 @@ pub struct ConsistencyReport {
     pub greater_antihermiticity: f64,
     // G^R - G^A is G^> - G^<.
     pub spectral_identity: f64,
+    // Equal times: G^> - G^< at (t,t) is -i times the identity.
+    pub equal_time: f64,
 }
 
 // The answer of consistency_report.
@@ -50,12 +52,13 @@ impl ConsistencyReport {
             & (self.advanced_adjoint <= tolerance)
             & (self.lesser_antihermiticity <= tolerance)
             & (self.greater_antihermiticity <= tolerance)
-            & (self.spectral_identity <= tolerance);
+            & (self.spectral_identity <= tolerance)
+            & (self.equal_time <= tolerance);
         if all { Decision::Yes } else { Decision::No }
     }
 }
 
-// The six residuals of the components: at most N·(5·N - 1)·n·n norms. Only the differences G^R - G^A and G^> - G^< can give 10; a
+// The seven residuals of the components: at most 5·N·N·n·n norms. Only the differences G^R - G^A and G^> - G^< can give 10; a
 // residual may be infinite.
 pub fn consistency_report(
     retarded: &[f64],

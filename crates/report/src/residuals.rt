@@ -184,7 +184,7 @@ fn residual(
     largest
 }
 
-// The six residuals.
+// The seven residuals.
 pub(crate) fn residuals(
     retarded: &[f64],
     advanced: &[f64],
@@ -244,6 +244,15 @@ pub(crate) fn residuals(
         ),
         spectral_identity: residual(
             Identity::Spectral,
+            retarded,
+            advanced,
+            lesser,
+            greater,
+            points,
+            orbitals,
+        ),
+        equal_time: residual(
+            Identity::EqualTime,
             retarded,
             advanced,
             lesser,

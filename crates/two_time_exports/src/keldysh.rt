@@ -1,25 +1,27 @@
-// The calls on all four components. A report's six residuals are written to a slice of six.
+// The calls on all four components. A report's seven residuals are written to a slice of seven, and read from one.
 ghost use Rattle.lists.specs.Prelude.{_≡_};
-ghost use Rattle.report.specs.Calls.{consistencyReport, isConsistent};
+ghost use Rattle.report.specs.Calls.{consistencyReport};
 ghost use Rattle.langreth.specs.Calls.{componentsOf, langrethProduct};
 ghost use Rattle.answers.specs.Answer.{after, answers, afterWith, answersNumbers, answersDecision};
-ghost use Rattle.two_time_exports.specs.Numbers.{reportNumbers};
+ghost use Rattle.two_time_exports.specs.Numbers.{reportNumbers, decisionOver};
 use answers::decision::write_decision;
 use answers::numbers::Numbers;
 use answers::numbers::write_numbers;
 use answers::write_answer;
+use refusal::Decision;
 use refusal::Verdict;
+use refusal::checks::fitting;
 use report::ConsistencyReport;
 use report::Reported;
 
-// A report's six residuals.
+// A report's seven residuals.
 fn numbers_of(reported: Reported) -> Numbers
     ensures { λ r. ⌜ r ≡ reportNumbers reported ⌝ }
 {
     match reported {
         Reported::Of(x) => Numbers {
             verdict: Verdict::Pass,
-            count: 6,
+            count: 7,
             values: [
                 x.retarded_causality,
                 x.advanced_causality,
@@ -27,17 +29,18 @@ fn numbers_of(reported: Reported) -> Numbers
                 x.lesser_antihermiticity,
                 x.greater_antihermiticity,
                 x.spectral_identity,
+                x.equal_time,
             ],
         },
         Reported::Refused(r) => Numbers {
             verdict: Verdict::Refused(r),
-            count: 6,
-            values: [0.0; 6],
+            count: 7,
+            values: [0.0; 7],
         },
     }
 }
 
-// The six residuals.
+// The seven residuals.
 #[no_mangle]
 pub extern "C" fn leechgrommet_consistency_report(
     retarded: &[f64],
@@ -64,38 +67,38 @@ pub extern "C" fn leechgrommet_consistency_report(
     write_numbers(numbers_of(reported), residuals, places, part)
 }
 
-// Whether the six residuals are at most the tolerance.
+// The decision over seven residuals in the report's order; 3 for a slice of another length.
+fn decision_over(residuals: &[f64], tolerance: f64) -> Decision
+    ensures { λ r. ⌜ r ≡ decisionOver (now (residuals .entry)) tolerance ⌝ }
+{
+    let verdict = fitting(residuals.len() == 7);
+    if let Verdict::Refused(r) = verdict {
+        return Decision::Refused(r);
+    }
+    let report = ConsistencyReport {
+        retarded_causality: residuals[0],
+        advanced_causality: residuals[1],
+        advanced_adjoint: residuals[2],
+        lesser_antihermiticity: residuals[3],
+        greater_antihermiticity: residuals[4],
+        spectral_identity: residuals[5],
+        equal_time: residuals[6],
+    };
+    report.is_consistent(tolerance)
+}
+
+// Whether the seven residuals are at most the tolerance.
 #[no_mangle]
 pub extern "C" fn leechgrommet_is_consistent(
-    retarded_causality: f64,
-    advanced_causality: f64,
-    advanced_adjoint: f64,
-    lesser_antihermiticity: f64,
-    greater_antihermiticity: f64,
-    spectral_identity: f64,
+    residuals: &[f64],
     tolerance: f64,
     decided: &mut [u8],
     places: &mut [usize],
     part: &mut [f64],
 ) -> u8
-    ensures { λ r. ⌜ afterWith r decided places part ≡ answersDecision (isConsistent (record {
-      «retarded_causality» = «retarded_causality»;
-      «advanced_causality» = «advanced_causality»;
-      «advanced_adjoint» = «advanced_adjoint»;
-      «lesser_antihermiticity» = «lesser_antihermiticity»;
-      «greater_antihermiticity» = «greater_antihermiticity»;
-      «spectral_identity» = «spectral_identity»;
-    }) tolerance) decided places part ⌝ }
+    ensures { λ r. ⌜ afterWith r decided places part ≡ answersDecision (decisionOver (now (residuals .entry)) tolerance) decided places part ⌝ }
 {
-    let report = ConsistencyReport {
-        retarded_causality,
-        advanced_causality,
-        advanced_adjoint,
-        lesser_antihermiticity,
-        greater_antihermiticity,
-        spectral_identity,
-    };
-    let decision = report.is_consistent(tolerance);
+    let decision = decision_over(residuals, tolerance);
     write_decision(decision, decided, places, part)
 }
 

@@ -20,7 +20,7 @@ fn numbers_of(observed: Observed) -> Numbers
         Observed::Number(x) => Numbers {
             verdict: Verdict::Pass,
             count: 1,
-            values: [x, 0.0, 0.0, 0.0, 0.0, 0.0],
+            values: [x, 0.0, 0.0, 0.0, 0.0, 0.0, 0.0],
         },
         Observed::NotReal(imaginary) => {
             let refusal = Refusal {
@@ -33,13 +33,13 @@ fn numbers_of(observed: Observed) -> Numbers
             Numbers {
                 verdict: Verdict::Refused(refusal),
                 count: 1,
-                values: [0.0; 6],
+                values: [0.0; 7],
             }
         }
         Observed::Refused(r) => Numbers {
             verdict: Verdict::Refused(r),
             count: 1,
-            values: [0.0; 6],
+            values: [0.0; 7],
         },
     }
 }

@@ -5,8 +5,8 @@ use Rattle.report.specs.Answers.{tolerance-refused, all-within}
 use Rattle.report.proofs.ConsistencyReport.is_consistent.Statement.{statement}
 use Rattle.report.proofs.ConsistencyReport.is_consistent.Tie as tie
 
-abbrev found : tie.After-struct-known6 → tie.After-enum-told
-found c = c .before .before .before .before .before .before
+abbrev found : tie.After-struct-known7 → tie.After-enum-told
+found c = c .before .before .before .before .before .before .before
 
 abbrev start : tie.After-enum-told → tie.Start
 start c = c .before .before .before

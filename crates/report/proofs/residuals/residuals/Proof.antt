@@ -11,8 +11,10 @@ residuals-spec =
     (λ c κs. c .before .before .before .before .before .before .before .pre)  -- residual-requires-4
     (λ c κs. c .before .before .before .before .before .before .before .before .pre)  -- residual-requires-5
     (λ c κs. c .before .before .before .before .before .before .before .before .before .pre)  -- residual-requires-6
+    (λ c κs. c .before .before .before .before .before .before .before .before .before .before .pre)  -- residual-requires-7
     (λ c.
-    let g = c .before in
+    let h = c .before in
+    let g = h .before in
     let j = g .before .before in
     let a = j .before in
-    rw (a .before .residual .ensures, a .residual2 .ensures, j .residual3 .ensures, g .before .residual4 .ensures, g .residual5 .ensures, c .residual6 .ensures)))  -- returns
+    rw (a .before .residual .ensures, a .residual2 .ensures, j .residual3 .ensures, g .before .residual4 .ensures, g .residual5 .ensures, h .residual6 .ensures, c .residual7 .ensures)))  -- returns

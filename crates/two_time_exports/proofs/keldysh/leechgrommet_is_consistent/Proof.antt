@@ -6,4 +6,4 @@ use Rattle.two_time_exports.proofs.keldysh.leechgrommet_is_consistent.T
 pub leechgrommet-is-consistent-spec : {M : Type 1} → statement M
 leechgrommet-is-consistent-spec =
     tie.close (tie.spec (search needs) (search needs) (λ c. search needs) (λ c. search needs) (λ c. search needs)
-    (λ c. let t = c .before .before .before .before .before .before in rw (t .before .before .before .before .is-consistent .ensures) at (t .write-decision .ensures)))
+    (λ c. let t = c .before .before .before .before .before .before in rw (t .before .before .before .before .decision-over .ensures) at (t .write-decision .ensures)))
