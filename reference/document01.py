@@ -1,5 +1,5 @@
-"""A plain reading of document 01, as document 02's L2 and L7 amend it, in Python,
-whose floats are binary64.
+"""A plain reading of document 01, as document 02's L2, L7 and L8 amend it, in
+Python, whose floats are binary64.
 
 A complex number is a pair (re, im). A two-time function is a flat list of
 numbers; entry (a, b) of block (t, u) begins at `place(points, n, t, u, a, b)`.
@@ -691,23 +691,27 @@ def density_matrix(points, orbitals, lesser, time):
     return block_answer(refusal, orbitals, orbitals, work)
 
 
+def argument_lines(tolerance, time, points):
+    """Document 02, L8: "8 comes before 11 and before 10"."""
+    return line_8(tolerance) or line_11(time, points)
+
+
 def real_checked(value, tolerance):
-    """8, then 14 with the imaginary part, else the real part."""
-    refusal = line_8(tolerance)
-    if refusal:
-        return refusal
+    """14 with the imaginary part, else the real part."""
     return Refusal(14, part=value[1]) if abs(value[1]) > tolerance else value[0]
 
 
 def particle_number(points, orbitals, lesser, time, tolerance):
-    refusal = function_lines(points, orbitals, [lesser]) or line_11(time, points)
+    """8, 11, 14."""
+    refusal = function_lines(points, orbitals, [lesser]) or argument_lines(tolerance, time, points)
     if refusal:
         return refusal
     return real_checked(trace_of(density_of(points, orbitals, lesser, time), orbitals), tolerance)
 
 
 def one_body_expectation(points, orbitals, lesser, time, observable, tolerance):
-    refusal = function_lines(points, orbitals, [lesser], block=observable) or line_11(time, points)
+    """8, 11, 10 of the product, 14."""
+    refusal = function_lines(points, orbitals, [lesser], block=observable) or argument_lines(tolerance, time, points)
     if refusal:
         return refusal
     density = density_of(points, orbitals, lesser, time)

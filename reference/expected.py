@@ -252,6 +252,22 @@ def case_p(times, clock):
     return lines
 
 
+# The order of an observable's refusals: 8 before 11 and before 10.
+
+
+def case_q(times, clock):
+    """The lesser function's entry at (0, 0) is i times a number, and that is the block: +0, or one whose square overflows."""
+    root = 2.0**512
+    lines = ["q) particle_number, and one_body_expectation of a block of the same number"]
+    for tolerance, time, value in [(0.0, 2, 0.0), (0.0, 0, root), (0.0, 2, root), (0.5, 2, root), (0.5, 0, root), (0.5, 0, 0.0)]:
+        lesser = function(clock, 1, placed({(0, 0): (0.0, value)}))
+        told = "G^<(0,0) = i times %s, index %d, tolerance %s: " % (hex_of(value), time, tolerance)
+        lines.append("particle_number, " + told + answer_text(particle_number(2, 1, lesser, time, tolerance)))
+        block = block_of(1, 1, [(value, 0.0)])
+        lines.append("one_body_expectation, " + told + answer_text(one_body_expectation(2, 1, lesser, time, block, tolerance)))
+    return lines
+
+
 def text():
     rule = equal_times(1, (0.0, -1.0))
     sections = [
@@ -272,6 +288,7 @@ def text():
         ("N=2 n=1", report_case("n", 1, {}, rule | {(1, 1, 0, 0): (LARGEST, LARGEST)}), [0.0, 1.0]),
         ("N=2 n=1", report_case("o", 1, {(1, 1, 0, 0): (-LARGEST, 0.0)}, rule | {(1, 1, 0, 0): (LARGEST, 0.0)}), [0.0, 1.0]),
         ("seven residuals", case_p, []),
+        ("N=2 n=1", case_q, [0.0, 1.0]),
     ]
     lines = []
     for heading, case, times in sections:

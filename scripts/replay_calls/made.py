@@ -46,6 +46,7 @@ def refused():
     yield made(SUPPORT, 256, 1, tolerance=0.0)
     yield made(NUMBER, 256, 1, (255,))
     yield made(NUMBER, 256, 1, (256,))
+    yield made(NUMBER, 256, 1, (256,), tolerance=0.0)
     yield made(DENSITY, 16, 16, (16,))
     yield made(FLOW, 16, 16, bond(15, 15, 16))
     yield made(FLOW, 16, 16, bond(15, 16, 16, (NAN, 1.0)))

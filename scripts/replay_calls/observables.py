@@ -9,7 +9,7 @@ from document01 import DEFAULT_TOLERANCE, LARGEST, function_length
 from replay_calls import solves
 from replay_calls.answers import ran
 from replay_calls.calls import (
-    DENSITY, EXPECTATION, FLOW, HUGE, INFINITY, MOST, NAN, NANS, NUMBER, RUN, SMALLEST, Call, beside, by_place,
+    DENSITY, EXPECTATION, FLOW, HUGE, INFINITY, MOST, NAN, NANS, NUMBER, RUN, SMALLEST, WRONG_TOLERANCES, Call, beside, by_place,
     some, with_entries,
 )
 
@@ -167,7 +167,7 @@ def not_finite():
 
 
 def wrong_places():
-    """Lines 11, 10, 8 and 14 in their order, and 13, 12 and 11 in theirs."""
+    """Lines 8, 11, 10 and 14 in their order, and 13, 12 and 11 in theirs."""
     unreal = at_start(1, {(0, 0): (1.0, 1.0)})
     for time in (0, 1, 2, MOST):
         yield density(2, 1, unreal, time)
@@ -189,4 +189,21 @@ def wrong_places():
         yield flow(2, 2, [1.0] * 32, time, a, b)
 
 
-CASES = [bench, of_runs, kinds, infinite, not_real, sizes_and_lengths, not_finite, wrong_places]
+def arguments_first():
+    """Line 8 before 11 and before 10: each tolerance that is none, and one that is, with an index past the times, with a product that
+    overflows, with both and with neither; and lines 3 and 7 before it."""
+    root = 2.0**512
+    for tolerance in (*WRONG_TOLERANCES, 0.5):
+        for time, value in itertools.product((0, 2, MOST), (0.0, root)):
+            lesser = at_start(1, {(0, 0): (value, 0.0)})
+            if value == 0.0:
+                yield number(2, 1, lesser, time, tolerance)
+            yield expectation(2, 1, lesser, time, [value, 0.0], tolerance)
+    for lesser in ([0.0] * 7, [0.0] * 7 + [NAN]):
+        yield number(2, 1, lesser, 2, 0.0)
+        yield expectation(2, 1, lesser, 2, [0.0, 0.0], 0.0)
+    yield expectation(2, 1, [0.0] * 8, 2, [0.0, INFINITY], 0.0)
+    yield expectation(2, 1, [0.0] * 8, 2, [0.0] * 4, 0.0, (1, 2))
+
+
+CASES = [bench, of_runs, kinds, infinite, not_real, sizes_and_lengths, not_finite, wrong_places, arguments_first]
