@@ -221,7 +221,7 @@ uint8_t leechgrommet_density_matrix(
     size_t *shape, size_t shape_len, double *out, size_t out_len,
     size_t *places, size_t places_len, double *part, size_t part_len);
 
-/* The trace of the density -i G^<(t,t) at a time, written to `value`, a slice of 1. Asks 1, 2, 3, 7, then 11, 8, 14. */
+/* The trace of the density -i G^<(t,t) at a time, written to `value`, a slice of 1. Asks 1, 2, 3, 7, then 8, 11, 14. */
 uint8_t leechgrommet_particle_number(
     const double *lesser, size_t lesser_len,
     size_t points, size_t orbitals, size_t time_index, double tolerance,
@@ -229,7 +229,7 @@ uint8_t leechgrommet_particle_number(
     size_t *places, size_t places_len, double *part, size_t part_len);
 
 /* The trace of the product of a one-body matrix, passed as an n by n block (of another shape 3; operand 1), with the density, written to `value`.
- * Asks 1, 2, 3, 7, then 11, 10 (the product), 8, 14. */
+ * Asks 1, 2, 3, 7, then 8, 11, 10 (the product), 14. */
 uint8_t leechgrommet_one_body_expectation(
     const double *lesser, size_t lesser_len,
     size_t points, size_t orbitals, size_t time_index,

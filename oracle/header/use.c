@@ -70,6 +70,8 @@ int main(void)
         particle_number("particle_number", lesser, POINTS, t, value, 1);
     particle_number("particle_number of a longer slice", lesser, POINTS, POINTS, value, 2);
     particle_number("particle_number of one time and a longer slice", lesser, 1, 0, value, 2);
+    answer = leechgrommet_particle_number(lesser, NUMBERS, POINTS, 1, POINTS, 0, value, 1, places, 3, part, 1);
+    print_answer("particle_number without a tolerance", answer, value, 1);
 
     times[2] = 1;
     answer = leechgrommet_causal_volterra_convolution(times, POINTS, step, NUMBERS, step, NUMBERS, POINTS, 1, retarded, NUMBERS,

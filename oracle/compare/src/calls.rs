@@ -1,7 +1,7 @@
 //! The calls on two-time functions: what each takes, ours and the port's.
 use crate::inputs::{Call, Takes};
 use crate::mirrored;
-use crate::sides::{block_outcome, filled, ours, outcome, Outcome, LENT};
+use crate::sides::{block_outcome, filled, judged, ours, outcome, Outcome, LENT};
 use crate::source::Source;
 
 /// A function that is compared.
@@ -192,7 +192,7 @@ fn transient_run(call: &Call) -> Outcome {
 fn particle_number(call: &Call) -> Outcome {
     let (points, orbitals, [lesser]) = (call.points, call.orbitals, call.operands());
     let ours = here::particle_number(lesser, points, orbitals, call.time, call.tolerance);
-    outcome(ours, judge::particle_number(points, orbitals, lesser, call.time, call.tolerance), |x| vec![x])
+    judged(ours, judge::particle_number(points, orbitals, lesser, call.time, call.tolerance), |x| vec![x])
 }
 
 fn density_matrix(call: &Call) -> Outcome {
@@ -205,7 +205,7 @@ fn one_body_expectation(call: &Call) -> Outcome {
     let (points, orbitals, [lesser], observable) = (call.points, call.orbitals, call.operands(), call.observable.lent());
     let here = here::one_body_expectation(lesser, points, orbitals, call.time, &ours(&observable), call.tolerance);
     let theirs = judge::one_body_expectation(points, orbitals, lesser, call.time, &observable, call.tolerance);
-    outcome(here, theirs, |x| vec![x])
+    judged(here, theirs, |x| vec![x])
 }
 
 fn bond_flow_into(call: &Call) -> Outcome {

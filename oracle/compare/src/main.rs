@@ -8,6 +8,7 @@ mod exhaustive;
 mod inputs;
 mod limits;
 mod mirrored;
+mod observed;
 mod one_point;
 mod others;
 mod random;
@@ -50,6 +51,7 @@ fn jobs(calls: u64, seed: u64) -> Vec<Job> {
         stages::jobs(calls / 2, seed),
         one_point::jobs(calls / 8, seed),
         smallest::jobs(),
+        observed::jobs(),
         tolerances::jobs(calls / 4, seed),
         exhaustive::jobs(),
         written::jobs(seed),

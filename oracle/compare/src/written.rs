@@ -88,7 +88,7 @@ fn particle_number(seed: u64, index: u64) -> Outcome {
     let number =
         here::particle_number_written(xs, call.points, call.orbitals, call.time, call.tolerance, &mut value, &mut places, &mut part);
     let theirs = judge::particle_number(call.points, call.orbitals, xs, call.time, call.tolerance);
-    outcome(number, vec![value, numbers(&places), part], vec![(LENT, afterwards(theirs.map(|x| [x])))], theirs)
+    outcome(number, vec![value, numbers(&places), part], vec![(LENT, afterwards(theirs.answer.map(|x| [x])))], theirs)
 }
 
 fn density_matrix(seed: u64, index: u64) -> Outcome {

@@ -227,6 +227,7 @@ mod tests {
         assert_eq!(particle_number(&lesser, 2, 1, 0, 0.5), Ok(1.0));
         assert_eq!(particle_number(&lesser, 2, 1, 1, 0.5), Err(Answer { number: 14, part: -2.0, ..ACCEPTED }));
         assert_eq!(particle_number(&lesser, 2, 1, 2, 0.5), Err(Answer { number: 11, ..ACCEPTED }));
+        assert_eq!(particle_number(&lesser, 2, 1, 2, 0.0), Err(Answer { number: 8, ..ACCEPTED }));
         // 2·3·Im(i·(3 − 2i))
         assert_eq!(bond_flow_into(&lesser, 2, 1, 1, 0, 0, [0.0, 1.0], 3.0), Ok(18.0));
         assert_eq!(bond_flow_into(&lesser, 2, 1, 1, 0, 1, [0.0, 1.0], 3.0), Err(Answer { number: 12, ..ACCEPTED }));
@@ -252,5 +253,7 @@ mod tests {
         assert_eq!(observe(0, &Block::of(1, 2, &[4.0; 4])), Err(Answer { number: 3, ..ACCEPTED }));
         assert_eq!(observe(0, &Block::of(1, 1, &[4.0, f64::NAN])), Err(Answer { number: 7, operand: 1, first: 1, ..ACCEPTED }));
         assert_eq!(observe(1, &Block::of(1, 1, &[f64::MAX, 0.0])), Err(Answer { number: 10, ..ACCEPTED }));
+        let refused = one_body_expectation(&lesser, 2, 1, 1, &Block::of(1, 1, &[f64::MAX, 0.0]), 0.0);
+        assert_eq!(refused, Err(Answer { number: 8, ..ACCEPTED }));
     }
 }

@@ -132,9 +132,21 @@ pub fn density_matrix(points: usize, orbitals: usize, lesser: &[f64], time: usiz
     Ok(keldysh_green::density_matrix(&lesser, time).map_err(refusal)?.into())
 }
 
-pub fn particle_number(points: usize, orbitals: usize, lesser: &[f64], time: usize, tolerance: f64) -> Answer<f64> {
-    let [lesser] = functions(points, orbitals, [lesser])?;
-    keldysh_green::particle_number(&lesser, time, tolerance).map_err(refusal)
+pub fn particle_number(points: usize, orbitals: usize, lesser: &[f64], time: usize, tolerance: f64) -> Judged<f64> {
+    match functions(points, orbitals, [lesser]) {
+        Ok([lesser]) => Judged::observed(tolerance, &[11], keldysh_green::particle_number(&lesser, time, tolerance).map_err(refusal)),
+        Err(refused) => Err(refused).into(),
+    }
+}
+
+/// Lines 1 to 7 of a lesser function and a block of n rows and columns.
+fn with_observable(points: usize, orbitals: usize, lesser: &[f64], observable: &Block) -> Answer<(TwoTimeMatrix, DenseMatrix)> {
+    let (rows, columns) = (observable.rows, observable.columns);
+    limits(Some(points), &[orbitals, rows, columns])?;
+    lengths(points, orbitals, &[lesser], &[])?;
+    require((rows, columns) == (orbitals, orbitals), 3)?;
+    let [lesser] = built(points, orbitals, [lesser])?;
+    Ok((lesser, matrix(1, rows, columns, observable.entries())?))
 }
 
 pub fn one_body_expectation(
@@ -144,14 +156,14 @@ pub fn one_body_expectation(
     time: usize,
     observable: &Block,
     tolerance: f64,
-) -> Answer<f64> {
-    let (rows, columns) = (observable.rows, observable.columns);
-    limits(Some(points), &[orbitals, rows, columns])?;
-    lengths(points, orbitals, &[lesser], &[])?;
-    require((rows, columns) == (orbitals, orbitals), 3)?;
-    let [lesser] = built(points, orbitals, [lesser])?;
-    let observable = matrix(1, rows, columns, observable.entries())?;
-    keldysh_green::one_body_expectation(&lesser, time, &observable, tolerance).map_err(refusal)
+) -> Judged<f64> {
+    match with_observable(points, orbitals, lesser, observable) {
+        Ok((lesser, observable)) => {
+            let port = keldysh_green::one_body_expectation(&lesser, time, &observable, tolerance).map_err(refusal);
+            Judged::observed(tolerance, &[11, 10], port)
+        }
+        Err(refused) => Err(refused).into(),
+    }
 }
 
 /// The flow into the first of two orbitals from the other, of a hopping by its real and its imaginary part.

@@ -17,6 +17,8 @@ pub enum Listed {
     OnePoint(&'static str),
     /// The port says yes by its six residuals; the seventh, which it does not have, is above the tolerance.
     EqualTime,
+    /// The port refuses an observable by this number before it asks the tolerance, which document 02 asks first: 8.
+    BeforeTolerance(u8),
 }
 
 impl Display for Listed {
@@ -24,6 +26,7 @@ impl Display for Listed {
         match self {
             Self::OnePoint(sum) => write!(f, "10 on one point in {sum}"),
             Self::EqualTime => write!(f, "yes by six residuals"),
+            Self::BeforeTolerance(number) => write!(f, "{number} before 8"),
         }
     }
 }
@@ -35,7 +38,8 @@ pub struct Judged<T> {
     /// The difference, where it is document 02's.
     pub listed: Option<Listed>,
     /// Whether what the judge did again agrees with the port: the sums without products on one point answer as the port does, in all bits or
-    /// by the stage at which it stops. Where the port stops on one point they are not to.
+    /// by the stage at which it stops. Where the port stops on one point they are not to. Of an observable, whether the port asks the
+    /// tolerance, and what it refuses by before.
     pub agrees: bool,
 }
 
@@ -51,6 +55,18 @@ impl<T> Judged<T> {
     pub fn agreed(self) -> Answer<T> {
         assert!(self.agrees, "what was done again is not the port's");
         self.answer
+    }
+}
+
+impl Judged<f64> {
+    /// An observable whose lines 1 to 7 are asked. `earlier` are the numbers by which the port may refuse it before it asks the tolerance.
+    pub(crate) fn observed(tolerance: f64, earlier: &[u8], port: Answer<f64>) -> Self {
+        let number = port.map_or_else(|refused| refused.number, |_| 0);
+        if tolerance.is_finite() && tolerance > 0.0 {
+            return Self { answer: port, listed: None, agrees: number != 8 };
+        }
+        let listed = (number != 8).then_some(Listed::BeforeTolerance(number));
+        Self { answer: Err(Refused::by(8)), listed, agrees: number == 8 || earlier.contains(&number) }
     }
 }
 

@@ -93,12 +93,12 @@ fn density_matrix(x: &mut Inputs) -> String {
 
 fn particle_number(x: &mut Inputs) -> String {
     let (time, [lesser]) = (x.place(), x.operands());
-    observed(judge::particle_number(x.points, x.orbitals, lesser, time, x.tolerance))
+    observed(judge::particle_number(x.points, x.orbitals, lesser, time, x.tolerance).agreed())
 }
 
 fn one_body_expectation(x: &mut Inputs) -> String {
     let (time, observable, [lesser]) = (x.place(), x.block(1), x.operands());
-    observed(judge::one_body_expectation(x.points, x.orbitals, lesser, time, &observable, x.tolerance))
+    observed(judge::one_body_expectation(x.points, x.orbitals, lesser, time, &observable, x.tolerance).agreed())
 }
 
 fn bond_flow_into(x: &mut Inputs) -> String {
