@@ -3,3 +3,5 @@
 pub mod OnePoint
 -- L7: a seventh residual.
 pub mod SeventhResidual
+-- L8: the tolerance is asked before the time index and before the product.
+pub mod ArgumentsFirst

@@ -5,17 +5,18 @@ use Rattle.refusal.specs.declared.Refusal.{Refusal}
 use Rattle.refusal.specs.declared.Verdict.{Verdict}
 use Rattle.refusal.specs.declared.Verdict.the-variants.{Pass, Refused}
 use Rattle.refusal.specs.Verdict.{_then_}
-use Rattle.refusal.specs.Agreement.{then-assoc, then-after, then-refused, then-pass}
+use Rattle.refusal.specs.Agreement.{then-assoc, then-after, then-refused}
 use Rattle.refusal.specs.Checks.{timeBelow, validTolerance, realWithin, finiteWork}
 use Rattle.matrix.specs.declared.DenseMatrix.{DenseMatrix}
 use Rattle.matrix.specs.declared.Checked.{Checked}
 use Rattle.block.specs.Block.{Entries, entriesIn}
-use Rattle.matrix.specs.Dense.{noBlock, checked}
+use Rattle.matrix.specs.Dense.{entriesOf, noBlock, checked}
 use Rattle.block.specs.Operations.{product, trace, allFinite}
 use Rattle.observables.specs.declared.Observed.{Observed}
 use Rattle.observables.specs.declared.Observed.the-variants.{Number}
 use Rattle.observables.specs.Density.{densityOf, productOf}
 use Rattle.observables.specs.Calls.{observed, lesserChecks, lesserBlockChecks, particleNumber, oneBodyExpectation}
+use Rattle.observables.specs.Passed.{ends-passed}
 use Rattle.observables.specs.LesserChecks.{block-at}
 
 -- ---- blocks
@@ -39,53 +40,73 @@ pub observed-no : {v : Verdict} {r : Refusal} (x y : Float) → v ≡ Refused r 
 unfolding observed
 observed-no x y p = rw p
 
--- 8 and 14, then the real part
+-- 14, then the real part
 abbrev pub realObserved : Float → Complex → Observed
-realObserved tolerance z = observed (validTolerance tolerance then realWithin tolerance (z .im)) (z .re)
+realObserved tolerance z = observed (realWithin tolerance (z .im)) (z .re)
 
--- two checks that are made together before others: they refuse, or pass
-module _ (a b w : Verdict) {v : Verdict} (asked : v ≡ (a then b)) where
-  pub first-refused : {r : Refusal} (x y : Float) → v ≡ Refused r → observed (Refused r) x ≡ observed (a then b then w) y
-  first-refused {r} x y p = observed-no x y (sym (then-assoc a b w) ∙ then-refused (a then b) w r (sym asked ∙ p))
+-- 8 and 11 after the checks of what is read
+abbrev pub withArguments : Float → ℕ → ℕ → Verdict → Verdict
+withArguments tolerance time points inputs = inputs then validTolerance tolerance then timeBelow time points
 
-  pub first-passed : (x : Float) → v ≡ Pass → observed w x ≡ observed (a then b then w) x
-  first-passed x p = ap (λ (u : Verdict). observed u x) (sym (then-after (a then b) w (sym asked ∙ p)) ∙ then-assoc a b w)
+-- three checks that are made together before others: they refuse, or pass
+module _ (a b c w : Verdict) {v : Verdict} (asked : v ≡ (a then b then c)) where
+  in-line : ((a then b then c) then w) ≡ (a then b then c then w)
+  in-line = then-assoc a (b then c) w ∙ ap (λ (u : Verdict). a then u) (then-assoc b c w)
 
-module _ (points orbitals : ℕ) (lesser : List Float) (time : ℕ) (tolerance : Float) {v : Verdict} (asked : v ≡ (lesserChecks points orbitals lesser then timeBelow time points)) where
-  pub number-refused : {r : Refusal} (x : Float) → v ≡ Refused r → observed (Refused r) x ≡ particleNumber points orbitals lesser time tolerance
+  pub first-refused : {r : Refusal} (x y : Float) → v ≡ Refused r → observed (Refused r) x ≡ observed (a then b then c then w) y
+  first-refused {r} x y p = observed-no x y (sym in-line ∙ then-refused (a then b then c) w r (sym asked ∙ p))
+
+  pub first-passed : (x : Float) → v ≡ Pass → observed w x ≡ observed (a then b then c then w) x
+  first-passed x p = ap (λ (u : Verdict). observed u x) (sym (then-after (a then b then c) w (sym asked ∙ p)) ∙ in-line)
+
+-- the trace of the density
+module _ (points orbitals : ℕ) (lesser : List Float) (time : ℕ) (tolerance : Float) where
+  -- the questions in their order
+  number-order : (z : Complex) → trace orbitals (densityOf points orbitals lesser time) ≡ z
+      → observed (lesserChecks points orbitals lesser then validTolerance tolerance then timeBelow time points then realWithin tolerance (z .im)) (z .re)
+      ≡ particleNumber points orbitals lesser time tolerance
   unfolding particleNumber
-  number-refused x p = first-refused (lesserChecks points orbitals lesser) (timeBelow time points) _ asked x _ p
+  number-order z e = rw e
 
-  pub number-passed : v ≡ Pass → realObserved tolerance (trace orbitals (densityOf points orbitals lesser time)) ≡ particleNumber points orbitals lesser time tolerance
-  unfolding particleNumber
-  number-passed p = first-passed (lesserChecks points orbitals lesser) (timeBelow time points) _ asked _ p
+  module _ {v : Verdict} (asked : v ≡ withArguments tolerance time points (lesserChecks points orbitals lesser)) where
+    pub number-refused : {r : Refusal} (x : Float) → v ≡ Refused r → observed (Refused r) x ≡ particleNumber points orbitals lesser time tolerance
+    number-refused x p = first-refused _ _ _ _ asked x _ p ∙ number-order _ refl
 
--- the product by a matrix: past its checks the matrix has n columns
+    pub number-passed : {z : Complex} → v ≡ Pass → z ≡ trace orbitals (densityOf points orbitals lesser time) → realObserved tolerance z ≡ particleNumber points orbitals lesser time tolerance
+    number-passed p e = first-passed _ _ _ _ asked _ p ∙ number-order _ (sym e)
+
+-- the trace of the product by a matrix
 module _ (points orbitals : ℕ) (lesser : List Float) (time : ℕ) (x : DenseMatrix) (tolerance : Float) where
-  abbrev made : Entries
-  made = productOf points orbitals (x .values) lesser time
-
   abbrev asks : Entries → Verdict
-  asks f = finiteWork (allFinite orbitals orbitals f) then validTolerance tolerance then realWithin tolerance (trace orbitals f .im)
+  asks f = finiteWork (allFinite orbitals orbitals f) then realWithin tolerance (trace orbitals f .im)
 
-  abbrev answer : ℕ → Observed
-  answer columns =
-      let f = product orbitals (entriesIn columns (x .values)) (densityOf points orbitals lesser time) in
-      observed (lesserBlockChecks points orbitals lesser x then timeBelow time points then asks f) (trace orbitals f .re)
-
-  in-order : answer (x .columns) ≡ oneBodyExpectation points orbitals lesser time x tolerance
+  -- the questions in their order
+  product-order : (f : Entries) → product orbitals (entriesOf x) (densityOf points orbitals lesser time) ≡ f
+      → observed (lesserBlockChecks points orbitals lesser x then validTolerance tolerance then timeBelow time points then asks f) (trace orbitals f .re)
+      ≡ oneBodyExpectation points orbitals lesser time x tolerance
   unfolding oneBodyExpectation
-  in-order = refl
+  product-order f e = rw e
 
-  module _ {v : Verdict} (asked : v ≡ (lesserBlockChecks points orbitals lesser x then timeBelow time points)) (p : v ≡ Pass) where
-    product-asked : observed (asks made) (trace orbitals made .re) ≡ oneBodyExpectation points orbitals lesser time x tolerance
-    product-asked =
-        let both = then-pass _ _ (sym asked ∙ p) in
-        first-passed _ _ _ asked _ p ∙ ap answer (sym (block-at points orbitals lesser x time (both .0) (both .1) .1)) ∙ in-order
+  module _ {v : Verdict} (asked : v ≡ withArguments tolerance time points (lesserBlockChecks points orbitals lesser x)) where
+    pub inputs-refused : {r : Refusal} (y : Float) → v ≡ Refused r → observed (Refused r) y ≡ oneBodyExpectation points orbitals lesser time x tolerance
+    inputs-refused y p = first-refused _ _ _ _ asked y _ p ∙ product-order _ refl
 
-    module _ {work : Verdict} (h : work ≡ finiteWork (allFinite orbitals orbitals made)) where
-      pub product-refused : {r : Refusal} (y : Float) → work ≡ Refused r → observed (Refused r) y ≡ oneBodyExpectation points orbitals lesser time x tolerance
-      product-refused y q = observed-no y _ (then-refused _ _ _ (sym h ∙ q)) ∙ product-asked
+    -- past its checks the matrix has n columns
+    module _ (p : v ≡ Pass) where
+      abbrev made : Entries
+      made = productOf points orbitals (x .values) lesser time
 
-      pub product-passed : work ≡ Pass → realObserved tolerance (trace orbitals made) ≡ oneBodyExpectation points orbitals lesser time x tolerance
-      product-passed q = ap (λ (u : Verdict). observed u (trace orbitals made .re)) (sym (then-after _ _ (sym h ∙ q))) ∙ product-asked
+      n-columns : product orbitals (entriesOf x) (densityOf points orbitals lesser time) ≡ made
+      n-columns =
+          let all = ends-passed _ _ _ (sym asked ∙ p) in
+          ap (λ (n : ℕ). product orbitals (entriesIn n (x .values)) (densityOf points orbitals lesser time)) (block-at points orbitals lesser x time (all .0) (all .1) .1)
+
+      product-asked : observed (asks made) (trace orbitals made .re) ≡ oneBodyExpectation points orbitals lesser time x tolerance
+      product-asked = first-passed _ _ _ _ asked _ p ∙ product-order made n-columns
+
+      module _ {work : Verdict} (h : work ≡ finiteWork (allFinite orbitals orbitals made)) where
+        pub product-refused : {r : Refusal} (y : Float) → work ≡ Refused r → observed (Refused r) y ≡ oneBodyExpectation points orbitals lesser time x tolerance
+        product-refused y q = observed-no y _ (then-refused _ _ _ (sym h ∙ q)) ∙ product-asked
+
+        pub product-passed : work ≡ Pass → realObserved tolerance (trace orbitals made) ≡ oneBodyExpectation points orbitals lesser time x tolerance
+        product-passed q = ap (λ (u : Verdict). observed u (trace orbitals made .re)) (sym (then-after _ _ (sym h ∙ q))) ∙ product-asked

@@ -50,20 +50,20 @@ module _ (points orbitals : ℕ) (lesser : List Float) where
   unfoldable pub densityMatrix : ℕ → Checked
   densityMatrix time = checked (lesserChecks points orbitals lesser then timeBelow time points) (blockOf orbitals orbitals (rho time))
 
-  -- "`particle_number`: 11, 8, 14."
+  -- `particle_number`: 8, 11, 14. "8 comes before 11 and before 10" (document 02, L8)
   unfoldable pub particleNumber : ℕ → Float → Observed
   particleNumber time tolerance =
       let z = trace orbitals (rho time) in
-      observed (lesserChecks points orbitals lesser then timeBelow time points then validTolerance tolerance then realWithin tolerance (z .im)) (z .re)
+      observed (lesserChecks points orbitals lesser then validTolerance tolerance then timeBelow time points then realWithin tolerance (z .im)) (z .re)
 
-  -- "`one_body_expectation`: 11, 10 (the product observable·density), 8, 14."
+  -- `one_body_expectation`: 8, 11, 10 (the product observable·density), 14. "8 comes before 11 and before 10" (document 02, L8)
   unfoldable pub oneBodyExpectation : ℕ → DenseMatrix → Float → Observed
   oneBodyExpectation time x tolerance =
       let made = product orbitals (entriesOf x) (rho time) in
       let z = trace orbitals made in
       observed
-      (lesserBlockChecks points orbitals lesser x then timeBelow time points
-      then finiteWork (allFinite orbitals orbitals made) then validTolerance tolerance then realWithin tolerance (z .im))
+      (lesserBlockChecks points orbitals lesser x then validTolerance tolerance then timeBelow time points
+      then finiteWork (allFinite orbitals orbitals made) then realWithin tolerance (z .im))
       (z .re)
 
   -- "`bond_flow_into`: 13, 12, 11; then (2·charge)·Im(hopping·rho_ba)."

@@ -42,10 +42,10 @@ densities : densityMatrix 2 1 (lesser 0x4008_0000_0000_0000 0x4000_0000_0000_000
 unfolding densityMatrix lesserChecks sizeChecks allLong operandChecks largeEnough withinLimits fitting finiteEntries timeBelow ask askAll _then_ checked blockOf layOut join density cmul finite Ieee.ofBits toBits Ieee.add Ieee.sub Ieee.mul Ieee.neg
 densities = refl
 
--- in order: 11 before 8; 3, 7 with its place, and 1 before those
-refused : particleNumber 2 1 (lesser 0 0) 2 plusZero ∷ particleNumber 2 1 (lesser 0 0) 1 plusZero ∷ particleNumber 2 1 (one ∷ []) 2 plusZero
+-- in order: 8 before 11 (document 02, L8), each alone; 3, 7 with its place, and 1 before those
+refused : particleNumber 2 1 (lesser 0 0) 2 plusZero ∷ particleNumber 2 1 (lesser 0 0) 1 plusZero ∷ particleNumber 2 1 (lesser 0 0) 2 one ∷ particleNumber 2 1 (one ∷ []) 2 plusZero
     ∷ particleNumber 2 1 (plusZero ∷ plusZero ∷ plusZero ∷ nan ∷ replicate 4 one) 2 plusZero ∷ particleNumber 1 1 [] 2 plusZero ∷ []
-    ≡ NotObserved (by 11) ∷ NotObserved (by 8) ∷ NotObserved (by 3) ∷ NotObserved (record { number = 7; operand = 0; first = 3; second = 0; part = plusZero }) ∷ NotObserved (by 1) ∷ []
+    ≡ NotObserved (by 8) ∷ NotObserved (by 8) ∷ NotObserved (by 11) ∷ NotObserved (by 3) ∷ NotObserved (record { number = 7; operand = 0; first = 3; second = 0; part = plusZero }) ∷ NotObserved (by 1) ∷ []
 unfolding particleNumber observed lesserChecks sizeChecks allLong operandChecks largeEnough withinLimits fitting finiteEntries validTolerance timeBelow realWithin ask askAll _then_ trace sumFrom fold density size cadd cmul finite Ieee.ofBits Ieee.add Ieee.sub Ieee.mul Ieee.neg Ieee.lt
 refused = refl
 
@@ -67,12 +67,17 @@ unfolding particleNumber observed lesserChecks sizeChecks allLong operandChecks 
 numbers = refl
 
 -- the expectation; 3 of a block that is not n by n, after 2 of one with 17 rows; 7 of operand 1; 10 of the product before 8
+-- both parts of each entry the largest, so that the product overflows
+abbrev large : DenseMatrix
+large = record { rows = 2; columns = 2; values = replicate 8 (f 0x7fef_ffff_ffff_ffff) }
+
+-- the number; 3, 2, 7 with its place, 10, 11; then 8 before 10 and before 11 (document 02, L8)
 expectations : oneBodyExpectation 3 2 run 2 x million
     ∷ oneBodyExpectation 3 2 run 2 (record { rows = 1; columns = 1; values = one ∷ one ∷ [] }) million ∷ oneBodyExpectation 3 2 run 2 (record { rows = 17; columns = 1; values = [] }) million
     ∷ oneBodyExpectation 3 2 run 2 (record { rows = 2; columns = 2; values = replicate 5 one ++ nan ∷ one ∷ one ∷ [] }) million
-    ∷ oneBodyExpectation 3 2 run 2 (record { rows = 2; columns = 2; values = replicate 8 (f 0x7fef_ffff_ffff_ffff) }) plusZero ∷ oneBodyExpectation 3 2 run 3 x plusZero ∷ []
+    ∷ oneBodyExpectation 3 2 run 2 large million ∷ oneBodyExpectation 3 2 run 3 large million ∷ oneBodyExpectation 3 2 run 2 large plusZero ∷ oneBodyExpectation 3 2 run 3 x plusZero ∷ []
     ≡ Number (f 0xc0f2_17b8_498a_0000) ∷ NotObserved (by 3) ∷ NotObserved (by 2)
-    ∷ NotObserved (record { number = 7; operand = 1; first = 5; second = 0; part = plusZero }) ∷ NotObserved (by 10) ∷ NotObserved (by 11) ∷ []
+    ∷ NotObserved (record { number = 7; operand = 1; first = 5; second = 0; part = plusZero }) ∷ NotObserved (by 10) ∷ NotObserved (by 11) ∷ NotObserved (by 8) ∷ NotObserved (by 8) ∷ []
 unfolding oneBodyExpectation observed lesserBlockChecks largeEnough notEmpty withinLimits withinBlock fitting finiteEntries validTolerance finiteWork timeBelow realWithin ask askAll _then_ product trace allFinite allBelow sumFrom fold density size cadd cmul cfinite finite Ieee.ofBits Ieee.add Ieee.sub Ieee.mul Ieee.neg Ieee.lt
 expectations = refl
 

@@ -30,6 +30,10 @@ pub orbital : (a orbitals : ℕ) → orbitalBelow a orbitals ≡ Pass → a < or
 unfolding orbitalBelow
 orbital a orbitals e = ltb-true a orbitals (ask-pass (ltb a orbitals) (by 12) e)
 
+-- the first and the last of three that pass
+pub ends-passed : (x y z : Verdict) → (x then y then z) ≡ Pass → (x ≡ Pass) × (z ≡ Pass)
+ends-passed x y z h = let first = then-pass x _ h in (first .0, then-pass y z (first .1) .1)
+
 -- what it says that all of them pass
 pub passed : (points orbitals : ℕ) (lesser : List Float) (time : ℕ) → lesserChecks points orbitals lesser ≡ Pass → timeBelow time points ≡ Pass → Passed points orbitals lesser time
 unfolding lesserChecks
@@ -39,6 +43,11 @@ passed points orbitals lesser time l t =
 
 pub time-passed : {v : Verdict} (points orbitals : ℕ) (lesser : List Float) (time : ℕ) → v ≡ (lesserChecks points orbitals lesser then timeBelow time points) → v ≡ Pass → Passed points orbitals lesser time
 time-passed points orbitals lesser time e p = let both = then-pass _ _ (sym e ∙ p) in passed points orbitals lesser time (both .0) (both .1)
+
+-- the same with the tolerance's between them
+pub arguments-passed : {v : Verdict} (points orbitals : ℕ) (lesser : List Float) (time : ℕ) (w : Verdict) → v ≡ (lesserChecks points orbitals lesser then w then timeBelow time points) → v ≡ Pass
+    → Passed points orbitals lesser time
+arguments-passed points orbitals lesser time w e p = let all = ends-passed _ w _ (sym e ∙ p) in passed points orbitals lesser time (all .0) (all .1)
 
 -- the same of the checks of a bond, with one between
 pub bond-passed : (points orbitals : ℕ) (lesser : List Float) (time a b : ℕ) (w : Verdict)

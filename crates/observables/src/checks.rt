@@ -1,14 +1,16 @@
-// Checks 1, 2, 3 and 7 of a lesser function, and of a block beside it (document 01, "Questions in order").
+// Checks 1, 2, 3 and 7 of a lesser function, and of a block beside it (document 01, "Questions in order"), and 8 and 11 after them.
 ghost use Rattle.lists.specs.Prelude.{_≡_};
 ghost use Rattle.refusal.specs.Verdict.{_then_};
 ghost use Rattle.refusal.specs.Checks.{largeEnough, notEmpty, withinLimits, withinBlock, fitting, timeBelow};
 ghost use Rattle.observables.specs.Calls.{lesserChecks, lesserBlockChecks};
+ghost use Rattle.observables.specs.Answers.{withArguments};
 use refusal::Verdict;
 use refusal::checks::finite_entries;
 use refusal::checks::fitting;
 use refusal::checks::large_enough;
 use refusal::checks::not_empty;
 use refusal::checks::time_below;
+use refusal::checks::valid_tolerance;
 use refusal::checks::within_block;
 use refusal::checks::within_limits;
 use two_time::checks::check_operand;
@@ -33,6 +35,18 @@ pub(crate) fn check_lesser_time(
 {
     let inputs = check_lesser(lesser, points, orbitals);
     inputs.then(time_below(time, points))
+}
+
+// The checks of what is read, then 8, then 11.
+pub(crate) fn check_arguments(
+    inputs: Verdict,
+    tolerance: f64,
+    time: usize,
+    points: usize,
+) -> Verdict
+    ensures { λ r. ⌜ r ≡ withArguments tolerance time points inputs ⌝ }
+{
+    inputs.then(valid_tolerance(tolerance).then(time_below(time, points)))
 }
 
 // 1, 2 and 3, each of the function before the block: `fits` says whether the length and the shape fit.

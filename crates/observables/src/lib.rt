@@ -8,6 +8,7 @@ ghost use Rattle.lists.specs.Prelude.{_≡_};
 ghost use Rattle.observables.specs.Calls.{densityMatrix, particleNumber, oneBodyExpectation, bondFlowInto};
 use answer::real_checked;
 use answer::refused;
+use checks::check_arguments;
 use checks::check_lesser;
 use checks::check_lesser_block;
 use checks::check_lesser_time;
@@ -62,7 +63,8 @@ pub fn particle_number(
 ) -> Observed
     ensures { λ r. ⌜ r ≡ particleNumber points orbitals (now (lesser .entry)) «time_index» tolerance ⌝ }
 {
-    let verdict = check_lesser_time(lesser, points, orbitals, time_index);
+    let inputs = check_lesser(lesser, points, orbitals);
+    let verdict = check_arguments(inputs, tolerance, time_index, points);
     if let Verdict::Refused(r) = verdict {
         return refused(r);
     }
@@ -87,7 +89,7 @@ pub fn one_body_expectation(
     let columns = observable.columns;
     let values = observable.values;
     let inputs = check_lesser_block(lesser, points, orbitals, rows, columns, &values);
-    let verdict = inputs.then(time_below(time_index, points));
+    let verdict = check_arguments(inputs, tolerance, time_index, points);
     if let Verdict::Refused(r) = verdict {
         return refused(r);
     }

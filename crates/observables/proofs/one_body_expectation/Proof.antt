@@ -1,29 +1,27 @@
 -- `observables::one_body_expectation` meets its contract: past its checks the product is made, and its trace is the number. Assumes nothing.
-use Rattle.lists.specs.Prelude.{_≡_, sym, ap, ap₂, _∙_, le-of-eq, now, needs}
-use Rattle.refusal.specs.Verdict.{_then_}
-use Rattle.refusal.specs.Agreement.{then-pass}
-use Rattle.refusal.specs.Checks.{timeBelow, finiteWork}
-use Rattle.observables.specs.Calls.{lesserBlockChecks, oneBodyExpectation}
+use Rattle.lists.specs.Prelude.{_≡_, sym, ap, _∙_, le-of-eq, now, needs}
+use Rattle.refusal.specs.Checks.{finiteWork}
+use Rattle.observables.specs.Calls.{lesserBlockChecks}
 use Rattle.block.specs.Operations.{allFinite}
 use Rattle.observables.specs.Density.{productOf}
-use Rattle.observables.specs.Passed.{Passed}
+use Rattle.observables.specs.Passed.{Passed, ends-passed}
 use Rattle.observables.specs.LesserChecks.{block-at}
-use Rattle.observables.specs.Answers.{realObserved, first-refused, product-refused, product-passed}
+use Rattle.observables.specs.Answers.{realObserved, withArguments, inputs-refused, product-refused, product-passed}
 use Rattle.observables.proofs.one_body_expectation.Statement.{statement}
 use Rattle.observables.proofs.one_body_expectation.Tie as tie
 
-abbrev start : tie.After-then → tie.Start
-start c = c .before .before .before .before .before .before
+abbrev start : tie.After-check-arguments → tie.Start
+start c = c .before .before .before .before .before
 
 -- the checks in their order
-asked : (c : tie.After-then) → let x = start c .args in
-    c .then .result ≡ (lesserBlockChecks (x .points) (x .orbitals) (now (x .lesser)) (x .observable) then timeBelow (x .time-index) (x .points))
-asked c = c .then .ensures ∙ ap₂ _then_ (c .before .before .check-lesser-block .ensures) (c .before .time-below .ensures)
+asked : (c : tie.After-check-arguments) → let x = start c .args in
+    c .check-arguments .result ≡ withArguments (x .tolerance) (x .time-index) (x .points) (lesserBlockChecks (x .points) (x .orbitals) (now (x .lesser)) (x .observable))
+asked c = c .check-arguments .ensures ∙ ap (withArguments _ _ _) (c .before .check-lesser-block .ensures)
 
 -- what it says that they pass
 passed : (c : tie.After-enum-told) → let x = start (c .before .before) .args in Passed (x .points) (x .orbitals) (now (x .lesser)) (x .time-index)
 passed c =
-    let p = then-pass _ _ (sym (asked (c .before .before)) ∙ c .enum-told .given .1) in
+    let p = ends-passed _ _ _ (sym (asked (c .before .before)) ∙ c .enum-told .given .1) in
     block-at _ _ _ (start (c .before .before) .args .observable) _ (p .0) (p .1) .0
 
 -- the product is asked
@@ -39,14 +37,13 @@ second : tie.Need-slice-aggregate-trace
 second c = search needs
 
 pub one-body-expectation-spec : {M : Type 1} → statement M
-unfolding oneBodyExpectation
 one-body-expectation-spec =
     tie.close
     (tie.spec
     (λ c. search needs) (λ c κs. search needs)  -- slice-aggregate-check-lesser-block, check-lesser-block-requires
-    (λ c κs. search needs) (λ c κs. search needs) (λ c. search needs)  -- time-below-requires, then-requires, enum-known-verdict
+    (λ c κs. search needs) (λ c. search needs)  -- check-arguments-requires, enum-known-verdict
     (λ c κs. search needs)  -- refused-requires
-    (λ c. let v = c .before .before in c .refused .ensures ∙ first-refused _ _ _ (asked (v .before .before)) _ _ (v .verdict .given .1))  -- returns
+    (λ c. let v = c .before .before in c .refused .ensures ∙ inputs-refused _ _ _ _ _ _ (asked (v .before .before)) _ (v .verdict .given .1))  -- returns
     (λ c. search needs)  -- enum-told
     first
     (λ c κs. (passed (c .before), le-of-eq (first c)))  -- is-finite-requires
