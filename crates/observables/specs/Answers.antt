@@ -81,28 +81,28 @@ module _ (points orbitals : ℕ) (lesser : List Float) (time : ℕ) (x : DenseMa
   asks f = finiteWork (allFinite orbitals orbitals f) then realWithin tolerance (trace orbitals f .im)
 
   -- the questions in their order
-  product-order : (f : Entries) → product orbitals (entriesOf x) (densityOf points orbitals lesser time) ≡ f
-      → observed (lesserBlockChecks points orbitals lesser x then validTolerance tolerance then timeBelow time points then asks f) (trace orbitals f .re)
+  product-order : (o rho : Entries) → entriesOf x ≡ o → densityOf points orbitals lesser time ≡ rho
+      → observed (lesserBlockChecks points orbitals lesser x then validTolerance tolerance then timeBelow time points then asks (product orbitals o rho)) (trace orbitals (product orbitals o rho) .re)
       ≡ oneBodyExpectation points orbitals lesser time x tolerance
   unfolding oneBodyExpectation
-  product-order f e = rw e
+  product-order o rho e d = rw (e, d)
 
   module _ {v : Verdict} (asked : v ≡ withArguments tolerance time points (lesserBlockChecks points orbitals lesser x)) where
     pub inputs-refused : {r : Refusal} (y : Float) → v ≡ Refused r → observed (Refused r) y ≡ oneBodyExpectation points orbitals lesser time x tolerance
-    inputs-refused y p = first-refused _ _ _ _ asked y _ p ∙ product-order _ refl
+    inputs-refused y p = first-refused _ _ _ _ asked y _ p ∙ product-order _ _ refl refl
 
     -- past its checks the matrix has n columns
     module _ (p : v ≡ Pass) where
       abbrev made : Entries
       made = productOf points orbitals (x .values) lesser time
 
-      n-columns : product orbitals (entriesOf x) (densityOf points orbitals lesser time) ≡ made
+      n-columns : entriesOf x ≡ entriesIn orbitals (x .values)
       n-columns =
           let all = ends-passed _ _ _ (sym asked ∙ p) in
-          ap (λ (n : ℕ). product orbitals (entriesIn n (x .values)) (densityOf points orbitals lesser time)) (block-at points orbitals lesser x time (all .0) (all .1) .1)
+          ap (λ (n : ℕ). entriesIn n (x .values)) (block-at points orbitals lesser x time (all .0) (all .1) .1)
 
       product-asked : observed (asks made) (trace orbitals made .re) ≡ oneBodyExpectation points orbitals lesser time x tolerance
-      product-asked = first-passed _ _ _ _ asked _ p ∙ product-order made n-columns
+      product-asked = first-passed _ _ _ _ asked _ p ∙ product-order _ _ n-columns refl
 
       module _ {work : Verdict} (h : work ≡ finiteWork (allFinite orbitals orbitals made)) where
         pub product-refused : {r : Refusal} (y : Float) → work ≡ Refused r → observed (Refused r) y ≡ oneBodyExpectation points orbitals lesser time x tolerance
