@@ -1,4 +1,4 @@
-"""A plain reading of document 01, as document 02's L2, L7 and L8 amend it, in
+"""A plain reading of document 01, as document 02's L2, L7, L8 and L10 amend it, in
 Python, whose floats are binary64.
 
 A complex number is a pair (re, im). A two-time function is a flat list of
@@ -148,7 +148,7 @@ class Outcome(NamedTuple):
 
 
 class Overflow(Exception):
-    """A block made during the work is not finite: number 10."""
+    """A block or a trace made during the work is not finite: number 10."""
 
 
 def line_1(points, orbitals, shapes):
@@ -397,13 +397,20 @@ def product(left, right):
 
 
 def trace_of(values, n):
-    return c_sum(values[index * n + index] for index in range(n))
+    """Document 02, L10: 10 "when a part of its sum is not finite"."""
+    (total,) = checked([c_sum(values[index * n + index] for index in range(n))])
+    return total
 
 
 def trace(block):
-    """A complex number, whose parts may be infinite."""
+    """A complex number."""
     refusal = block_lines(block, fit=block.rows == block.columns)
-    return refusal or trace_of(entries(block), block.rows)
+    if refusal:
+        return refusal
+    try:
+        return trace_of(entries(block), block.rows)
+    except Overflow:
+        return Refusal(10)
 
 
 def max_difference(left, right):
@@ -702,24 +709,28 @@ def real_checked(value, tolerance):
 
 
 def particle_number(points, orbitals, lesser, time, tolerance):
-    """8, 11, 14."""
+    """8, 11, 10 of the trace, 14."""
     refusal = function_lines(points, orbitals, [lesser]) or argument_lines(tolerance, time, points)
     if refusal:
         return refusal
-    return real_checked(trace_of(density_of(points, orbitals, lesser, time), orbitals), tolerance)
+    try:
+        total = trace_of(density_of(points, orbitals, lesser, time), orbitals)
+    except Overflow:
+        return Refusal(10)
+    return real_checked(total, tolerance)
 
 
 def one_body_expectation(points, orbitals, lesser, time, observable, tolerance):
-    """8, 11, 10 of the product, 14."""
+    """8, 11, 10 of the product, 10 of the trace, 14."""
     refusal = function_lines(points, orbitals, [lesser], block=observable) or argument_lines(tolerance, time, points)
     if refusal:
         return refusal
     density = density_of(points, orbitals, lesser, time)
     try:
-        weighed = multiplied(entries(observable), density, orbitals, orbitals, orbitals)
+        total = trace_of(multiplied(entries(observable), density, orbitals, orbitals, orbitals), orbitals)
     except Overflow:
         return Refusal(10)
-    return real_checked(trace_of(weighed, orbitals), tolerance)
+    return real_checked(total, tolerance)
 
 
 def bond_flow_into(points, orbitals, lesser, time, a, b, hopping, charge):

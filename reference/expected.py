@@ -10,7 +10,7 @@ from bits import from_bits, hex_of
 from document01 import (
     ACCEPTED, LARGEST, Refusal, Report, bond_flow_into, block_of, causal_volterra_convolution, consistency_report,
     is_consistent, langreth_product, one_body_expectation, particle_number, place, retarded_dyson_with_tolerance,
-    time_convolution, transient_run,
+    time_convolution, trace, transient_run,
 )
 
 
@@ -57,6 +57,8 @@ def answer_text(answer):
         return "refused %d operand %d first %d second %d part %s" % (*answer[:4], hex_of(answer.part))
     if isinstance(answer, bool):
         return "yes" if answer else "no"
+    if isinstance(answer, tuple):
+        return "parts %s %s" % tuple(map(hex_of, answer))
     return "number %s" % hex_of(answer)
 
 
@@ -268,6 +270,45 @@ def case_q(times, clock):
     return lines
 
 
+# A trace is 10 when a part of its sum is not finite.
+
+BELOW_HALF = from_bits(0x7C8F_FFFF_FFFF_FFFF)  # the number below 2^970, half of the largest number's last digit
+
+
+def case_r(times, clock):
+    """Blocks that have some complex numbers on the diagonal, and +0 elsewhere."""
+    lines = ["r) trace of a block with this diagonal"]
+    for diagonal in [
+        [(LARGEST, 1.0), (LARGEST, 1.0)], [(1.0, -LARGEST), (1.0, -LARGEST)], [(LARGEST, LARGEST), (LARGEST, -LARGEST)],
+        [(LARGEST, 0.0), (LARGEST, 0.0), (-LARGEST, 0.0)], [(LARGEST, 0.0), (-LARGEST, 0.0), (LARGEST, 0.0)],
+        [(LARGEST, 0.0), (2.0**970, 0.0)], [(LARGEST, 0.0), (BELOW_HALF, 0.0)],
+    ]:  # fmt: skip
+        n = len(diagonal)
+        answer = trace(block_of(n, n, [diagonal[a] if a == b else (0.0, 0.0) for a in range(n) for b in range(n)]))
+        lines.append("%s: %s" % (" ".join(hex_of(part) for value in diagonal for part in value), answer_text(answer)))
+    return lines
+
+
+def case_s(times, clock):
+    """The diagonal of the lesser function at (0, 0); the block of the expectation is the identity."""
+    both = [(0.0, LARGEST), (0.0, LARGEST)]
+    lines = ["s) G^<(0,0) with this diagonal: particle_number, then one_body_expectation of the identity"]
+    for diagonal, time, tolerance in [
+        (both, 0, 0.5), ([(LARGEST, 0.0), (LARGEST, 0.0)], 0, 0.5), ([(0.0, LARGEST), (-1.0, LARGEST)], 0, 0.5),
+        ([(0.0, LARGEST), (-1.0, LARGEST)], 0, 1.0), (both + [(0.0, -LARGEST)], 0, 0.5),
+        ([(0.0, LARGEST), (0.0, -LARGEST), (0.0, LARGEST)], 0, 0.5), ([(0.0, LARGEST), (0.0, BELOW_HALF)], 0, 0.5),
+        (both, 0, 0.0), (both, 2, 0.5), (both, 2, 0.0),
+    ]:  # fmt: skip
+        n = len(diagonal)
+        entry = lambda t, u, a, b: diagonal[int(a)] if t == u == 0.0 and a == b else (0.0, 0.0)
+        lesser = function(clock, n, entry)
+        unit = block_of(n, n, [(float(a == b), 0.0) for a in range(n) for b in range(n)])
+        told = "%s, index %d, tolerance %s: " % (" ".join(hex_of(part) for value in diagonal for part in value), time, tolerance)
+        answers = particle_number(2, n, lesser, time, tolerance), one_body_expectation(2, n, lesser, time, unit, tolerance)
+        lines.append(told + "; ".join(map(answer_text, answers)))
+    return lines
+
+
 def text():
     rule = equal_times(1, (0.0, -1.0))
     sections = [
@@ -289,6 +330,8 @@ def text():
         ("N=2 n=1", report_case("o", 1, {(1, 1, 0, 0): (-LARGEST, 0.0)}, rule | {(1, 1, 0, 0): (LARGEST, 0.0)}), [0.0, 1.0]),
         ("seven residuals", case_p, []),
         ("N=2 n=1", case_q, [0.0, 1.0]),
+        ("blocks", case_r, []),
+        ("N=2, n the length of the diagonal", case_s, [0.0, 1.0]),
     ]
     lines = []
     for heading, case, times in sections:

@@ -119,7 +119,8 @@ def fuzz(path, count, seed):
             raise SystemExit(1)
         first = expected.split(b"\n")[0].decode()
         answers["accepted" if first.startswith("run") else first] += 1
-        answers["a time refused"] += b" refused 14" in expected
+        for number in (10, 14):
+            answers[f"a time refused by {number}"] += b" refused %d\n" % number in expected
     return answers
 
 

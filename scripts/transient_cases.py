@@ -81,6 +81,24 @@ def mixed(points, orbitals):
     )
 
 
+def infinite_numbers():
+    """A run of two orbitals that is accepted: at times 1, 2 and 3 the two occupations are finite and their sum is not, in its real part, in its
+    imaginary part, and in its real part beside an imaginary one above the tolerance. G^R is the identity at equal times, so that G^<(t,t) is the lesser
+    self-energy times the square of the last weight of the interval to t, which is 2."""
+    huge = 2.0**1021
+    diagonals = {1: [[0, huge], [0, huge]], 2: [[huge, 0], [huge, 0]], 3: [[0, huge], [-0.25, huge]], 4: [[0, 1], [0, 0.5]]}
+    unit = lambda t, u, a, b: int(t == u and a == b)  # noqa: E731
+    occupied = lambda t, u, a, b: diagonals[t][a] if t == u > 0 and a == b else 0  # noqa: E731
+    return {
+        "points": 5,
+        "orbitals": 2,
+        "times": [4 * t for t in range(5)],
+        "free": function(5, 2, unit),
+        "self_energy": function(5, 2, lambda t, u, a, b: 0),
+        "lesser_self_energy": function(5, 2, occupied),
+    }
+
+
 def cases():
     p12 = run_file.make(numbers())
     make = lambda **changed: run_file.make(numbers(**changed))  # noqa: E731
@@ -111,6 +129,7 @@ def cases():
         "refused_10_green": make(free=changed_at((1, 0), 1e300), self_energy=changed_at((2, 1), 1e30)),
         "refused_10_mixed": make(free=changed_at((1, 1), 1e200), lesser_self_energy=function(3, 1, lambda t, u, a, b: [0, 1e200])),
         "refused_10_lesser": make(free=changed_at((1, 1), 1e200)),
+        "number_refused_10": make(**infinite_numbers()),
         "number_refused_14": make(lesser_self_energy=function(3, 1, lambda t, u, a, b: [1, 1])),
         "refused_15_empty": b"",
         "refused_15_39_bytes": p12[:39],

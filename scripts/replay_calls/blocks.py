@@ -242,11 +242,32 @@ def overflows():
         yield scale(Block(1, 1, [1.0, -x]), factor)
 
 
+def on_diagonal(values):
+    """The trace of a block that has these complex numbers on the diagonal, and +0 elsewhere."""
+    size = len(values)
+    numbers = [part for a, b in itertools.product(range(size), repeat=2) for part in (values[a] if a == b else (0.0, 0.0))]
+    return of_one(TRACE, Block(size, size, numbers))
+
+
 def infinite():
-    """Traces and largest differences may be infinite; the larger of several, whichever comes first."""
+    """A part of a trace that is not finite is line 10. Largest differences may be infinite; the larger of several, whichever comes first."""
     for numbers in ([LARGEST, 1.0], [-1.0, -LARGEST], [LARGEST, -LARGEST]):
         yield of_one(TRACE, Block(2, 2, numbers + [0.0] * 4 + numbers))
     yield of_one(TRACE, Block(3, 3, [LARGEST, 0.0] + [0.0] * 6 + [LARGEST, 0.0] + [0.0] * 6 + [-LARGEST, 0.0]))
+    for x, sign in itertools.product((LARGEST, HALF_STEP, math.nextafter(HALF_STEP, 0.0), -LARGEST), (1.0, -1.0)):
+        yield on_diagonal([(sign * LARGEST, 0.5), (sign * x, -0.5)])
+        yield on_diagonal([(0.5, sign * x), (-0.5, sign * LARGEST)])
+    # A partial sum that overflows and would come back, and one that does not.
+    for signs in ([1, 1, -1], [1, -1, 1], [1, 1, -1, -1], [1, -1, 1, -1]):
+        yield on_diagonal([(sign * LARGEST, 1.0) for sign in signs])
+        yield on_diagonal([(1.0, sign * LARGEST) for sign in signs])
+    # Beside the diagonal nothing counts; of one entry both parts may be largest.
+    yield of_one(TRACE, Block(2, 2, [1.0, 2.0, LARGEST, LARGEST, LARGEST, LARGEST, -3.0, -0.0]))
+    yield on_diagonal([(LARGEST, -LARGEST)])
+    yield on_diagonal([(LARGEST / 8, 0.0)] * 16)
+    # Lines 1, 2, 3 and 7 come first.
+    for rows, columns in [(0, 2), (17, 17), (1, 2), (3, 2), (2, 2)]:
+        yield of_one(TRACE, Block(rows, columns, [LARGEST] * 7 + [NAN]))
     for z, w in [
         ([LARGEST, 0.0], [-LARGEST, 0.0]), ([LARGEST, LARGEST], ZERO), ([LARGEST, 0.0], ZERO), ([0.0, -LARGEST], [0.0, HALF_STEP]),
         ([LARGEST, LARGEST], [-LARGEST, -LARGEST]), ([SMALLEST, SMALLEST], ZERO), ([3.0, -4.0], ZERO), ([3.0, -4.0], [3.0, -4.0]),

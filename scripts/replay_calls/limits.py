@@ -42,7 +42,7 @@ def operand(points, wrong):
 
 
 def good(function, points, wrong):
-    """A call of one orbital that answers the questions `wrong` about its values by no, and all others by yes."""
+    """A call of one orbital, or of two, that answers the questions `wrong` about its values by no, and all others by yes."""
     times, numbers = times_of(points, wrong), operand(points, wrong)
     tolerance = 0.0 if 8 in wrong else 0.5
     if function in (FULL, CAUSAL):
@@ -59,6 +59,9 @@ def good(function, points, wrong):
     time = points if 11 in wrong else points - 1
     if function == DENSITY:
         return density(points, 1, lesser, time)
+    if function == NUMBER and 10 in wrong:
+        # Two orbitals, of which the sum overflows.
+        return number(points, 2, [1.0 if 14 in wrong else 0.0, LARGEST] * (2 * points) ** 2, time, tolerance)
     if function == NUMBER:
         return number(points, 1, lesser, time, tolerance)
     if function == EXPECTATION:

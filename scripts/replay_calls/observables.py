@@ -9,8 +9,8 @@ from document01 import DEFAULT_TOLERANCE, LARGEST, function_length
 from replay_calls import solves
 from replay_calls.answers import ran
 from replay_calls.calls import (
-    DENSITY, EXPECTATION, FLOW, HUGE, INFINITY, MOST, NAN, NANS, NUMBER, RUN, SMALLEST, WRONG_TOLERANCES, Call, beside, by_place,
-    some, with_entries,
+    DENSITY, EXPECTATION, FLOW, HALF_STEP, HUGE, INFINITY, MOST, NAN, NANS, NUMBER, RUN, SMALLEST, WRONG_TOLERANCES, Call, beside,
+    by_place, some, with_entries,
 )
 
 ONE = [1.0, 0.0]
@@ -103,7 +103,7 @@ def kinds():
 
 
 def infinite():
-    """Infinite traces and flows, and flows that are no number, are answers."""
+    """Infinite flows, and flows that are no number, are answers; an infinite trace is line 10."""
     twice = {(0, 0): (LARGEST, 0.0), (1, 1): (LARGEST, 0.0)}
     minus = {at: (-re, 0.0) for at, (re, _) in twice.items()}
     turned = {at: (1.0, re) for at, (re, _) in twice.items()}
@@ -189,6 +189,48 @@ def wrong_places():
         yield flow(2, 2, [1.0] * 32, time, a, b)
 
 
+def on_diagonal(values, time, tolerance):
+    """The particle number of a density that has these complex numbers on its diagonal, and the expectation of the identity."""
+    size = len(values)
+    lesser = at_start(size, {(a, a): value for a, value in enumerate(values)})
+    identity = [part for a, b in itertools.product(range(size), repeat=2) for part in (float(a == b), 0.0)]
+    yield number(2, size, lesser, time, tolerance)
+    yield expectation(2, size, lesser, time, identity, tolerance)
+
+
+def infinite_traces():
+    """Line 10 by a part of the trace that is not finite: after lines 8 and 11, before line 14."""
+    below = math.nextafter(HALF_STEP, 0.0)
+    real, imaginary = [(LARGEST, 0.0)] * 2, [(0.0, LARGEST)] * 2
+    # An infinite real part, beside an imaginary one that is below the tolerance, equal to it and above it.
+    for im, tolerance in [(0.0, SMALLEST), (1.0, 2.0), (1.0, 1.0), (1.0, 0.5), (-1.0, 0.5), (LARGEST, LARGEST), (LARGEST, 0.5)]:
+        yield from on_diagonal([(LARGEST, 0.0), (LARGEST, im)], 0, tolerance)
+        yield from on_diagonal([(-LARGEST, im), (-LARGEST, 0.0)], 0, tolerance)
+    # An infinite imaginary part, and both.
+    for sign, tolerance in itertools.product((1.0, -1.0), (0.5, LARGEST)):
+        yield from on_diagonal([(1.0, sign * LARGEST)] * 2, 0, tolerance)
+        yield from on_diagonal([(LARGEST, sign * LARGEST)] * 2, 0, tolerance)
+    # Partial sums that overflow and would come back, one that does not overflow, and one that does by its third number.
+    for values in ([1, 1, -1], [-1, -1, 1], [1, -1, 1], [1, 1, -1, -1], [1, -1, -1, -1, 1], [0.25, 0.5, 0.5]):
+        yield from on_diagonal([(LARGEST * x, 0.0) for x in values], 0, 0.5)
+        yield from on_diagonal([(0.0, LARGEST * x) for x in values], 0, LARGEST)
+    for x in (HALF_STEP, below):
+        yield from on_diagonal([(LARGEST, 0.0), (x, 0.0)], 0, 0.5)
+        yield from on_diagonal([(0.0, -x), (0.0, -LARGEST)], 0, LARGEST)
+    yield number(2, 11, at_start(11, {(a, a): (LARGEST / 8, 0.0) for a in range(11)}), 0)
+    # Entries beside the diagonal and those of another time do not count.
+    beside_it = with_entries(2, 2, {(0, 0, 0, 1): (LARGEST, LARGEST), (0, 0, 1, 0): (LARGEST, LARGEST)})
+    for lesser in (beside_it, with_entries(2, 2, {(1, 1, a, a): (LARGEST, LARGEST) for a in range(2)})):
+        yield from one_each(2, 2, lesser, 0)
+    # Lines 8 and 11 come first.
+    for values, time, tolerance in itertools.product((real, imaginary), (0, 2), (0.0, NAN, 0.5)):
+        yield from on_diagonal(values, time, tolerance)
+    # The trace is that of the product, not of the density, and the product may overflow by itself.
+    lesser = at_start(2, {(a, a): (LARGEST, 0.0) for a in range(2)})
+    for diagonal in ([0.5, 0.5], [0.5, math.nextafter(0.5, 1.0)], [1.0, -1.0], [2.0, 0.0], [0.0, 0.0]):
+        yield expectation(2, 2, lesser, 0, [diagonal[0], 0.0, 0.0, 0.0, 0.0, 0.0, diagonal[1], 0.0], 0.5)
+
+
 def arguments_first():
     """Line 8 before 11 and before 10: each tolerance that is none, and one that is, with an index past the times, with a product that
     overflows, with both and with neither; and lines 3 and 7 before it."""
@@ -206,4 +248,6 @@ def arguments_first():
     yield expectation(2, 1, [0.0] * 8, 2, [0.0] * 4, 0.0, (1, 2))
 
 
-CASES = [bench, of_runs, kinds, infinite, not_real, sizes_and_lengths, not_finite, wrong_places, arguments_first]
+CASES = [
+    bench, of_runs, kinds, infinite, not_real, sizes_and_lengths, not_finite, wrong_places, infinite_traces, arguments_first,
+]
