@@ -27,7 +27,7 @@
  *
  * Answers. 0: accepted. Otherwise the number of the first question that was answered no, in the order that each call names:
  *     1   N at least 2, n at least 1                       9   each input retarded within tolerance: operand, first, second, part = residual
- *     2   N at most 256, n at most 16                      10  every block made during the work finite
+ *     2   N at most 256, n at most 16                      10  every block and every trace made during the work finite
  *     3   each slice its exact length                      11  the time index below N
  *     4   all times finite                                 12  a, then b, below n; of a block, row, then column, inside
  *     5   each time above the one before: first            13  hopping and charge factor finite
@@ -135,8 +135,8 @@ uint8_t leechgrommet_block_subtract(
     size_t *shape, size_t shape_len, double *out, size_t out_len,
     size_t *places, size_t places_len, double *part, size_t part_len);
 
-/* The sum of the diagonal, real and imaginary part to `value`, a slice of 2; it may be infinite. 3 unless the block is
- * square. Asks 1, 2, 3, 7. */
+/* The sum of the diagonal, real and imaginary part to `value`, a slice of 2. 3 unless the block is square, 10 unless both parts are finite.
+ * Asks 1, 2, 3, 7, 10. */
 uint8_t leechgrommet_block_trace(
     size_t rows, size_t columns, const double *values,
     double *value, size_t value_len,
@@ -221,7 +221,7 @@ uint8_t leechgrommet_density_matrix(
     size_t *shape, size_t shape_len, double *out, size_t out_len,
     size_t *places, size_t places_len, double *part, size_t part_len);
 
-/* The trace of the density -i G^<(t,t) at a time, written to `value`, a slice of 1. Asks 1, 2, 3, 7, then 8, 11, 14. */
+/* The trace of the density -i G^<(t,t) at a time, written to `value`, a slice of 1. Asks 1, 2, 3, 7, then 8, 11, 10 (the trace), 14. */
 uint8_t leechgrommet_particle_number(
     const double *lesser, size_t lesser_len,
     size_t points, size_t orbitals, size_t time_index, double tolerance,
@@ -229,7 +229,7 @@ uint8_t leechgrommet_particle_number(
     size_t *places, size_t places_len, double *part, size_t part_len);
 
 /* The trace of the product of a one-body matrix, passed as an n by n block (of another shape 3; operand 1), with the density, written to `value`.
- * Asks 1, 2, 3, 7, then 8, 11, 10 (the product), 14. */
+ * Asks 1, 2, 3, 7, then 8, 11, 10 (the product, then the trace), 14. */
 uint8_t leechgrommet_one_body_expectation(
     const double *lesser, size_t lesser_len,
     size_t points, size_t orbitals, size_t time_index,

@@ -45,7 +45,7 @@ int main(void)
 {
     double times[POINTS] = {0, 1, 2}, step[NUMBERS] = {0}, lesser_self_energy[NUMBERS] = {0}, none[NUMBERS] = {0}, most[NUMBERS], least[NUMBERS];
     double retarded[NUMBERS], lesser[NUMBERS], kernel[NUMBERS], lesser_advanced[NUMBERS], value[2] = {LENT, LENT}, residuals[7] = {0};
-    double numbers[LEECHGROMMET_BLOCK_NUMBERS];
+    double numbers[LEECHGROMMET_BLOCK_NUMBERS], two_orbitals[32] = {0};
     size_t t, u, shape[2] = {7, 7};
     uint8_t decided[1] = {7}, answer;
 
@@ -58,6 +58,8 @@ int main(void)
         most[t] = DBL_MAX;
         least[t] = -DBL_MAX;
     }
+    /* The density at time 0 has the largest number twice on its diagonal. */
+    two_orbitals[1] = two_orbitals[7] = DBL_MAX;
 
     printf("norm:");
     number(leechgrommet_norm(3, 4));
@@ -72,6 +74,8 @@ int main(void)
     particle_number("particle_number of one time and a longer slice", lesser, 1, 0, value, 2);
     answer = leechgrommet_particle_number(lesser, NUMBERS, POINTS, 1, POINTS, 0, value, 1, places, 3, part, 1);
     print_answer("particle_number without a tolerance", answer, value, 1);
+    answer = leechgrommet_particle_number(two_orbitals, 32, 2, 2, 0, 1e-12, value, 1, places, 3, part, 1);
+    print_answer("particle_number that is infinite", answer, value, 1);
 
     times[2] = 1;
     answer = leechgrommet_causal_volterra_convolution(times, POINTS, step, NUMBERS, step, NUMBERS, POINTS, 1, retarded, NUMBERS,
@@ -109,6 +113,9 @@ int main(void)
     answer = leechgrommet_block_identity(17, shape, 2, numbers, LEECHGROMMET_BLOCK_NUMBERS, places, 3, part, 1);
     print_answer("block_identity", answer, numbers, 1);
     printf("%d by %d\n", (int)shape[0], (int)shape[1]);
+    numbers[0] = numbers[6] = DBL_MAX;
+    answer = leechgrommet_block_trace(2, 2, numbers, value, 2, places, 3, part, 1);
+    print_answer("block_trace that is infinite", answer, value, 2);
     answer = leechgrommet_block_from_scalar(0.5, -2, shape, 2, numbers, LEECHGROMMET_BLOCK_NUMBERS, places, 3, part, 1);
     print_answer("block_from_scalar", answer, numbers, 3);
     printf("%d by %d\n", (int)shape[0], (int)shape[1]);

@@ -1,6 +1,6 @@
 //! The operations on blocks: what each takes, ours and the port's.
 use crate::block_inputs::BlockCall;
-use crate::sides::{block_outcome, decided, ours, outcome, Outcome};
+use crate::sides::{block_outcome, decided, judged, ours, outcome, Outcome};
 use crate::source::Source;
 use judge::Block;
 
@@ -108,7 +108,7 @@ fn pair(call: &BlockCall, here: Ours, theirs: Theirs) -> Outcome {
 
 fn trace(call: &BlockCall) -> Outcome {
     let [x] = call.lent();
-    outcome(here::block_trace(&ours(&x)), judge::trace(&x), |z| z.to_vec())
+    judged(here::block_trace(&ours(&x)), judge::trace(&x), |z| z.to_vec())
 }
 
 fn get(call: &BlockCall) -> Outcome {

@@ -117,7 +117,7 @@ pub fn function(name: &str) -> &'static Function {
 fn as_drawn(_: &mut Source, _: &mut Call) {}
 
 /// Half of the densities and observables are real.
-fn half_real(source: &mut Source, call: &mut Call) {
+pub fn half_real(source: &mut Source, call: &mut Call) {
     if source.one_in(2) {
         call.operands[0].iter_mut().step_by(2).for_each(|x| *x = 0.0);
         call.observable.numbers.iter_mut().skip(1).step_by(2).for_each(|x| *x = 0.0);

@@ -32,7 +32,10 @@ const FUNCTIONS: [(&str, Patterns, Told); 6] = [
     ("consistency_report", REPORT, |call| stages::consistency_report(call.points, call.orbitals, call.operands())),
 ];
 
-const OPERATIONS: [&str; 4] = ["block_multiply", "block_scale", "block_add", "block_subtract"];
+const OPERATIONS: [&str; 5] = ["block_multiply", "block_scale", "block_add", "block_subtract", "block_trace"];
+
+/// Observables with a trace.
+const OBSERVABLES: [&str; 2] = ["particle_number", "one_body_expectation"];
 
 /// Where the port's work on a call of this function stops.
 pub fn told(name: &str) -> Told {
@@ -119,18 +122,13 @@ fn function(seed: u64, f: &Function, (patterns, told): (Patterns, Told), index: 
     outcome.under(format!("{}, {stage}", f.name))
 }
 
-/// What a call is counted under that has one stage.
-fn one_stage(name: &str, outcome: Outcome) -> Outcome {
-    let label = if outcome.number == 10 { name.to_string() } else { format!("{name}, none") };
-    outcome.under(label)
-}
-
-fn expectation(seed: u64, index: u64) -> Outcome {
-    let f = calls::function("one_body_expectation");
+/// The product of an expectation overflows on both sides; a trace that is not finite is a listed difference.
+fn observable(seed: u64, f: &Function, index: u64) -> Outcome {
     let source = &mut Source::of(seed, [PART, f.name], index);
     let sizes = source.small_sizes();
     let mut plain = source.plain_call(f, sizes, vec![0.0; sizes.0]);
     plain.tolerance = 1e-12;
+    calls::half_real(source, &mut plain);
     let growths = [Growth::drawn(source, true), Growth::drawn(source, true)];
     let call = |steps| {
         let mut call = Call { operands: vec![grown(&plain.operands[0], growths[0].at(steps))], ..plain.clone() };
@@ -138,7 +136,13 @@ fn expectation(seed: u64, index: u64) -> Outcome {
         call
     };
     let steps = first(MOST, |steps| (f.compare)(&call(steps)).number == 10);
-    one_stage("one_body_expectation, product", (f.compare)(&call(near(source, steps))))
+    let outcome = (f.compare)(&call(near(source, steps)));
+    let stage = match (outcome.number, outcome.listed) {
+        (10, None) => "product",
+        (10, Some(_)) => "trace",
+        _ => "none",
+    };
+    outcome.under(format!("{}, {stage}", f.name))
 }
 
 fn operation(seed: u64, f: &Operation, index: u64) -> Outcome {
@@ -157,7 +161,9 @@ fn operation(seed: u64, f: &Operation, index: u64) -> Outcome {
         BlockCall { blocks: numbers.collect(), factor: [factor[0], factor[1]], ..call }
     };
     let steps = first(MOST, |steps| (f.compare)(&grown_call(steps)).number == 10);
-    one_stage(f.name, (f.compare)(&grown_call(near(source, steps))))
+    let outcome = (f.compare)(&grown_call(near(source, steps)));
+    let label = if outcome.number == 10 { f.name.to_string() } else { format!("{}, none", f.name) };
+    outcome.under(label)
 }
 
 pub fn jobs(calls: u64, seed: u64) -> Vec<Job> {
@@ -169,6 +175,9 @@ pub fn jobs(calls: u64, seed: u64) -> Vec<Job> {
         let f = blocks::operation(name);
         Job::of(PART, name, calls, move |index| operation(seed, f, index))
     });
-    let expectation = Job::of(PART, "one_body_expectation", calls, move |index| expectation(seed, index));
-    functions.into_iter().chain(operations).chain([expectation]).collect()
+    let observables = OBSERVABLES.map(|name| {
+        let f = calls::function(name);
+        Job::of(PART, name, calls, move |index| observable(seed, f, index))
+    });
+    functions.into_iter().chain(operations).chain(observables).collect()
 }

@@ -77,7 +77,7 @@ fn block_trace(seed: u64, index: u64) -> Outcome {
     let [x] = call.lent();
     let number = here::block_trace_written(&ours(&x), &mut value, &mut places, &mut part);
     let theirs = judge::trace(&x);
-    outcome(number, vec![value, numbers(&places), part], vec![(LENT, afterwards(theirs))], theirs)
+    outcome(number, vec![value, numbers(&places), part], vec![(LENT, afterwards(theirs.answer))], theirs)
 }
 
 fn particle_number(seed: u64, index: u64) -> Outcome {

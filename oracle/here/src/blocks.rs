@@ -538,5 +538,6 @@ mod tests {
         assert_eq!(block_is_hermitian(&Block::of(1, 2, &[0.0; 4]), 0.5), Ok(false));
         assert_eq!(block_is_hermitian(&x, 0.0), Err(Answer { number: 8, ..ACCEPTED }));
         assert_eq!(block_trace(&Block::of(1, 2, &[0.0; 4])), Err(Answer { number: 3, ..ACCEPTED }));
+        assert_eq!(block_trace(&Block::of(2, 2, &[f64::MAX; 8])), Err(Answer { number: 10, ..ACCEPTED }));
     }
 }

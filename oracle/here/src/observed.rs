@@ -228,6 +228,9 @@ mod tests {
         assert_eq!(particle_number(&lesser, 2, 1, 1, 0.5), Err(Answer { number: 14, part: -2.0, ..ACCEPTED }));
         assert_eq!(particle_number(&lesser, 2, 1, 2, 0.5), Err(Answer { number: 11, ..ACCEPTED }));
         assert_eq!(particle_number(&lesser, 2, 1, 2, 0.0), Err(Answer { number: 8, ..ACCEPTED }));
+        // The sum of two largest occupations.
+        let full: [f64; 32] = std::array::from_fn(|at| if at == 1 || at == 7 { f64::MAX } else { 0.0 });
+        assert_eq!(particle_number(&full, 2, 2, 0, 0.5), Err(Answer { number: 10, ..ACCEPTED }));
         // 2·3·Im(i·(3 − 2i))
         assert_eq!(bond_flow_into(&lesser, 2, 1, 1, 0, 0, [0.0, 1.0], 3.0), Ok(18.0));
         assert_eq!(bond_flow_into(&lesser, 2, 1, 1, 0, 1, [0.0, 1.0], 3.0), Err(Answer { number: 12, ..ACCEPTED }));

@@ -1,6 +1,6 @@
 //! The norm and the operations on blocks.
 use crate::lines::{block_refusal, finite, limits, matrices, matrix, refusal, require};
-use crate::{Answer, Refused};
+use crate::{Answer, Judged, Refused};
 use keldysh_green::{kept, Complex64, DenseMatrix};
 
 /// 16 by 16 entries of two parts.
@@ -101,10 +101,8 @@ pub fn subtract(left: &Block, right: &Block) -> Answer<Block> {
 }
 
 /// The sum of the diagonal, by its real and its imaginary part.
-pub fn trace(x: &Block) -> Answer<[f64; 2]> {
-    let [x] = matrices([x], x.rows == x.columns)?;
-    let sum = x.trace().map_err(block_refusal)?;
-    Ok([sum.re, sum.im])
+pub fn trace(x: &Block) -> Judged<[f64; 2]> {
+    Judged::trace(matrices([x], x.rows == x.columns).and_then(|[x]| x.trace().map_err(block_refusal)))
 }
 
 /// An entry, by its real and its imaginary part.

@@ -134,7 +134,11 @@ pub fn density_matrix(points: usize, orbitals: usize, lesser: &[f64], time: usiz
 
 pub fn particle_number(points: usize, orbitals: usize, lesser: &[f64], time: usize, tolerance: f64) -> Judged<f64> {
     match functions(points, orbitals, [lesser]) {
-        Ok([lesser]) => Judged::observed(tolerance, &[11], keldysh_green::particle_number(&lesser, time, tolerance).map_err(refusal)),
+        Ok([lesser]) => {
+            let trace = keldysh_green::density_matrix(&lesser, time).and_then(|density| Ok(density.trace()?));
+            let port = keldysh_green::particle_number(&lesser, time, tolerance);
+            Judged::observed(tolerance, trace.map_err(refusal), port.map_err(refusal))
+        }
         Err(refused) => Err(refused).into(),
     }
 }
@@ -159,8 +163,10 @@ pub fn one_body_expectation(
 ) -> Judged<f64> {
     match with_observable(points, orbitals, lesser, observable) {
         Ok((lesser, observable)) => {
-            let port = keldysh_green::one_body_expectation(&lesser, time, &observable, tolerance).map_err(refusal);
-            Judged::observed(tolerance, &[11, 10], port)
+            let density = keldysh_green::density_matrix(&lesser, time);
+            let trace = density.and_then(|density| Ok(observable.multiply(&density)?.trace()?));
+            let port = keldysh_green::one_body_expectation(&lesser, time, &observable, tolerance);
+            Judged::observed(tolerance, trace.map_err(refusal), port.map_err(refusal))
         }
         Err(refused) => Err(refused).into(),
     }

@@ -2,7 +2,7 @@
 use crate::lines::refusal;
 use crate::sums::{Made, OnePoint, Stage, Work, ONE_POINT};
 use crate::{Answer, Refused};
-use keldysh_green::{RealTimeGrid, TwoTimeMatrix};
+use keldysh_green::{Complex64, RealTimeGrid, TwoTimeMatrix};
 use shared::numbers;
 use std::fmt::{self, Display, Formatter};
 
@@ -19,6 +19,8 @@ pub enum Listed {
     EqualTime,
     /// The port refuses an observable by this number before it asks the tolerance, which document 02 asks first: 8.
     BeforeTolerance(u8),
+    /// The port answers this to a trace of which a part is not finite, which document 02 refuses by 10.
+    InfiniteTrace(&'static str),
 }
 
 impl Display for Listed {
@@ -27,6 +29,7 @@ impl Display for Listed {
             Self::OnePoint(sum) => write!(f, "10 on one point in {sum}"),
             Self::EqualTime => write!(f, "yes by six residuals"),
             Self::BeforeTolerance(number) => write!(f, "{number} before 8"),
+            Self::InfiniteTrace(answer) => write!(f, "{answer}"),
         }
     }
 }
@@ -39,7 +42,7 @@ pub struct Judged<T> {
     pub listed: Option<Listed>,
     /// Whether what the judge did again agrees with the port: the sums without products on one point answer as the port does, in all bits or
     /// by the stage at which it stops. Where the port stops on one point they are not to. Of an observable, whether the port asks the
-    /// tolerance, and what it refuses by before.
+    /// tolerance, what it refuses by before, and whether its answer is that of the trace.
     pub agrees: bool,
 }
 
@@ -58,15 +61,43 @@ impl<T> Judged<T> {
     }
 }
 
-impl Judged<f64> {
-    /// An observable whose lines 1 to 7 are asked. `earlier` are the numbers by which the port may refuse it before it asks the tolerance.
-    pub(crate) fn observed(tolerance: f64, earlier: &[u8], port: Answer<f64>) -> Self {
-        let number = port.map_or_else(|refused| refused.number, |_| 0);
-        if tolerance.is_finite() && tolerance > 0.0 {
-            return Self { answer: port, listed: None, agrees: number != 8 };
+impl Judged<[f64; 2]> {
+    /// A trace by its real and its imaginary part.
+    pub(crate) fn trace(port: Answer<Complex64>) -> Self {
+        match port {
+            Ok(sum) if !finite(sum) => {
+                Self { answer: Err(Refused::by(10)), listed: Some(Listed::InfiniteTrace("an infinite trace")), agrees: true }
+            }
+            port => port.map(|sum| [sum.re, sum.im]).into(),
         }
-        let listed = (number != 8).then_some(Listed::BeforeTolerance(number));
-        Self { answer: Err(Refused::by(8)), listed, agrees: number == 8 || earlier.contains(&number) }
+    }
+}
+
+fn finite(z: Complex64) -> bool {
+    z.re.is_finite() && z.im.is_finite()
+}
+
+impl Judged<f64> {
+    /// An observable whose lines 1 to 7 are asked: the port's answer, and the port's trace or what it refuses by before it has one, which
+    /// is 11 or 10.
+    pub(crate) fn observed(tolerance: f64, trace: Answer<Complex64>, port: Answer<f64>) -> Self {
+        let tolerated = tolerance.is_finite() && tolerance > 0.0;
+        let expected = match trace {
+            Err(refused) => Err(refused),
+            Ok(_) if !tolerated => Err(Refused::by(8)),
+            Ok(sum) if sum.im.abs() > tolerance => Err(Refused { part: sum.im, ..Refused::by(14) }),
+            Ok(sum) => Ok(sum.re),
+        };
+        let (answer, listed) = match (trace, port) {
+            (Err(refused), _) if !tolerated => (Err(Refused::by(8)), Some(Listed::BeforeTolerance(refused.number))),
+            (Ok(sum), Ok(_)) if !finite(sum) => (Err(Refused::by(10)), Some(Listed::InfiniteTrace("an infinite number"))),
+            (Ok(sum), Err(Refused { number: 14, part, .. })) if !finite(sum) => {
+                let answer = if part.is_finite() { "14, real part infinite" } else { "14, imaginary part infinite" };
+                (Err(Refused::by(10)), Some(Listed::InfiniteTrace(answer)))
+            }
+            _ => (port, None),
+        };
+        Self { answer, listed, agrees: port == expected }
     }
 }
 

@@ -27,7 +27,7 @@ pub fn answer(function: u64, x: &mut Inputs) -> String {
         18 => pair(x, judge::multiply),
         19 => pair(x, judge::add),
         20 => pair(x, judge::subtract),
-        21 => answered(judge::trace(&x.block(0)), |z| numbers(&z)),
+        21 => answered(judge::trace(&x.block(0)).agreed(), |z| numbers(&z)),
         22 => answered(judge::get(&x.block(0), x.place(), x.place()), |z| numbers(&z)),
         23 => answered(judge::max_difference(&x.block(0), &x.block(1)), number),
         24 => answered(judge::is_hermitian(&x.block(0), x.tolerance), decided),
