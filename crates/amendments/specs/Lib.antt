@@ -5,3 +5,5 @@ pub mod OnePoint
 pub mod SeventhResidual
 -- L8: the tolerance is asked before the time index and before the product.
 pub mod ArgumentsFirst
+-- L10: a trace that is not finite is refused by 10.
+pub mod FiniteTrace

@@ -1,4 +1,5 @@
--- Where the slices passed for the rest have their lengths, the number that leaves is document 01's number of the answer. Assumes nothing.
+-- Where the slices passed for the rest have their lengths, the number that leaves is document 01's number of the answer, and after 10 a slice passed
+-- for numbers holds +0 throughout. Assumes nothing.
 use Rattle.lists.specs.Prelude.{_≡_, refl, _∙_, Bool, true, false, cond, _||_, _&&_, List, ℕ, min, eqb, length, Float, eq-eqb}
 use Rattle.refusal.specs.declared.Verdict.{Verdict}
 use Rattle.refusal.specs.declared.Verdict.the-variants.{Pass, Refused}
@@ -6,7 +7,7 @@ use Rattle.refusal.specs.declared.Measured.{Measured}
 use Rattle.refusal.specs.declared.Measured.the-variants.{Of, Refused as Unmeasured}
 use Rattle.refusal.specs.declared.Decision.{Decision}
 use Rattle.refusal.specs.declared.Decision.the-variants.{Yes, No, Refused as Undecided}
-use Rattle.refusal.specs.Verdict.{ask, _then_, numberOf, measuredNumber, decisionNumber}
+use Rattle.refusal.specs.Verdict.{by, ask, _then_, numberOf, zeroed, afterwards, measuredNumber, decisionNumber}
 use Rattle.refusal.specs.Checks.{fitting}
 use Rattle.matrix.specs.declared.Value.{Value}
 use Rattle.matrix.specs.declared.Value.the-variants.{Of as ValueOf, Refused as NoValue}
@@ -34,6 +35,16 @@ module _ (places : List ℕ) (part : List Float) where
   pub numbers-number : (n : Numbers) (before : List Float) → length before ≡ min (n .count) 7 → numbersAnswer n before places part .answer .number ≡ numberOf (n .verdict)
   unfolding numbersAnswer
   numbers-number n before h = rw (eq-eqb (length before) (min (n .count) 7) h) (fits (n .verdict))
+
+  pub numbers-cleared : (n : Numbers) (before : List Float) → n .verdict ≡ Refused (by 10) → length before ≡ min (n .count) 7
+      → numbersAnswer n before places part ≡ record { answer = answerOf (Refused (by 10)) places part; out = zeroed before }
+  unfolding numbersAnswer withOutput fitting ask _then_ afterwards
+  numbers-cleared n before v h = rw (v, eq-eqb (length before) (min (n .count) 7) h)
+
+  -- one complex number, as a trace that is not finite
+  pub complex-cleared : {v : Value} (before : List Float) → v ≡ NoValue (by 10) → length before ≡ 2
+      → numbersAnswer (complexNumbers v) before places part ≡ record { answer = answerOf (Refused (by 10)) places part; out = zeroed before }
+  complex-cleared before e h = rw e (numbers-cleared (complexNumbers (NoValue (by 10))) before refl h)
 
   pub decision-number : (d : Decision) (before : List ℕ) → length before ≡ 1 → decisionAnswer d before places part .answer .number ≡ decisionNumber d
   unfolding decisionAnswer decisionNumber numberOf

@@ -36,6 +36,10 @@ zeros a b = czero
 unfoldable pub trace : ℕ → Entries → Complex
 trace size x = sum size (λ i. x i i)
 
+-- "The trace itself shall give 10 when a part of its sum is not finite" (document 02, L10): what check 10 asks of every trace
+abbrev pub finiteTrace : ℕ → Entries → Bool
+finiteTrace size x = cfinite (trace size x)
+
 -- the norm of one number, and the largest norm of a block's entries
 abbrev pub cnorm : Complex → Float
 cnorm z = norm (z .re) (z .im)

@@ -183,7 +183,7 @@ pub extern "C" fn leechgrommet_block_subtract(
     write_block(made, shape, out, places, part)
 }
 
-// The sum of the diagonal, which may be infinite, by its two parts.
+// The sum of the diagonal, by its two parts: finite, or 10.
 #[no_mangle]
 pub extern "C" fn leechgrommet_block_trace(
     rows: usize,

@@ -61,6 +61,11 @@ module _ (v : Verdict) where
   unfolding valued
   value-refused z r p = rw p
 
+  -- a number that is asked once more
+  pub value-then : (asks : Complex → Verdict) (z : Complex) {y : Complex} → v ≡ Pass → y ≡ z → valued (asks y) y ≡ valued (v then asks z) z
+  unfolding _then_
+  value-then asks z p e = rw (p, e)
+
   pub measure-is : (x : Float) {y : Float} → v ≡ Pass → y ≡ x → Measure y ≡ measured v x
   unfolding measured
   measure-is x p e = rw (p, e)

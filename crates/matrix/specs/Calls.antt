@@ -15,7 +15,7 @@ use Rattle.matrix.specs.declared.Value.{Value}
 use Rattle.matrix.specs.declared.Value.the-variants.{Of, Refused as NoValue}
 use Rattle.block.specs.Block.{Entries}
 use Rattle.matrix.specs.Dense.{entriesOf, countOf, blockOf, checked}
-use Rattle.block.specs.Operations.{product, scaled, added, subtracted, adjoint, identity, zeros, trace, matrixNormMax, allFinite, hermitian}
+use Rattle.block.specs.Operations.{product, scaled, added, subtracted, adjoint, identity, zeros, trace, finiteTrace, matrixNormMax, allFinite, hermitian}
 
 -- one complex number, once its questions are asked, and the refusal's number of such an answer: 0 where nothing is refused
 unfoldable pub valued : Verdict → Complex → Value
@@ -86,10 +86,11 @@ addOf x y = finiteBlock (pairChecks (sameShape x y) x y) (x .rows) (x .columns) 
 unfoldable pub subtractOf : DenseMatrix → DenseMatrix → Checked
 subtractOf x y = finiteBlock (pairChecks (sameShape x y) x y) (x .rows) (x .columns) (subtracted (entriesOf x) (entriesOf y))
 
--- "`trace` and `max_difference` check nothing and may be infinite."
+-- "The trace itself shall give 10 when a part of its sum is not finite" (document 02, L10).
 unfoldable pub traceOf : DenseMatrix → Value
-traceOf x = valued (blockChecks (square x) x) (trace (x .rows) (entriesOf x))
+traceOf x = valued (blockChecks (square x) x then finiteWork (finiteTrace (x .rows) (entriesOf x))) (trace (x .rows) (entriesOf x))
 
+-- `max_difference` checks nothing of what it computes and may be infinite.
 unfoldable pub maxDifferenceOf : DenseMatrix → DenseMatrix → Measured
 maxDifferenceOf x y = measured (pairChecks (sameShape x y) x y) (matrixNormMax (x .rows) (x .columns) (subtracted (entriesOf x) (entriesOf y)))
 

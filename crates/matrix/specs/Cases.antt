@@ -80,11 +80,12 @@ edges : productOf (scalar 0x8000_0000_0000_0000 0) (scalar 0x3ff0_0000_0000_0000
 unfolding productOf addOf scaleOf finiteBlock pairChecks blockChecks checked blockOf layOut join notEmpty withinBlock fitting finiteEntries finiteWork ask askAll _then_ product scaled added allFinite allBelow sumFrom fold cadd cmul cfinite finite Ieee.ofBits Ieee.add Ieee.sub Ieee.mul Ieee.neg
 edges = refl
 
--- the trace 1.5+2i; the largest twice is infinite and is returned; 3 of a block that is not square; entries, and 12 outside
-values : traceOf x ∷ traceOf (block 2 2 (most ∷ 0 ∷ 0 ∷ 0 ∷ 0 ∷ 0 ∷ most ∷ 0 ∷ [])) ∷ traceOf (block 1 2 (0 ∷ 0 ∷ 0 ∷ 0 ∷ [])) ∷ entryOf x 1 0 ∷ entryOf x 2 0 ∷ entryOf x 0 2 ∷ []
-    ≡ Of (record { re = Ieee.ofBits binary64 0x3ff8_0000_0000_0000; im = Ieee.ofBits binary64 0x4000_0000_0000_0000 }) ∷ Of (record { re = inf false; im = plusZero }) ∷ NoValue (by 3)
-    ∷ Of (record { re = plusZero; im = Ieee.neg one }) ∷ NoValue (by 12) ∷ NoValue (by 12) ∷ []
-unfolding traceOf entryOf valued blockChecks notEmpty withinBlock fitting finiteEntries orbitalBelow ask askAll _then_ trace sumFrom fold cadd finite Ieee.ofBits Ieee.add Ieee.neg
+-- the trace 1.5+2i; the largest twice, in either part, is 10 (document 02, L10); 3 of a block that is not square; 7, not 10, of an infinite entry; entries, and 12 outside
+values : traceOf x ∷ traceOf (block 2 2 (most ∷ 0 ∷ 0 ∷ 0 ∷ 0 ∷ 0 ∷ most ∷ 0 ∷ [])) ∷ traceOf (block 2 2 (0 ∷ most ∷ 0 ∷ 0 ∷ 0 ∷ 0 ∷ 0 ∷ most ∷ []))
+    ∷ traceOf (block 1 2 (0 ∷ 0 ∷ 0 ∷ 0 ∷ [])) ∷ traceOf (record { rows = 1; columns = 1; values = inf false ∷ plusZero ∷ [] }) ∷ entryOf x 1 0 ∷ entryOf x 2 0 ∷ entryOf x 0 2 ∷ []
+    ≡ Of (record { re = Ieee.ofBits binary64 0x3ff8_0000_0000_0000; im = Ieee.ofBits binary64 0x4000_0000_0000_0000 }) ∷ NoValue (by 10) ∷ NoValue (by 10)
+    ∷ NoValue (by 3) ∷ NoValue (record { number = 7; operand = 0; first = 0; second = 0; part = plusZero }) ∷ Of (record { re = plusZero; im = Ieee.neg one }) ∷ NoValue (by 12) ∷ NoValue (by 12) ∷ []
+unfolding traceOf entryOf valued blockChecks notEmpty withinBlock fitting finiteEntries finiteWork orbitalBelow ask askAll _then_ trace sumFrom fold cadd cfinite finite Ieee.ofBits Ieee.add Ieee.neg
 values = refl
 
 -- x − y has the entries -1+2i, 3-i, -1-2i, 1.5: the largest norm is that of 3-i

@@ -4,11 +4,12 @@ mod fill;
 mod measure;
 
 ghost use Rattle.lists.specs.Prelude.{_≡_, true, false, _++_, _-_, _≤_, length, replicate};
-ghost use Rattle.complex.specs.Arithmetic.{plusZero};
+ghost use Rattle.complex.specs.Arithmetic.{plusZero, cfinite};
 ghost use Rattle.refusal.specs.Verdict.{decide};
+ghost use Rattle.refusal.specs.Checks.{finiteWork};
 ghost use Rattle.matrix.specs.Dense.{noBlock};
 ghost use Rattle.matrix.specs.Made.{madeIn, answerOf, combinedOf, alikeOf};
-ghost use Rattle.matrix.specs.Calls.{shapeOf, fromNumbers, fromScalar, zeroOf, identityOf, adjointOf, productOf, scaleOf, addOf, subtractOf, traceOf, entryOf, maxDifferenceOf, isHermitian};
+ghost use Rattle.matrix.specs.Calls.{valued, shapeOf, fromNumbers, fromScalar, zeroOf, identityOf, adjointOf, productOf, scaleOf, addOf, subtractOf, traceOf, entryOf, maxDifferenceOf, isHermitian};
 use complex::Complex;
 use fill::Operation;
 use refusal::Decision;
@@ -16,6 +17,7 @@ use refusal::Measured;
 use refusal::Refusal;
 use refusal::Verdict;
 use refusal::checks::finite_entries;
+use refusal::checks::finite_work;
 use refusal::checks::orbital_below;
 use refusal::checks::valid_tolerance;
 
@@ -85,6 +87,17 @@ fn answer(
             }
         }
         Verdict::Refused(r) => refused(r),
+    }
+}
+
+// A number that is made: finite, or 10.
+fn finite_value(z: Complex) -> Value
+    ensures { λ r. ⌜ r ≡ valued (finiteWork (cfinite z)) z ⌝ }
+{
+    let verdict = finite_work(z.is_finite());
+    match verdict {
+        Verdict::Pass => Value::Of(z),
+        Verdict::Refused(r) => Value::Refused(r),
     }
 }
 
@@ -277,7 +290,7 @@ impl DenseMatrix {
         alike(Operation::Subtract, self, other)
     }
 
-    // The sum of the diagonal, which is not checked and may be infinite.
+    // The sum of the diagonal: finite, or 10.
     pub fn trace(self) -> Value
         ensures { λ r. ⌜ r ≡ traceOf self ⌝ }
     {
@@ -287,7 +300,7 @@ impl DenseMatrix {
         let a: &[f64] = &values;
         let verdict = checks::check_block(rows == columns, rows, columns, a);
         match verdict {
-            Verdict::Pass => Value::Of(measure::diagonal(a, columns)),
+            Verdict::Pass => finite_value(measure::diagonal(a, columns)),
             Verdict::Refused(r) => Value::Refused(r),
         }
     }

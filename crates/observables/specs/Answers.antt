@@ -1,6 +1,7 @@
 -- What a call answers where a question refuses, and where all pass. Assumes nothing.
 use Rattle.lists.specs.Prelude.{_≡_, refl, sym, ap, _∙_, List, ℕ, Float}
 use Rattle.complex.specs.declared.Complex.{Complex}
+use Rattle.complex.specs.Arithmetic.{cfinite}
 use Rattle.refusal.specs.declared.Refusal.{Refusal}
 use Rattle.refusal.specs.declared.Verdict.{Verdict}
 use Rattle.refusal.specs.declared.Verdict.the-variants.{Pass, Refused}
@@ -11,7 +12,7 @@ use Rattle.matrix.specs.declared.DenseMatrix.{DenseMatrix}
 use Rattle.matrix.specs.declared.Checked.{Checked}
 use Rattle.block.specs.Block.{Entries, entriesIn}
 use Rattle.matrix.specs.Dense.{entriesOf, noBlock, checked}
-use Rattle.block.specs.Operations.{product, trace, allFinite}
+use Rattle.block.specs.Operations.{product, trace, finiteTrace, allFinite}
 use Rattle.observables.specs.declared.Observed.{Observed}
 use Rattle.observables.specs.declared.Observed.the-variants.{Number}
 use Rattle.observables.specs.Density.{densityOf, productOf}
@@ -40,9 +41,9 @@ pub observed-no : {v : Verdict} {r : Refusal} (x y : Float) → v ≡ Refused r 
 unfolding observed
 observed-no x y p = rw p
 
--- 14, then the real part
+-- 10 and 14 of a trace, then its real part
 abbrev pub realObserved : Float → Complex → Observed
-realObserved tolerance z = observed (realWithin tolerance (z .im)) (z .re)
+realObserved tolerance z = observed (finiteWork (cfinite z) then realWithin tolerance (z .im)) (z .re)
 
 -- 8 and 11 after the checks of what is read
 abbrev pub withArguments : Float → ℕ → ℕ → Verdict → Verdict
@@ -63,7 +64,7 @@ module _ (a b c w : Verdict) {v : Verdict} (asked : v ≡ (a then b then c)) whe
 module _ (points orbitals : ℕ) (lesser : List Float) (time : ℕ) (tolerance : Float) where
   -- the questions in their order
   number-order : (z : Complex) → trace orbitals (densityOf points orbitals lesser time) ≡ z
-      → observed (lesserChecks points orbitals lesser then validTolerance tolerance then timeBelow time points then realWithin tolerance (z .im)) (z .re)
+      → observed (lesserChecks points orbitals lesser then validTolerance tolerance then timeBelow time points then finiteWork (cfinite z) then realWithin tolerance (z .im)) (z .re)
       ≡ particleNumber points orbitals lesser time tolerance
   unfolding particleNumber
   number-order z e = rw e
@@ -78,7 +79,7 @@ module _ (points orbitals : ℕ) (lesser : List Float) (time : ℕ) (tolerance :
 -- the trace of the product by a matrix
 module _ (points orbitals : ℕ) (lesser : List Float) (time : ℕ) (x : DenseMatrix) (tolerance : Float) where
   abbrev asks : Entries → Verdict
-  asks f = finiteWork (allFinite orbitals orbitals f) then realWithin tolerance (trace orbitals f .im)
+  asks f = finiteWork (allFinite orbitals orbitals f) then finiteWork (finiteTrace orbitals f) then realWithin tolerance (trace orbitals f .im)
 
   -- the questions in their order
   product-order : (o rho : Entries) → entriesOf x ≡ o → densityOf points orbitals lesser time ≡ rho

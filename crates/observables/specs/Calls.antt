@@ -12,7 +12,7 @@ use Rattle.matrix.specs.declared.DenseMatrix.{DenseMatrix}
 use Rattle.matrix.specs.declared.Checked.{Checked}
 use Rattle.block.specs.Block.{Entries}
 use Rattle.matrix.specs.Dense.{entriesOf, countOf, blockOf, checked}
-use Rattle.block.specs.Operations.{product, trace, allFinite}
+use Rattle.block.specs.Operations.{product, trace, finiteTrace, allFinite}
 use Rattle.two_time.specs.Layout.{readAs, lengthOf}
 use Rattle.two_time.specs.Calls.{sizeChecks, operandChecks}
 use Rattle.observables.specs.declared.Observed.{Observed}
@@ -50,20 +50,24 @@ module _ (points orbitals : ℕ) (lesser : List Float) where
   unfoldable pub densityMatrix : ℕ → Checked
   densityMatrix time = checked (lesserChecks points orbitals lesser then timeBelow time points) (blockOf orbitals orbitals (rho time))
 
-  -- `particle_number`: 8, 11, 14. "8 comes before 11 and before 10" (document 02, L8)
+  -- `particle_number`: 8, 11, 10 (the trace), 14. "8 comes before 11 and before 10" (document 02, L8); "The trace itself shall give 10 when a part of
+  -- its sum is not finite; particle number and one-body expectation pass that on, after 11 and before 14" (L10)
   unfoldable pub particleNumber : ℕ → Float → Observed
   particleNumber time tolerance =
       let z = trace orbitals (rho time) in
-      observed (lesserChecks points orbitals lesser then validTolerance tolerance then timeBelow time points then realWithin tolerance (z .im)) (z .re)
+      observed
+      (lesserChecks points orbitals lesser then validTolerance tolerance then timeBelow time points
+      then finiteWork (finiteTrace orbitals (rho time)) then realWithin tolerance (z .im))
+      (z .re)
 
-  -- `one_body_expectation`: 8, 11, 10 (the product observable·density), 14. "8 comes before 11 and before 10" (document 02, L8)
+  -- `one_body_expectation`: 8, 11, 10 (the product observable·density), 10 (its trace), 14, by the same two requests
   unfoldable pub oneBodyExpectation : ℕ → DenseMatrix → Float → Observed
   oneBodyExpectation time x tolerance =
       let made = product orbitals (entriesOf x) (rho time) in
       let z = trace orbitals made in
       observed
       (lesserBlockChecks points orbitals lesser x then validTolerance tolerance then timeBelow time points
-      then finiteWork (allFinite orbitals orbitals made) then realWithin tolerance (z .im))
+      then finiteWork (allFinite orbitals orbitals made) then finiteWork (finiteTrace orbitals made) then realWithin tolerance (z .im))
       (z .re)
 
   -- "`bond_flow_into`: 13, 12, 11; then (2·charge)·Im(hopping·rho_ba)."

@@ -1,4 +1,5 @@
--- Closed cases of the observables: P10 of document 01, the run with two orbitals (reference/expected.py, case d), and each refusal.
+-- Closed cases of the observables: P10 of document 01, traces that are not finite, the run with two orbitals (reference/expected.py, case d), and each
+-- refusal.
 use Rattle.lists.specs.Prelude.{_≡_, refl, List, [], _∷_, _++_, map, ℕ, replicate, take, Float, nan, binary64, toBits}
 use lib.Ieee as Ieee
 use Rattle.lists.specs.Indexed.{fold, join, allBelow}
@@ -33,7 +34,7 @@ p10 : particleNumber 2 1 (lesser 0xbfe0_0000_0000_0000 0x4000_0000_0000_0000) 0 
     ∷ particleNumber 2 1 (lesser 0xbfe8_0000_0000_0000 0x4000_0000_0000_0000) 0 (f 0x3fe0_0000_0000_0000)
     ∷ particleNumber 2 1 (lesser 0 0) 1 one ∷ []
     ≡ Number (f 0x4000_0000_0000_0000) ∷ NotReal (f 0x3fe8_0000_0000_0000) ∷ Number one ∷ []
-unfolding particleNumber observed lesserChecks sizeChecks allLong operandChecks largeEnough withinLimits fitting finiteEntries validTolerance timeBelow realWithin ask askAll _then_ trace sumFrom fold density size cadd cmul finite Ieee.ofBits Ieee.add Ieee.sub Ieee.mul Ieee.neg Ieee.lt
+unfolding particleNumber observed lesserChecks sizeChecks allLong operandChecks largeEnough withinLimits fitting finiteEntries validTolerance timeBelow finiteWork realWithin ask askAll _then_ trace sumFrom fold density size cadd cmul cfinite finite Ieee.ofBits Ieee.add Ieee.sub Ieee.mul Ieee.neg Ieee.lt
 p10 = refl
 
 -- the density of G^<(0,0) = 3 + 2i is 2 − 3i, and +0 follows the entry
@@ -46,8 +47,42 @@ densities = refl
 refused : particleNumber 2 1 (lesser 0 0) 2 plusZero ∷ particleNumber 2 1 (lesser 0 0) 1 plusZero ∷ particleNumber 2 1 (lesser 0 0) 2 one ∷ particleNumber 2 1 (one ∷ []) 2 plusZero
     ∷ particleNumber 2 1 (plusZero ∷ plusZero ∷ plusZero ∷ nan ∷ replicate 4 one) 2 plusZero ∷ particleNumber 1 1 [] 2 plusZero ∷ []
     ≡ NotObserved (by 8) ∷ NotObserved (by 8) ∷ NotObserved (by 11) ∷ NotObserved (by 3) ∷ NotObserved (record { number = 7; operand = 0; first = 3; second = 0; part = plusZero }) ∷ NotObserved (by 1) ∷ []
-unfolding particleNumber observed lesserChecks sizeChecks allLong operandChecks largeEnough withinLimits fitting finiteEntries validTolerance timeBelow realWithin ask askAll _then_ trace sumFrom fold density size cadd cmul finite Ieee.ofBits Ieee.add Ieee.sub Ieee.mul Ieee.neg Ieee.lt
+unfolding particleNumber observed lesserChecks sizeChecks allLong operandChecks largeEnough withinLimits fitting finiteEntries validTolerance timeBelow finiteWork realWithin ask askAll _then_ trace sumFrom fold density size cadd cmul cfinite finite Ieee.ofBits Ieee.add Ieee.sub Ieee.mul Ieee.neg Ieee.lt
 refused = refl
+
+-- ---- traces that are not finite (document 02, L10)
+
+-- the largest number, and G^<(0,0) of two points with this diagonal: two orbitals, and three whose entries are i times a number
+abbrev most : ℕ
+most = 0x7fef_ffff_ffff_ffff
+
+abbrev two : ℕ → ℕ → ℕ → ℕ → List Float
+two a a' b b' = floats (a ∷ a' ∷ 0 ∷ 0 ∷ 0 ∷ 0 ∷ b ∷ b' ∷ replicate 24 0)
+
+abbrev three : ℕ → ℕ → ℕ → List Float
+three a b c = floats (0 ∷ a ∷ 0 ∷ 0 ∷ 0 ∷ 0 ∷ 0 ∷ 0 ∷ 0 ∷ b ∷ 0 ∷ 0 ∷ 0 ∷ 0 ∷ 0 ∷ 0 ∷ 0 ∷ c ∷ replicate 54 0)
+
+abbrev half : Float
+half = f 0x3fe0_0000_0000_0000
+
+-- the trace of the density is the largest number; then infinite in its real part, in its imaginary part, and in its real part beside an imaginary
+-- part of 1, which 14 would refuse; the largest twice and then back, whose sum stays infinite. 8 and 11 come before.
+infinite-numbers : particleNumber 2 2 (two 0 most 0 0) 0 half ∷ particleNumber 2 2 (two 0 most 0 most) 0 half ∷ particleNumber 2 2 (two most 0 most 0) 0 half
+    ∷ particleNumber 2 2 (two 0 most 0xbff0_0000_0000_0000 most) 0 half ∷ particleNumber 2 3 (three most most 0xffef_ffff_ffff_ffff) 0 half
+    ∷ particleNumber 2 2 (two 0 most 0 most) 0 plusZero ∷ particleNumber 2 2 (two 0 most 0 most) 2 half ∷ []
+    ≡ Number (f most) ∷ NotObserved (by 10) ∷ NotObserved (by 10) ∷ NotObserved (by 10) ∷ NotObserved (by 10) ∷ NotObserved (by 8) ∷ NotObserved (by 11) ∷ []
+unfolding particleNumber observed lesserChecks sizeChecks allLong operandChecks largeEnough withinLimits fitting finiteEntries validTolerance timeBelow finiteWork realWithin ask askAll _then_ trace sumFrom fold density size cadd cmul cfinite finite Ieee.ofBits Ieee.add Ieee.sub Ieee.mul Ieee.neg Ieee.lt
+infinite-numbers = refl
+
+-- the same of the product by the identity, whose entries are finite
+abbrev unit : DenseMatrix
+unit = record { rows = 2; columns = 2; values = one ∷ plusZero ∷ plusZero ∷ plusZero ∷ plusZero ∷ plusZero ∷ one ∷ plusZero ∷ [] }
+
+infinite-expectations : oneBodyExpectation 2 2 (two 0 most 0 0) 0 unit half ∷ oneBodyExpectation 2 2 (two 0 most 0 most) 0 unit half ∷ oneBodyExpectation 2 2 (two most 0 most 0) 0 unit half
+    ∷ oneBodyExpectation 2 2 (two 0 most 0xbff0_0000_0000_0000 most) 0 unit half ∷ oneBodyExpectation 2 2 (two 0 most 0 most) 0 unit plusZero ∷ oneBodyExpectation 2 2 (two 0 most 0 most) 2 unit half ∷ []
+    ≡ Number (f most) ∷ NotObserved (by 10) ∷ NotObserved (by 10) ∷ NotObserved (by 10) ∷ NotObserved (by 8) ∷ NotObserved (by 11) ∷ []
+unfolding oneBodyExpectation observed lesserBlockChecks largeEnough notEmpty withinLimits withinBlock fitting finiteEntries validTolerance finiteWork timeBelow realWithin ask askAll _then_ product trace allFinite allBelow sumFrom fold density size cadd cmul cfinite finite Ieee.ofBits Ieee.add Ieee.sub Ieee.mul Ieee.neg Ieee.lt
+infinite-expectations = refl
 
 -- ---- the run with two orbitals
 
@@ -63,13 +98,13 @@ x = record { rows = 2; columns = 2; values = floats (0x3ff0_0000_0000_0000 ∷ 0
 
 numbers : particleNumber 3 2 run 0 million ∷ particleNumber 3 2 run 1 million ∷ particleNumber 3 2 run 2 million ∷ particleNumber 3 2 run 2 one ∷ []
     ≡ Number plusZero ∷ Number (f 0x404c_4fb2_0000_0000) ∷ Number (f 0x40f3_15de_39de_0000) ∷ NotReal (f 0xc0d7_37dd_88fc_0000) ∷ []
-unfolding particleNumber observed lesserChecks sizeChecks allLong operandChecks largeEnough withinLimits fitting finiteEntries validTolerance timeBelow realWithin ask askAll _then_ trace sumFrom fold density size cadd cmul finite Ieee.ofBits Ieee.add Ieee.sub Ieee.mul Ieee.neg Ieee.lt
+unfolding particleNumber observed lesserChecks sizeChecks allLong operandChecks largeEnough withinLimits fitting finiteEntries validTolerance timeBelow finiteWork realWithin ask askAll _then_ trace sumFrom fold density size cadd cmul cfinite finite Ieee.ofBits Ieee.add Ieee.sub Ieee.mul Ieee.neg Ieee.lt
 numbers = refl
 
 -- the expectation; 3 of a block that is not n by n, after 2 of one with 17 rows; 7 of operand 1; 10 of the product before 8
 -- both parts of each entry the largest, so that the product overflows
 abbrev large : DenseMatrix
-large = record { rows = 2; columns = 2; values = replicate 8 (f 0x7fef_ffff_ffff_ffff) }
+large = record { rows = 2; columns = 2; values = replicate 8 (f most) }
 
 -- the number; 3, 2, 7 with its place, 10, 11; then 8 before 10 and before 11 (document 02, L8)
 expectations : oneBodyExpectation 3 2 run 2 x million

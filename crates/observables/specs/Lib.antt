@@ -2,7 +2,7 @@
 -- Behind the contracts: the density matrix; the checks and the outcome of each call.
 pub mod Density
 pub mod Calls
--- Closed cases: P10, the run with two orbitals, and each refusal.
+-- Closed cases: P10, traces that are not finite, the run with two orbitals, and each refusal.
 pub mod Cases
 -- Laws: what passed checks say of a lesser function; its checks, and a block's, as the code joins them; what is answered where a check
 -- refuses, and where all pass.

@@ -24,7 +24,7 @@ use refusal::checks::time_below;
 
 // An observable's answer (document 01, "How to write each place").
 pub enum Observed {
-    // The number, which may be infinite or a NaN.
+    // The number; a bond flow may be infinite or a NaN.
     Number(f64),
     // Number 14: the imaginary part, whose size is above the tolerance.
     NotReal(f64),
@@ -53,7 +53,7 @@ pub fn density_matrix(lesser: &[f64], points: usize, orbitals: usize, time_index
     }
 }
 
-// Tr rho, which is to be real within the tolerance.
+// Tr rho, which is to be finite, and real within the tolerance.
 pub fn particle_number(
     lesser: &[f64],
     points: usize,
@@ -74,7 +74,7 @@ pub fn particle_number(
     )
 }
 
-// Tr[O rho] of a one-body matrix O, which is to be real within the tolerance: n³ products O_ak·rho_kb for check 10, n² for the trace.
+// Tr[O rho] of a one-body matrix O, which is to be finite, and real within the tolerance: n³ products O_ak·rho_kb for check 10, n² for the trace.
 pub fn one_body_expectation(
     lesser: &[f64],
     points: usize,

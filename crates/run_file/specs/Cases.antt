@@ -1,13 +1,18 @@
--- Closed cases of the run file: where 15 stands in the order, and the text of numbers.
+-- Closed cases of the run file: where 15 stands in the order, the text of numbers, and a time whose number is not finite.
 use Rattle.lists.specs.Prelude.{_≡_, refl, true, false, List, [], _∷_, _++_, ℕ, replicate, inf, binary64, toBits}
 use lib.Ieee as Ieee
 use Rattle.refusal.specs.Verdict.{by, ask, _then_, numberOf}
 use Rattle.refusal.specs.Checks.{largeEnough, withinProgram, wellFormed}
+use Rattle.two_time.specs.Computation.{checks}
+use Rattle.two_time.specs.Example.{floats}
+use Rattle.dyson.specs.Calls.{defaultTolerance}
 use Rattle.observables.specs.declared.Observed.the-variants.{Number, NotReal, Refused as NotObserved}
+use Rattle.observables.specs.Density.{density}
+use Rattle.observables.specs.Calls.{observed, lesserChecks, particleNumber}
 use Rattle.run_file.specs.Bytes.{littleEndian, number}
 use Rattle.run_file.specs.File.{tableFits, fileChecks}
 use Rattle.run_file.specs.Text.{decimalIn, decimal, hexDigit, hexadecimal, line, timeLine}
-use Rattle.run_file.specs.Program.{fileText, printed}
+use Rattle.run_file.specs.Program.{runText, fileText, printed}
 use Rattle.run_file.specs.P12.{words, file}
 
 -- the file's own answer for ten words and `rest` bytes more
@@ -34,10 +39,17 @@ decoded : toBits binary64 (number 0 (0 ∷ 0 ∷ 0 ∷ 0 ∷ 0 ∷ 0 ∷ 0xf8 �
 unfolding littleEndian toBits Ieee.ofBits
 decoded = refl
 
--- decimal digits; "15 number 7FF0000000000000", "2 refused 14", "3 refused 8"
-texts : decimal 0 ∷ decimal 10 ∷ decimal 256 ∷ timeLine 15 (Number (inf false)) ∷ timeLine 2 (NotReal (inf true)) ∷ timeLine 3 (NotObserved (by 8)) ∷ []
+-- decimal digits; "15 number 7FEFFFFFFFFFFFFF", "2 refused 14", "3 refused 8"
+texts : decimal 0 ∷ decimal 10 ∷ decimal 256 ∷ timeLine 15 (Number (Ieee.ofBits binary64 0x7fef_ffff_ffff_ffff)) ∷ timeLine 2 (NotReal (inf true)) ∷ timeLine 3 (NotObserved (by 8)) ∷ []
     ≡ (48 ∷ []) ∷ (49 ∷ 48 ∷ []) ∷ (50 ∷ 53 ∷ 54 ∷ [])
-    ∷ (49 ∷ 53 ∷ 32 ∷ 110 ∷ 117 ∷ 109 ∷ 98 ∷ 101 ∷ 114 ∷ 32 ∷ 55 ∷ 70 ∷ 70 ∷ 48 ∷ 48 ∷ 48 ∷ 48 ∷ 48 ∷ 48 ∷ 48 ∷ 48 ∷ 48 ∷ 48 ∷ 48 ∷ 48 ∷ 48 ∷ 10 ∷ [])
+    ∷ (49 ∷ 53 ∷ 32 ∷ 110 ∷ 117 ∷ 109 ∷ 98 ∷ 101 ∷ 114 ∷ 32 ∷ 55 ∷ 70 ∷ 69 ∷ 70 ∷ 70 ∷ 70 ∷ 70 ∷ 70 ∷ 70 ∷ 70 ∷ 70 ∷ 70 ∷ 70 ∷ 70 ∷ 70 ∷ 70 ∷ 10 ∷ [])
     ∷ (50 ∷ 32 ∷ 114 ∷ 101 ∷ 102 ∷ 117 ∷ 115 ∷ 101 ∷ 100 ∷ 32 ∷ 49 ∷ 52 ∷ 10 ∷ []) ∷ (51 ∷ 32 ∷ 114 ∷ 101 ∷ 102 ∷ 117 ∷ 115 ∷ 101 ∷ 100 ∷ 32 ∷ 56 ∷ 10 ∷ []) ∷ []
-unfolding timeLine line decimal decimalIn hexadecimal hexDigit toBits
+unfolding timeLine line decimal decimalIn hexadecimal hexDigit toBits Ieee.ofBits
 texts = refl
+
+-- G^<(0,0) = i·largest on its diagonal, whose trace is not finite (document 02, L10): "run 2 2", "0 refused 10", "1 number 0000000000000000"
+infinite : runText 2 2 defaultTolerance (floats (0 ∷ 0x7fef_ffff_ffff_ffff ∷ 0 ∷ 0 ∷ 0 ∷ 0 ∷ 0 ∷ 0x7fef_ffff_ffff_ffff ∷ replicate 24 0))
+    ≡ (114 ∷ 117 ∷ 110 ∷ 32 ∷ 50 ∷ 32 ∷ 50 ∷ 10 ∷ []) ++ (48 ∷ 32 ∷ 114 ∷ 101 ∷ 102 ∷ 117 ∷ 115 ∷ 101 ∷ 100 ∷ 32 ∷ 49 ∷ 48 ∷ 10 ∷ [])
+    ++ (49 ∷ 32 ∷ 110 ∷ 117 ∷ 109 ∷ 98 ∷ 101 ∷ 114 ∷ 32 ∷ replicate 16 48) ++ (10 ∷ [])
+unfolding checks runText timeLine line decimal decimalIn hexadecimal hexDigit particleNumber observed lesserChecks density
+infinite = refl

@@ -4,7 +4,7 @@ pub mod Bytes
 pub mod File
 pub mod Text
 pub mod Program
--- Closed cases: P12's file and text; where 15 stands in the order, and the text of numbers.
+-- Closed cases: P12's file and text; where 15 stands in the order, the text of numbers, and a time whose number is not finite.
 pub mod P12
 pub mod Cases
 -- Laws: a number read byte by byte; the table, and the sizes of a file that passes; text written word by word, digit by digit and line by line;

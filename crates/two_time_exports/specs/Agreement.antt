@@ -1,6 +1,7 @@
--- The verdict of a run, an observable and a report has document 01's number of the answer. Assumes nothing.
-use Rattle.lists.specs.Prelude.{_≡_, refl}
-use Rattle.refusal.specs.Verdict.{numberOf}
+-- The verdict of a run, an observable and a report has document 01's number of the answer, and after 10 an observable's slice holds +0. Assumes nothing.
+use Rattle.lists.specs.Prelude.{_≡_, refl, List, ℕ, length, Float}
+use Rattle.refusal.specs.declared.Verdict.the-variants.{Refused}
+use Rattle.refusal.specs.Verdict.{by, numberOf, zeroed}
 use Rattle.transient_run.specs.declared.Solved.{Solved}
 use Rattle.transient_run.specs.declared.Solved.the-variants.{Accepted, Refused as NotSolved}
 use Rattle.transient_run.specs.Calls.{solvedNumber}
@@ -10,6 +11,8 @@ use Rattle.observables.specs.Calls.{observedNumber}
 use Rattle.report.specs.declared.Reported.{Reported}
 use Rattle.report.specs.declared.Reported.the-variants.{Of, Refused as NotReported}
 use Rattle.report.specs.Calls.{reportedNumber}
+use Rattle.answers.specs.Answer.{answerOf, numbersAnswer}
+use Rattle.answers.specs.Agreement.{numbers-cleared}
 use Rattle.two_time_exports.specs.Numbers.{solvedVerdict, observedNumbers, reportNumbers}
 
 pub solved-number : (s : Solved) → numberOf (solvedVerdict s) ≡ solvedNumber s
@@ -22,6 +25,10 @@ unfolding numberOf observedNumber
 observed-number (Number x) = refl
 observed-number (NotReal part) = refl
 observed-number (NotObserved r) = refl
+
+pub observed-cleared : {o : Observed} (places : List ℕ) (part value : List Float) → o ≡ NotObserved (by 10) → length value ≡ 1
+    → numbersAnswer (observedNumbers o) value places part ≡ record { answer = answerOf (Refused (by 10)) places part; out = zeroed value }
+observed-cleared places part value e h = rw e (numbers-cleared places part (observedNumbers (NotObserved (by 10))) value refl h)
 
 pub report-number : (o : Reported) → numberOf (reportNumbers o .verdict) ≡ reportedNumber o
 unfolding numberOf reportedNumber
