@@ -1,4 +1,4 @@
--- Places that no term goes to hold +0, and a list of +0 is their blocks. Assumes nothing.
+-- Places that no term goes to hold +0. Assumes nothing.
 use Rattle.lists.specs.Prelude.{_≡_, sym, ap, _∙_, true, List, ℕ, _+_, _-_, _*_, _<_, mul-assoc, mul-comm, arith, replicate, length-replicate, getD-replicate, ext-getD}
 use Rattle.lists.specs.Prelude.{Float, eq-eqb}
 use Rattle.lists.specs.Indexed.{join}
@@ -15,20 +15,9 @@ use Rattle.two_time.specs.Sums.{termsAt, sumsOf}
 use Rattle.two_time.specs.OneTest.{partial-none, one-test}
 use Rattle.terms.specs.declared.Span.{Span}
 use Rattle.terms.specs.Spans.{Spanned}
+use Rattle.block.specs.Zero.{join-replicate, block-zero}
 use Rattle.groups.specs.PlaceSums.{sumAt, blockFinite, zero-start}
 use Rattle.groups.specs.Groups.{groupFinite, groupNumbers}
-
-pub join-replicate : (k w : ℕ) (z : Float) → join k (λ _. replicate w z) ≡ replicate (k * w) z
-join-replicate k w z =
-    ext-getD z (join k (λ _. replicate w z)) (replicate (k * w) z) (length-join k w (λ _. replicate w z) (λ i l. length-replicate w z) ∙ sym (length-replicate (k * w) z))
-    (λ i l. each-in-join (λ (x : Float). x ≡ z) k (λ _. replicate w z) z (λ m hm j hj. getD-replicate w j z z (omega (arith, length-replicate w z))) i l ∙ sym (getD-replicate (k * w) i z z (omega (arith, length-join k w (λ _. replicate w z) (λ i l. length-replicate w z)))))
-
--- a block of +0
-pub block-zero : (n : ℕ) (f : ℕ → ℕ → Complex) → ((a b : ℕ) → a < n → b < n → f a b ≡ czero) → layOut n n f ≡ replicate (2 * (n * n)) plusZero
-unfolding layOut
-block-zero n f h =
-    join-agree n _ _ (λ a ha. join-agree n _ _ (λ b hb. ap pair (h a b ha hb)) ∙ join-replicate n 2 plusZero) ∙ join-replicate n (n * 2) plusZero
-    ∙ ap (λ (k : ℕ). replicate k plusZero) (sym (mul-assoc n n 2) ∙ mul-comm (n * n) 2)
 
 -- a group that has no s
 module _ (sums : Sums) (points n : ℕ) (times left right : List Float) (t u places : ℕ) (out : List Float) (span : Span) (z : Spanned sums points t u places span) (none : span .first ≡ span .last) where

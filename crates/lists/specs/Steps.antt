@@ -26,7 +26,7 @@ unfolding allBelow
 all-none p = refl
 
 module _ {A : Type 0} where
-  join-add : (n m : ℕ) (f : ℕ → List A) → join (n + m) f ≡ join n f ++ join m (λ k. f (n + k))
+  pub join-add : (n m : ℕ) (f : ℕ → List A) → join (n + m) f ≡ join n f ++ join m (λ k. f (n + k))
   unfolding join
   join-add n zero f = rw (add-zero, append-nil)
   join-add n (suc m) f = rw (add-suc, join-add n m f, append-assoc)
@@ -51,7 +51,7 @@ and-true : (x : Bool) → x && true ≡ x
 and-true true = refl
 and-true false = refl
 
-all-add : (n m : ℕ) (f : ℕ → Bool) → allBelow (n + m) f ≡ allBelow n f && allBelow m (λ k. f (n + k))
+pub all-add : (n m : ℕ) (f : ℕ → Bool) → allBelow (n + m) f ≡ allBelow n f && allBelow m (λ k. f (n + k))
 unfolding allBelow
 all-add n zero f = rw (add-zero, and-true)
 all-add n (suc m) f = rw (add-suc, all-add n m f, and-assoc)

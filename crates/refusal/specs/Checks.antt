@@ -1,4 +1,5 @@
--- Document 01, "Questions in order": the checks 1 to 15, each a question over plain values. The answer no gives the check's number.
+-- Document 01, "Questions in order": the checks 1 to 15, and 16 of document 02, each a question over plain values. The answer no gives the check's
+-- number.
 use Rattle.lists.specs.Prelude.{ℕ, _+_, _-_, _*_, Bool, not, _&&_, List, leb, ltb, getD, Float, nan, lt}
 use Rattle.lists.specs.Indexed.{allBelow}
 use Rattle.complex.specs.declared.Complex.{Complex}
@@ -41,10 +42,13 @@ risingTimes points times =
 unfoldable pub finiteWeights : ℕ → (ℕ → Float) → Verdict
 finiteWeights points weight = ask (allBelow points (λ i. finite (weight i))) (by 6)
 
--- 7: "Are all entries finite? 7, with operand (from 0, in call order, times not counted) and number position": of the first count numbers
+-- 7: "Are all entries finite? 7, with operand (from 0, in call order, times not counted) and number position": at one position, and of the first count
+-- numbers
+abbrev pub finiteAt : ℕ → List Float → ℕ → Verdict
+finiteAt operand xs at = ask (finite (getD xs at nan)) (record { number = 7; operand = operand; first = at; second = 0; part = plusZero })
+
 unfoldable pub finiteEntries : ℕ → List Float → ℕ → Verdict
-finiteEntries operand xs count =
-    askAll count (λ i. ask (finite (getD xs i nan)) (record { number = 7; operand = operand; first = i; second = 0; part = plusZero }))
+finiteEntries operand xs count = askAll count (λ i. finiteAt operand xs i)
 
 -- 8: "Is the tolerance finite and above 0?"
 unfoldable pub validTolerance : Float → Verdict
@@ -78,3 +82,7 @@ realWithin tolerance part = ask (not (lt tolerance (size part))) (record { numbe
 -- 15: "Is the run file well formed?"
 unfoldable pub wellFormed : Bool → Verdict
 wellFormed all = ask all (by 15)
+
+-- 16, document 02, L1: "16 if the points would pass the capacity, after line 3"
+unfoldable pub withinCapacity : ℕ → ℕ → Verdict
+withinCapacity points capacity = ask (leb points capacity) (by 16)

@@ -1,12 +1,12 @@
-// The checks of document 01, "Questions in order", each a question over plain values. All are total: a number past the end
+// The checks of document 01, "Questions in order", and 16 of document 02, each a question over plain values. All are total: a number past the end
 // of a slice is a NaN to them.
 use crate::Refusal;
 use crate::Verdict;
 use complex::Complex;
-ghost use Rattle.lists.specs.Prelude.{_≡_, _-_, _+_, min, getD, nan, lt};
+ghost use Rattle.lists.specs.Prelude.{_≡_, _-_, _+_, _≤_, min, max, getD, length, nan, lt};
 ghost use Rattle.complex.specs.Arithmetic.{finite};
-ghost use Rattle.refusal.specs.Verdict.{by, ask};
-ghost use Rattle.refusal.specs.Checks.{largeEnough, notEmpty, withinLimits, withinBlock, withinProgram, fitting, finiteTimes, risingTimes, finiteEntries, validTolerance, retardedAt, finiteWork, timeBelow, orbitalBelow, finiteFactors, realWithin, wellFormed};
+ghost use Rattle.refusal.specs.Verdict.{by, ask, askAll};
+ghost use Rattle.refusal.specs.Checks.{largeEnough, notEmpty, withinLimits, withinBlock, withinProgram, fitting, finiteTimes, risingTimes, finiteAt, finiteEntries, validTolerance, retardedAt, finiteWork, timeBelow, orbitalBelow, finiteFactors, realWithin, wellFormed, withinCapacity};
 ghost use Rattle.refusal.specs.Search.{Prefix};
 
 // The answer to one question.
@@ -33,21 +33,21 @@ pub fn least(x: usize, y: usize) -> usize
     if x < y { x } else { y }
 }
 
-// x - 1, and 0 of 0.
-fn one_less(x: usize) -> usize
-    ensures { λ r. ⌜ r ≡ x - 1 ⌝ }
+// x - y, and 0 where that is below 0.
+fn less(x: usize, y: usize) -> usize
+    ensures { λ r. ⌜ r ≡ x - y ⌝ }
 {
-    if x == 0 { 0 } else { x - 1 }
+    if x < y { 0 } else { x - y }
 }
 
-// How many of the first count numbers are finite before the first that is not.
-fn finite_prefix(xs: &[f64], count: usize) -> usize
-    ensures { λ r. ⌜ Prefix (λ i. finite (getD (now (xs .entry)) i nan)) count r ⌝ }
+// How many of the count numbers from `start` on are finite before the first that is not.
+fn finite_prefix(xs: &[f64], start: usize, count: usize) -> usize
+    ensures { λ r. ⌜ (r + start ≤ max start (length (now (xs .entry)))) × Prefix (λ i. finite (getD (now (xs .entry)) (i + start) nan)) count r ⌝ }
 {
-    let end = least(count, xs.len());
+    let end = least(count, less(xs.len(), start));
     let mut i = 0;
     while i < end {
-        if !complex::is_finite(xs[i]) {
+        if !complex::is_finite(xs[i + start]) {
             return i;
         }
         i += 1;
@@ -59,7 +59,7 @@ fn finite_prefix(xs: &[f64], count: usize) -> usize
 fn rising_prefix(times: &[f64], steps: usize) -> usize
     ensures { λ r. ⌜ Prefix (λ i. lt (getD (now (times .entry)) i nan) (getD (now (times .entry)) (i + 1) nan)) steps r ⌝ }
 {
-    let end = least(steps, one_less(times.len()));
+    let end = least(steps, less(times.len(), 1));
     let mut i = 0;
     while i < end {
         if !(times[i] < times[i + 1]) {
@@ -119,14 +119,14 @@ pub fn fitting(all: bool) -> Verdict
 pub fn finite_times(points: usize, times: &[f64]) -> Verdict
     ensures { λ r. ⌜ r ≡ finiteTimes points (now (times .entry)) ⌝ }
 {
-    numbered(finite_prefix(times, points) == points, 4)
+    numbered(finite_prefix(times, 0, points) == points, 4)
 }
 
 // 5: each time exceeds the one before; with the first index that does not.
 pub fn rising_times(points: usize, times: &[f64]) -> Verdict
     ensures { λ r. ⌜ r ≡ risingTimes points (now (times .entry)) ⌝ }
 {
-    let steps = one_less(points);
+    let steps = less(points, 1);
     let risen = rising_prefix(times, steps);
     let refusal = Refusal {
         number: 5,
@@ -142,15 +142,22 @@ pub fn rising_times(points: usize, times: &[f64]) -> Verdict
 pub fn finite_entries(operand: usize, xs: &[f64], count: usize) -> Verdict
     ensures { λ r. ⌜ r ≡ finiteEntries operand (now (xs .entry)) count ⌝ }
 {
-    let first = finite_prefix(xs, count);
+    entries_from(operand, xs, 0, count)
+}
+
+// The same of the count numbers from `start` on.
+pub fn entries_from(operand: usize, xs: &[f64], start: usize, count: usize) -> Verdict
+    ensures { λ r. ⌜ r ≡ askAll count (λ i. finiteAt operand (now (xs .entry)) (i + start)) ⌝ }
+{
+    let passed = finite_prefix(xs, start, count);
     let refusal = Refusal {
         number: 7,
         operand,
-        first,
+        first: passed + start,
         second: 0,
         part: 0.0,
     };
-    asked(first == count, refusal)
+    asked(passed == count, refusal)
 }
 
 // 8: the tolerance is finite and above 0.
@@ -227,4 +234,11 @@ pub fn well_formed(all: bool) -> Verdict
     ensures { λ r. ⌜ r ≡ wellFormed all ⌝ }
 {
     numbered(all, 15)
+}
+
+// 16: the points are within the capacity.
+pub fn within_capacity(points: usize, capacity: usize) -> Verdict
+    ensures { λ r. ⌜ r ≡ withinCapacity points capacity ⌝ }
+{
+    numbered(points <= capacity, 16)
 }

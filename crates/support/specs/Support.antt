@@ -9,7 +9,7 @@ use Rattle.refusal.specs.declared.Verdict.the-variants.{Pass}
 use Rattle.refusal.specs.Verdict.{_then_, askAll}
 use Rattle.refusal.specs.Checks.{validTolerance, retardedAt}
 use Rattle.two_time.specs.Layout.{TwoTime, readAs}
-use Rattle.two_time.specs.Calls.{sizeChecks, operandChecks}
+use Rattle.two_time.specs.Calls.{sizeChecks, operandChecks, capacityChecks}
 
 unfoldable pub scaleOf : ℕ → ℕ → TwoTime → Float
 scaleOf points orbitals x = larger (largestIn points points (λ t u. matrixNormMax orbitals orbitals (x t u))) (ofBits binary64 0x0010_0000_0000_0000)
@@ -34,7 +34,8 @@ unfoldable pub supportChecks : ℕ → ℕ → Float → TwoTime → TwoTime →
 supportChecks points orbitals tolerance free selfEnergy =
     validTolerance tolerance then retarded points orbitals 0 tolerance free then retarded points orbitals 1 tolerance selfEnergy
 
--- `check_retarded_inputs`: checks 1 to 3, 8 and 9 of free, operand 0, and the self-energy, operand 1
-unfoldable pub checkInputs : ℕ → ℕ → List Float → List Float → Float → Verdict
-checkInputs points orbitals free selfEnergy tolerance =
-    sizeChecks points orbitals true (free ∷ selfEnergy ∷ []) then supportChecks points orbitals tolerance (readAs points orbitals free) (readAs points orbitals selfEnergy)
+-- `check_retarded_inputs`: checks 1 to 3 and 16, 8, and 9 of free, operand 0, and the self-energy, operand 1, in slices laid out for a capacity
+unfoldable pub checkInputs : ℕ → ℕ → ℕ → List Float → List Float → Float → Verdict
+checkInputs capacity points orbitals free selfEnergy tolerance =
+    capacityChecks capacity points orbitals true (free ∷ selfEnergy ∷ [])
+    then supportChecks points orbitals tolerance (readAs capacity orbitals free) (readAs capacity orbitals selfEnergy)

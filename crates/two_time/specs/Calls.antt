@@ -1,9 +1,9 @@
--- Document 01: checks 1 to 7 as every call on two-time functions asks them.
-use Rattle.lists.specs.Prelude.{ℕ, suc, Bool, true, _&&_, List, [], _∷_, _++_, eqb, leb, length, Float}
+-- Document 01: checks 1 to 7 as every call on two-time functions asks them; document 02, L1: the same in slices laid out for a capacity.
+use Rattle.lists.specs.Prelude.{ℕ, suc, _+_, _*_, Bool, true, _&&_, List, [], _∷_, _++_, eqb, leb, length, Float}
 use Rattle.refusal.specs.declared.Verdict.{Verdict}
 use Rattle.refusal.specs.declared.Verdict.the-variants.{Pass}
-use Rattle.refusal.specs.Verdict.{_then_}
-use Rattle.refusal.specs.Checks.{largeEnough, withinLimits, fitting, finiteEntries}
+use Rattle.refusal.specs.Verdict.{_then_, askAll}
+use Rattle.refusal.specs.Checks.{largeEnough, withinLimits, fitting, finiteAt, finiteEntries, withinCapacity}
 use Rattle.grid.specs.Calls.{gridChecks}
 use Rattle.two_time.specs.Layout.{lengthOf}
 
@@ -30,3 +30,24 @@ operandChecks k (xs ∷ rest) = finiteEntries k xs (length xs) then operandCheck
 unfoldable pub inputChecks : ℕ → ℕ → List Float → List (List Float) → List (List Float) → Verdict
 inputChecks points orbitals times operands lent =
     sizeChecks points orbitals (eqb (length times) points) (operands ++ lent) then gridChecks points times then operandChecks 0 operands
+
+-- ---- in slices laid out for a capacity
+
+-- checks 1, 2, 3 and 16. "Line 1 counts the new point too, lines 2 and 3 read the capacity as N", "16 if the points would pass the capacity, after line 3"
+unfoldable pub capacityChecks : ℕ → ℕ → ℕ → Bool → List (List Float) → Verdict
+capacityChecks capacity points orbitals fits slices =
+    largeEnough points orbitals then withinLimits capacity orbitals then fitting (fits && allLong (lengthOf capacity orbitals) slices) then withinCapacity points capacity
+
+-- check 7 of the entries with both indices below the points; "line 7's position is that in the lent slice"
+unfoldable pub pointEntries : ℕ → ℕ → ℕ → ℕ → List Float → Verdict
+pointEntries capacity points orbitals operand xs =
+    let block = 2 * (orbitals * orbitals) in askAll points (λ t. askAll (points * block) (λ i. finiteAt operand xs (i + t * (capacity * block))))
+
+-- the operands from number k on
+unfoldable pub pointOperands : ℕ → ℕ → ℕ → ℕ → List (List Float) → Verdict
+pointOperands capacity points orbitals k [] = Pass
+pointOperands capacity points orbitals k (xs ∷ rest) = pointEntries capacity points orbitals k xs then pointOperands capacity points orbitals (suc k) rest
+
+-- checks 1, 2, 3, 16 and 7 of one function
+unfoldable pub pointChecks : ℕ → ℕ → ℕ → ℕ → List Float → Verdict
+pointChecks capacity points orbitals operand xs = capacityChecks capacity points orbitals true (xs ∷ []) then pointEntries capacity points orbitals operand xs

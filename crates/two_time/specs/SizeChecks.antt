@@ -15,7 +15,7 @@ orders : (a b c d : ℕ) → leb a b && leb c d ≡ true → (a ≤ b) × (c ≤
 orders a b c d e = let tests = both (leb a b) (leb c d) e in (leb-true a b (tests .0), leb-true c d (tests .1))
 
 module _ (points orbitals : ℕ) where
-  large : largeEnough points orbitals ≡ Pass → (2 ≤ points) × (1 ≤ orbitals)
+  pub large : largeEnough points orbitals ≡ Pass → (2 ≤ points) × (1 ≤ orbitals)
   unfolding largeEnough
   large e = orders 2 points 1 orbitals (ask-pass (leb 2 points && leb 1 orbitals) (by 1) e)
 
@@ -75,6 +75,13 @@ module _ (points orbitals : ℕ) where
   unfolding allFit
   fits-one xs =
       and-agree _ _ _ (λ h. let most = orders points 256 orbitals 16 h in rw (min-eq-left (most .0), min-eq-left (most .1)) (sym (long-one (lengthOf points orbitals) xs)))
+
+  pub fit-said : (xs : List Float) → allFit points orbitals (xs ∷ []) ≡ true → (points ≤ 256) × (orbitals ≤ 16) × (length xs ≡ lengthOf points orbitals)
+  unfolding allFit
+  fit-said xs e =
+      let tests = both (leb points 256 && leb orbitals 16) _ e in
+      let most = orders points 256 orbitals 16 (tests .0) in
+      (most .0, most .1, long-first (lengthOf points orbitals) xs [] (tests .1) .0)
 
   -- the test of one slice and that of others are the test of all
   pub fits-more : (xs : List Float) (rest : List (List Float)) (b all : Bool) → b ≡ allFit points orbitals (xs ∷ []) → all ≡ allFit points orbitals rest → b && all ≡ allFit points orbitals (xs ∷ rest)

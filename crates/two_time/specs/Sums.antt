@@ -6,6 +6,7 @@ use Rattle.grid.specs.Weights.{fullWeight, intervalWeight}
 use Rattle.two_time.specs.declared.sums.Sums.{Sums}
 use Rattle.two_time.specs.declared.sums.Sums.the-variants.{Full, Causal, LesserAdvanced, Lesser, AntiCausal}
 use Rattle.two_time.specs.Layout.{TwoTime, readAs, layOutAll, everywhere}
+use Rattle.two_time.specs.New.{written, everyNew}
 use Rattle.two_time.specs.WeightedSum.{Terms, weightedSum, finiteSum}
 
 -- How many terms the sum over an interval has: none where it ends before it starts. Document 02, L2: "Form no product where an interval has one point
@@ -50,3 +51,11 @@ module _ (sums : Sums) (points orbitals : ℕ) (times left right : List Float) w
 
   unfoldable pub sumsFinite : Bool
   sumsFinite = sumsOfFinite sums points orbitals times (readAs points orbitals left) (readAs points orbitals right)
+
+-- the same at the new places, in slices laid out for a capacity
+module _ (sums : Sums) (capacity orbitals old points : ℕ) (times left right : List Float) where
+  unfoldable pub newNumbers : List Float → List Float
+  newNumbers before = written capacity orbitals old points (sumsOf sums capacity orbitals times (readAs capacity orbitals left) (readAs capacity orbitals right)) before
+
+  unfoldable pub newFinite : Bool
+  newFinite = everyNew orbitals old points (λ t u. finiteSum orbitals (termsAt sums capacity times (readAs capacity orbitals left) (readAs capacity orbitals right) t u))

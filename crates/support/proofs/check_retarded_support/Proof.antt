@@ -1,5 +1,5 @@
 -- `support::check_retarded_support` meets its contract: it asks the checks of `checkSupport` in their order. Assumes nothing.
-use Rattle.lists.specs.Prelude.{_≡_, sym, ap₂, _∙_, [], _∷_, le-of-eq, now, needs}
+use Rattle.lists.specs.Prelude.{_≡_, sym, ap₂, _∙_, [], _∷_, le-refl, le-of-eq, now, needs}
 use Rattle.refusal.specs.Verdict.{_then_}
 use Rattle.refusal.specs.Agreement.{then-after, then-refused}
 use Rattle.support.specs.Support.{checkSupport}
@@ -43,7 +43,7 @@ check-retarded-support-spec =
     let v = c .before .before in
     let x = start v .args in
     let z = nine-sizes (x .points) (x .orbitals) (now (x .xs) ∷ []) (x .tolerance) (sym (asked v) ∙ c .enum-told .given .1) in
-    (z .points-most, z .orbitals-most, le-of-eq (sym (long-first _ _ _ (z .long) .0))))  -- retarded-requires
+    (z .points-most, z .orbitals-most, le-refl _, le-of-eq (sym (long-first _ _ _ (z .long) .0))))  -- retarded-requires
     (λ c.
     let e = c .before in
     let v = e .before .before in

@@ -11,11 +11,11 @@ use Rattle.support.proofs.retarded.Statement.{statement}
 use Rattle.support.proofs.retarded.Tie as tie
 
 abbrev Inv-loop : tie.InvT-loop
-Inv-loop operand xs points orbitals tolerance scale t₀ t =
-    (t ≤ points) × ((k : ℕ) → k < t → askAll points (retardedPlace points orbitals operand tolerance (readAs points orbitals xs) k) ≡ Pass)
+Inv-loop operand xs tolerance points capacity orbitals scale t₀ t =
+    (t ≤ points) × ((k : ℕ) → k < t → askAll points (retardedPlace points orbitals operand tolerance (readAs capacity orbitals xs) k) ≡ Pass)
 
 abbrev μ-loop : tie.MeasureT-loop
-μ-loop operand xs points orbitals tolerance scale t₀ t = points - t
+μ-loop operand xs tolerance points capacity orbitals scale t₀ t = points - t
 
 pub retarded-spec : {M : Type 1} → statement M
 unfolding retarded

@@ -13,26 +13,26 @@ use Rattle.support.proofs.row_within.Statement.{statement}
 use Rattle.support.proofs.row_within.Tie as tie
 
 abbrev Inv-loop : tie.InvT-loop
-Inv-loop operand xs points orbitals tolerance scale t count u₀ u =
-    (t < u) × (u ≤ points) × ((k : ℕ) → k < u → retardedPlace points orbitals operand tolerance (readAs points orbitals xs) t k ≡ Pass)
+Inv-loop operand xs points capacity orbitals tolerance scale t count u₀ u =
+    (t < u) × (u ≤ points) × ((k : ℕ) → k < u → retardedPlace points orbitals operand tolerance (readAs capacity orbitals xs) t k ≡ Pass)
 
 abbrev μ-loop : tie.MeasureT-loop
-μ-loop operand xs points orbitals tolerance scale t count u₀ u = points - u
+μ-loop operand xs points capacity orbitals tolerance scale t count u₀ u = points - u
 
 -- the block at place u
-at : (c : tie.In-loop Inv-loop μ-loop) → let x = c .before .before .before .args in Before (x .points) (x .orbitals) (x .t) (c .before .loop .u)
-at c = let h = c .before .before .before .pre in before (h .0 .0) (h .0 .1) (h .1 .0) (c .loop-test .taken)
+at : (c : tie.In-loop Inv-loop μ-loop) → let x = c .before .before .before .args in Before (x .capacity) (x .orbitals) (x .t) (c .before .loop .u)
+at c = let h = c .before .before .before .pre in before (h .0 .0) (h .0 .1) (let l = h .0 .2 in let m = h .1 .0 in omega arith) (let l = h .0 .2 in let m = c .loop-test .taken in omega arith)
 
 -- the answer there
 here : (c : tie.After-retarded-at Inv-loop μ-loop) → let x = c .before .before .before .before .before .args in
-    retardedPlace (x .points) (x .orbitals) (x .operand) (x .tolerance) (readAs (x .points) (x .orbitals) (x .xs .now)) (x .t) (c .before .before .before .loop .u) ≡ c .retarded-at .result
+    retardedPlace (x .points) (x .orbitals) (x .operand) (x .tolerance) (readAs (x .capacity) (x .orbitals) (x .xs .now)) (x .t) (c .before .before .before .loop .u) ≡ c .retarded-at .result
 here c =
     let f = c .before in
     let l = f .before .before in
     let s = l .before .before in
     let x = s .args in
     place-asked _ _ _ _ _ _ _ (x .scale) (f .largest-from .result) (c .retarded-at .result) (l .loop .inv .0) (s .pre .1 .1)
-    (f .largest-from .ensures ∙ block-numbers (x .points) (x .orbitals) (x .xs .now) (x .t) (l .loop .u)) (c .retarded-at .ensures)
+    (f .largest-from .ensures ∙ block-numbers (x .capacity) (x .orbitals) (x .xs .now) (x .t) (l .loop .u)) (c .retarded-at .ensures)
 
 pub row-within-spec : {M : Type 1} → statement M
 row-within-spec =
@@ -44,7 +44,7 @@ row-within-spec =
     (λ c. let b = at c in omega arith)  -- mul-first
     (λ c. let b = at c in omega arith)  -- add-first
     (λ c. let b = at c in omega arith)  -- mul-first-2
-    (λ c κs. le-trans (at c .inside) (c .before .before .before .pre .0 .2))  -- largest-from-requires
+    (λ c κs. le-trans (at c .inside) (c .before .before .before .pre .0 .3))  -- largest-from-requires
     (λ c κs. search needs)  -- retarded-at-requires
     (λ c. search needs)  -- enum-told
     (λ c. search needs)  -- enum-told-2

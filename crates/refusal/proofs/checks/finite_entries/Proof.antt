@@ -1,7 +1,7 @@
--- `refusal::checks::finite_entries` meets its contract: the search's end is the first position that is not finite. Assumes nothing.
-use Rattle.lists.specs.Prelude.{_∙_, needs}
-use Rattle.refusal.specs.Checks.{finiteEntries}
-use Rattle.refusal.specs.Search.{prefix-asked}
+-- `refusal::checks::finite_entries` meets its contract: the numbers from 0 on. Assumes nothing.
+use Rattle.lists.specs.Prelude.{ap, _∙_, add-zero, needs}
+use Rattle.refusal.specs.Verdict.{askAll}
+use Rattle.refusal.specs.Checks.{finiteAt, finiteEntries}
 use Rattle.refusal.proofs.checks.finite_entries.Statement.{statement}
 use Rattle.refusal.proofs.checks.finite_entries.Tie as tie
 
@@ -10,5 +10,5 @@ unfolding finiteEntries
 finite-entries-spec =
     tie.close
     (tie.spec
-    (λ c κs. search needs) (λ c κs. search needs)  -- finite-prefix-requires, asked-requires
-    (λ c. c .asked .ensures ∙ prefix-asked _ _ _ _ (c .before .finite-prefix .ensures)))  -- returns
+    (λ c κs. search needs)  -- entries-from-requires
+    (λ c. let x = c .before .before .args in c .entries-from .ensures ∙ ap (askAll (x .count)) (λ j i. finiteAt (x .operand) (x .xs .now) (add-zero i j))))  -- returns

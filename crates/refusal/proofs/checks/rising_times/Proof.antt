@@ -10,6 +10,6 @@ unfolding risingTimes
 rising-times-spec =
     tie.close
     (tie.spec
-    (λ c κs. search needs) (λ c κs. search needs) (λ c. search needs)  -- one-less-requires, rising-prefix-requires, add-t6
+    (λ c κs. search needs) (λ c κs. search needs) (λ c. search needs)  -- less-requires, rising-prefix-requires, add-t6
     (λ c κs. search needs)  -- asked-requires
-    (λ c. rw (← (c .before .before .one-less .ensures)) (c .asked .ensures ∙ prefix-asked _ _ _ _ (c .before .rising-prefix .ensures))))  -- returns
+    (λ c. rw (← (c .before .before .less .ensures)) (c .asked .ensures ∙ prefix-asked _ _ _ _ (c .before .rising-prefix .ensures))))  -- returns
