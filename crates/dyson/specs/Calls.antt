@@ -1,15 +1,16 @@
 -- Document 01, Dyson: the outcome of `solve_retarded`, `retarded_dyson_with_tolerance` and `retarded_dyson`.
-use Rattle.lists.specs.Prelude.{ℕ, Bool, true, _&&_, List, [], _∷_, Float, binary64, ofBits}
+use Rattle.lists.specs.Prelude.{ℕ, Bool, true, _&&_, List, [], _∷_, leb, Float, binary64, ofBits}
 use Rattle.refusal.specs.declared.Verdict.{Verdict}
 use Rattle.refusal.specs.Verdict.{_then_, zeroed, afterwards}
 use Rattle.refusal.specs.Checks.{finiteWork}
 use Rattle.two_time.specs.Layout.{readAs}
-use Rattle.two_time.specs.Sums.{sumsNumbers, sumsFinite}
+use Rattle.two_time.specs.New.{clearedNew}
+use Rattle.two_time.specs.Sums.{sumsNumbers, sumsFinite, newNumbers, newFinite}
 use Rattle.two_time.specs.declared.sums.Sums.the-variants.{Causal}
 use Rattle.two_time.specs.declared.sums.Summed.{Summed}
 use Rattle.two_time.specs.Calls.{sizeChecks, inputChecks}
-use Rattle.two_time.specs.Outcome.{summedAnswer, summedOut}
-use Rattle.dyson.specs.Retarded.{retardedNumbers, retardedFinite}
+use Rattle.two_time.specs.Outcome.{summedAnswer, summedOut, newOut}
+use Rattle.dyson.specs.Retarded.{retardedNumbers, retardedFinite, newRetarded, newRetardedFinite}
 -- "Order: 8, 9 for free, 9 for self-energy"
 unfoldable pub use Rattle.support.specs.Support.{supportChecks}
 
@@ -52,6 +53,27 @@ unfoldable pub solvedRetarded : Equation → List Float → List Float → SumsS
 solvedRetarded q retarded kernel =
     let answer = summedAnswer (sizeChecks (q .points) (q .orbitals) true (q .free ∷ q .selfEnergy ∷ retarded ∷ kernel ∷ [])) (solvedFinite q) in
     record { answer = answer; retarded = summedOut answer (retardedOf q) retarded; kernel = summedOut answer (kernelOf q) kernel }
+
+-- `solve_new`, the same at the new places of slices laid out for a capacity
+module _ (capacity orbitals old points : ℕ) (times free selfEnergy retarded kernel : List Float) where
+  -- K, then G from K as its scratch holds it
+  abbrev pub newKernel : List Float
+  newKernel = newNumbers Causal capacity orbitals old points times free selfEnergy kernel
+
+  abbrev pub newGreen : List Float
+  newGreen = newRetarded capacity orbitals old points times free newKernel retarded
+
+  unfoldable pub solvedNewFinite : Bool
+  solvedNewFinite = newFinite Causal capacity orbitals old points times free selfEnergy && newRetardedFinite capacity orbitals old points times free newKernel retarded
+
+  unfoldable pub solvedNew : SumsSolved
+  solvedNew =
+      let answer = summedAnswer (sizeChecks capacity orbitals (leb old points && leb points capacity) (free ∷ selfEnergy ∷ retarded ∷ kernel ∷ [])) solvedNewFinite in
+      record {
+        answer = answer;
+        retarded = newOut answer newGreen (clearedNew capacity orbitals old points retarded) retarded;
+        kernel = newOut answer newKernel (clearedNew capacity orbitals old points kernel) kernel;
+      }
 
 -- a Dyson call: the answer, the retarded function's slice and the kernel's scratch afterwards
 pub record Solved : Type 0 where

@@ -9,12 +9,12 @@ use Rattle.support.specs.Support.{scaleOf, residual, retarded}
 use Rattle.two_time.specs.Computation.{computation}
 use Rattle.two_time.specs.Example as Example
 use Rattle.two_time.specs.Example.{floats, bits}
-use Rattle.dyson.specs.Retarded.{solve, retardedRetarded, retardedNumbers, retardedFinite}
+use Rattle.dyson.specs.Retarded.{solve, retardedOnward, retardedNumbers, retardedFinite}
 use Rattle.dyson.specs.Calls.{Solved, Equation, equationOf, kernelOf, retardedOf, supportChecks, solvedFinite, dysonVerdict, dysonWithTolerance}
 
 -- what cases of Dyson calls compute with
 unfoldable pub dysonComputation : Unit {0}
-unfolding computation scaleOf residual retarded supportChecks solve retardedRetarded retardedNumbers retardedFinite solvedFinite dysonVerdict dysonWithTolerance
+unfolding computation scaleOf residual retarded supportChecks solve retardedOnward retardedNumbers retardedFinite solvedFinite dysonVerdict dysonWithTolerance
 dysonComputation = tt
 
 abbrev half : Float

@@ -1,5 +1,5 @@
 -- The checks of a Dyson call as the code makes them, and what the answer of `solve_retarded` says. Assumes nothing.
-use Rattle.lists.specs.Prelude.{_≡_, refl, sym, _∙_, Bool, true, false, cond, List, [], _∷_, _++_, ℕ, arith, ltb, Float}
+use Rattle.lists.specs.Prelude.{_≡_, refl, sym, _∙_, Bool, true, false, cond, List, [], _∷_, _++_, ℕ, le-refl, arith, ltb, Float}
 use Rattle.refusal.specs.declared.Verdict.{Verdict}
 use Rattle.refusal.specs.declared.Verdict.the-variants.{Pass}
 use Rattle.refusal.specs.Verdict.{_then_, zeroed}
@@ -14,6 +14,7 @@ use Rattle.two_time.specs.Sums.{sumsFinite}
 use Rattle.two_time.specs.Calls.{inputChecks}
 use Rattle.two_time.specs.Outcome.{allSummed, by-flag}
 use Rattle.two_time.specs.SizeChecks.{SizesPassed, sizes-pass}
+use Rattle.two_time.specs.CapacityChecks.{capacity-pass}
 use Rattle.two_time.specs.Lengths.{lengths, others-asked, none-asked, also-asked}
 use Rattle.two_time.specs.Checks.{inputs-keeping, inputs-sizes}
 use Rattle.dyson.specs.Retarded.{retardedFinite}
@@ -43,14 +44,14 @@ module _ (q : Equation) (tolerance : Float) (operands outputs : List (List Float
   checks-sizes h = let z = inputs-sizes (q .points) (q .orbitals) (q .times) (q .free ∷ q .selfEnergy ∷ operands) outputs h in others-asked z _ (z .long)
 
   -- before 8 and 9 the code asks checks 1 to 3 of both operands again, which changes nothing
-  pub checks-are : {i s v : Verdict} → i ≡ inputs → s ≡ checkInputs (q .points) (q .orbitals) (q .free) (q .selfEnergy) tolerance → v ≡ (i then s) → v ≡ checksBefore q tolerance operands outputs
+  pub checks-are : {i s v : Verdict} → i ≡ inputs → s ≡ checkInputs (q .points) (q .points) (q .orbitals) (q .free) (q .selfEnergy) tolerance → v ≡ (i then s) → v ≡ checksBefore q tolerance operands outputs
   unfolding checkInputs
   checks-are ei es e =
       e ∙ then-agree _ inputs _ _ ei (λ p.
       let z = checks-sizes (sym ei ∙ p) in
       let l = lengths z in
       let w = also-asked (omega arith) (also-asked (omega arith) (none-asked z)) in
-      es ∙ then-after _ _ (sizes-pass (q .free ∷ q .selfEnergy ∷ []) w (w .long)))
+      es ∙ then-after _ _ (capacity-pass (w .points-least) (le-refl (q .points)) w))
 
   pub checks-keeping : Keeping (checksBefore q tolerance operands outputs)
   checks-keeping = then-keeping (inputs-keeping (q .points) (q .orbitals) (q .times) _ _) (support-keeping (q .points) (q .orbitals) tolerance _ _)

@@ -8,3 +8,4 @@ pub mod Cases
 pub mod Recursion
 pub mod Rows
 pub mod Checks
+pub mod NewSolved

@@ -1,25 +1,31 @@
 -- Row t of G from K and the rows of G before it, as they stand in a list; what a loop over groups has written of it. Assumes nothing.
-use Rattle.lists.specs.Prelude.{_≡_, refl, sym, ap, ap₂, _∙_, Bool, true, cond, _&&_, _||_, List, [], _∷_, _++_, append-assoc, ℕ, _+_, _-_, _*_, _≤_, _<_}
-use Rattle.lists.specs.Prelude.{mul-le-mul-right, mul-assoc, mul-left-comm, add-mul, arith, digits-lt, ltb, eqb, length, getD, take, drop, replicate, length-append}
-use Rattle.lists.specs.Prelude.{List·getD-append, length-take-le, getD-take, take-at, drop-at, drop-drop, Float, nan, lt-ltb, eq-eqb, postOf, putMid}
+use Rattle.lists.specs.Prelude.{_≡_, refl, sym, ap, ap₂, _∙_, inl, inr, cond, _||_, List, [], _∷_, _++_, append-assoc, ℕ, _+_, _-_, _*_, _≤_, _<_}
+use Rattle.lists.specs.Prelude.{mul-le-mul-right, mul-assoc, mul-left-comm, add-mul, zero-mul, add-zero, arith, digits-lt, ltb, eqb, length, getD, take, drop, length-append, length-drop, length-replicate}
+use Rattle.lists.specs.Prelude.{List·getD-append, length-take-le, getD-take, getD-drop, take-at, drop-at, drop-drop, ext-getD, Float, nan, postOf, midOf, putMid}
 use Rattle.lists.specs.Indexed.{allBelow, join}
-use Rattle.lists.specs.Agreement.{all-agree, join-agree, each-all}
+use Rattle.lists.specs.Agreement.{all-agree, join-agree}
 use Rattle.lists.specs.Reading.{length-join}
+use Rattle.lists.specs.Steps.{join-add}
 use Rattle.complex.specs.declared.Complex.{Complex}
 use Rattle.complex.specs.Arithmetic.{plusZero, czero, cfinite}
 use Rattle.complex.specs.Numbers.{pair}
 use Rattle.block.specs.Block.{layOut}
-use Rattle.two_time.specs.Layout.{place, readAs}
+use Rattle.block.specs.Length.{length-block}
+use Rattle.two_time.specs.declared.sums.Summed.{Summed}
+use Rattle.two_time.specs.declared.sums.Summed.the-variants.{Finite, Overflow, Unfit}
+use Rattle.two_time.specs.Layout.{place, readAs, lengthOf}
 use Rattle.two_time.specs.Sums.{dysonTerms}
 use Rattle.two_time.specs.WeightedSum.{weightedSum, finiteSum}
 use Rattle.two_time.specs.Agreement.{AgreeTerms, weighted-agree}
 use Rattle.two_time.specs.OneTest.{one-test}
-use Rattle.block.specs.Length.{length-block}
 use Rattle.two_time.specs.Calls.{sizeChecks}
 use Rattle.two_time.specs.Outcome.{SumsOutcome, summedAnswer, summedOut}
-use Rattle.groups.specs.Zero.{join-replicate, block-zero}
+use Rattle.two_time.specs.New.{clearedNew}
+use Rattle.two_time.specs.Parts.{part-within, whole-length}
+use Rattle.two_time.specs.Written.{new-is}
+use Rattle.two_time.specs.Cleared.{put-elsewhere, cleared-blocks}
 use Rattle.groups.specs.Forward.{forwardSum, forwardEntry, forwardBlock, forwardFinite, rowAt}
-use Rattle.lanes.specs.Filled.{join-add, all-add, and-true}
+use Rattle.groups.specs.Groups.{forwardNumbers, forwardGroup}
 
 -- ---- a list with a part written
 
@@ -105,62 +111,97 @@ forward-more points n times free kernel retarded t u m w room e =
     let f = forwardBlock points n times free kernel retarded t in
     ap (λ (i : ℕ). putMid (rowAt points n t + u * v) i (putMid (rowAt points n t) (u * v) retarded (join u f)) (join m (λ p. f (u + p)))) e
     ∙ put-put (rowAt points n t) (u * v) (m * v) retarded (join u f) (join m (λ p. f (u + p))) room (length-forward points n times free kernel retarded t u)
-    ∙ ap₂ (λ (i : ℕ) (ys : List Float). putMid (rowAt points n t) i retarded ys) (sym (add-mul u m v)) (sym (join-add u f m))
+    ∙ ap₂ (λ (i : ℕ) (ys : List Float). putMid (rowAt points n t) i retarded ys) (sym (add-mul u m v)) (sym (join-add u m f))
+
+-- ---- what is written within a part is gone once the part is written
+
+module _ {A : Type 0} (a k at m : ℕ) (xs zs ys : List A) (d : A) (room : a + k ≤ length xs) (from : a ≤ at) (to : at + m ≤ a + k) (long : length zs ≡ m) where
+  same-long : length (putMid at m xs zs) ≡ length xs
+  same-long =
+      length-append (take at xs) (zs ++ postOf at m xs) ∙ ap₂ (λ (i j : ℕ). i + j) (length-take-le at xs (omega arith)) (length-append zs (postOf at m xs) ∙ ap₂ (λ (i j : ℕ). i + j) long (length-drop m (drop at xs) ∙ ap (λ (i : ℕ). i - m) (length-drop at xs)))
+      ∙ (let e : at + (m + (length xs - at - m)) ≡ length xs = omega arith in e)
+
+  first-same : take a (putMid at m xs zs) ≡ take a xs
+  first-same =
+      ext-getD d _ _ (length-take-le a (putMid at m xs zs) (omega (arith, same-long)) ∙ sym (length-take-le a xs (omega arith)))
+      (λ i h. let l : i < a = omega (arith, length-take-le a (putMid at m xs zs) (omega (arith, same-long))) in
+      getD-take a (putMid at m xs zs) i d l ∙ put-elsewhere at m xs zs d (omega arith) long i (inl (omega arith)) ∙ sym (getD-take a xs i d l))
+
+  last-same : drop k (drop a (putMid at m xs zs)) ≡ drop k (drop a xs)
+  last-same =
+      ext-getD d _ _ (length-drop k (drop a (putMid at m xs zs)) ∙ ap (λ (i : ℕ). i - k) (length-drop a (putMid at m xs zs) ∙ ap (λ (i : ℕ). i - a) same-long ∙ sym (length-drop a xs)) ∙ sym (length-drop k (drop a xs)))
+      (λ i h. getD-drop k (drop a (putMid at m xs zs)) i d ∙ getD-drop a (putMid at m xs zs) (k + i) d
+      ∙ put-elsewhere at m xs zs d (omega arith) long (a + (k + i)) (inr (omega arith)) ∙ sym (getD-drop a xs (k + i) d) ∙ sym (getD-drop k (drop a xs) i d))
+
+  pub put-within : putMid a k (putMid at m xs zs) ys ≡ putMid a k xs ys
+  put-within = ap₂ (λ (p q : List A). p ++ (ys ++ q)) first-same last-same
+
+-- whatever a group leaves, it leaves in its place
+module _ (points n : ℕ) (times free kernel xs : List Float) (t u places : ℕ) (ys : List Float) (room : rowAt points n t + (t + 1) * (2 * (n * n)) ≤ length xs) (under : u + places ≤ t + 1) where
+  abbrev w : ℕ
+  w = 2 * (n * n)
+
+  abbrev at : ℕ
+  at = rowAt points n t + u * w
+
+  inside : at + places * w ≤ rowAt points n t + (t + 1) * w
+  inside = omega (arith, add-mul u places w, mul-le-mul-right w under)
+
+  abbrev part : List Float
+  part = midOf at (places * w) xs
+
+  part-long : length part ≡ places * w
+  part-long = length-take-le (places * w) (drop at xs) (omega (arith, length-drop at xs, inside))
+
+  left-long : (answer : Summed) → length (summedOut answer (forwardNumbers points n times free kernel xs t u places) part) ≡ places * w
+  unfolding summedOut
+  left-long Finite = length-join places w _ (λ p hp. length-block n (forwardEntry points n times free kernel xs t (u + p)))
+  left-long Overflow = length-replicate (length part) plusZero ∙ part-long
+  left-long Unfit = part-long
+
+  pub group-within : putMid (rowAt points n t) ((t + 1) * w) (forwardGroup points n times free kernel xs t u places .out) ys ≡ putMid (rowAt points n t) ((t + 1) * w) xs ys
+  unfolding forwardGroup
+  group-within =
+      let answer = forwardGroup points n times free kernel xs t u places .answer in
+      put-within (rowAt points n t) ((t + 1) * w) at (places * w) xs (summedOut answer (forwardNumbers points n times free kernel xs t u places) part) ys nan room (omega arith) inside (left-long answer)
 
 -- ---- the row
 
 module _ (points n : ℕ) (times free kernel retarded : List Float) (t : ℕ) where
-  -- `forward_row`: the slice with row t in its place
+  -- `forward_row`: the slice with row t to the diagonal in its place, +0 there where something is not finite
   unfoldable pub forwardRow : SumsOutcome
   forwardRow =
-      let answer = summedAnswer (sizeChecks points n (ltb t points) (free ∷ kernel ∷ retarded ∷ [])) (allBelow points (forwardFinite points n times free kernel retarded t)) in
-      record { answer = answer; out = summedOut answer (putMid (rowAt points n t) (points * (2 * (n * n))) retarded (join points (forwardBlock points n times free kernel retarded t))) retarded }
+      let answer = summedAnswer (sizeChecks points n (ltb t points) (free ∷ kernel ∷ retarded ∷ [])) (allBelow (t + 1) (forwardFinite points n times free kernel retarded t)) in
+      let count = (t + 1) * (2 * (n * n)) in
+      record { answer = answer; out = putMid (rowAt points n t) count retarded (summedOut answer (join (t + 1) (forwardBlock points n times free kernel retarded t)) (midOf (rowAt points n t) count retarded)) }
 
-  -- above the diagonal nothing is made, and +0 stands
-  above-finite : (u : ℕ) → t < u → forwardFinite points n times free kernel retarded t u ≡ true
-  unfolding forwardFinite
-  above-finite u h = each-all n _ (λ a ha. each-all n _ (λ b hb. one-test n (forwardSum points n times free kernel retarded t u) a b ∙ rw (eq-eqb (t - u) 0 (omega arith))))
+-- row t to the diagonal lies within the row, and the row within the slice
+pub to-diagonal : (points v t : ℕ) → t < points → (t + 1) * v ≤ points * v
+to-diagonal points v t h = mul-le-mul-right v (let g : t + 1 ≤ points = omega arith in g)
 
-  pub row-finite : t < points → allBelow points (forwardFinite points n times free kernel retarded t) ≡ allBelow (t + 1) (forwardFinite points n times free kernel retarded t)
-  row-finite ht =
-      let finite = forwardFinite points n times free kernel retarded t in
-      let rest : ℕ = points - (t + 1) in
-      ap (λ (k : ℕ). allBelow k finite) (let e : points ≡ t + 1 + rest = omega arith in e) ∙ all-add (t + 1) finite rest
-      ∙ ap (λ (f : Bool). allBelow (t + 1) finite && f) (each-all rest _ (λ k hk. above-finite (t + 1 + k) (omega arith))) ∙ and-true (allBelow (t + 1) finite)
+-- whatever is left of row t is left at new places
+module _ (capacity n : ℕ) (times free kernel retarded : List Float) (t old points : ℕ) (new : old ≤ t) (ht : t < points) (room : points ≤ capacity) (long : length retarded ≡ lengthOf capacity n) where
+  abbrev width : ℕ
+  width = (t + 1) * (2 * (n * n))
 
-  zero-entry : (u a b : ℕ) → t < u → forwardEntry points n times free kernel retarded t u a b ≡ czero
-  unfolding forwardEntry
-  zero-entry u a b h = rw (lt-ltb t u h)
+  row-fits : rowAt capacity n t + width ≤ length retarded
+  row-fits = omega (arith, to-diagonal capacity (2 * (n * n)) t (omega arith), part-within {q = t} {k = capacity} (capacity * (2 * (n * n))) (omega arith), whole-length capacity n)
 
-  above-laid : (u : ℕ) → t < u → forwardBlock points n times free kernel retarded t u ≡ replicate (2 * (n * n)) plusZero
-  above-laid u h = block-zero n (forwardEntry points n times free kernel retarded t u) (λ a b ha hb. zero-entry u a b h)
+  mid-long : length (midOf (rowAt capacity n t) width retarded) ≡ width
+  mid-long = length-take-le width (drop (rowAt capacity n t) retarded) (omega (arith, length-drop (rowAt capacity n t) retarded, row-fits))
 
-  pub row-laid : t < points → join points (forwardBlock points n times free kernel retarded t)
-      ≡ join (t + 1) (forwardBlock points n times free kernel retarded t) ++ replicate ((points - (t + 1)) * (2 * (n * n))) plusZero
-  row-laid ht =
-      let f = forwardBlock points n times free kernel retarded t in
-      let rest : ℕ = points - (t + 1) in
-      ap (λ (k : ℕ). join k f) (let e : points ≡ t + 1 + rest = omega arith in e) ∙ join-add (t + 1) f rest
-      ∙ ap (λ (ys : List Float). join (t + 1) f ++ ys) (join-agree rest _ _ (λ k hk. above-laid (t + 1 + k) (omega arith)) ∙ join-replicate rest (2 * (n * n)) plusZero)
+  row-left : (answer : Summed) → length (summedOut answer (join (t + 1) (forwardBlock capacity n times free kernel retarded t)) (midOf (rowAt capacity n t) width retarded)) ≡ width
+  unfolding summedOut
+  row-left Finite = length-forward capacity n times free kernel retarded t (t + 1)
+  row-left Overflow = length-replicate (length (midOf (rowAt capacity n t) width retarded)) plusZero ∙ mid-long
+  row-left Unfit = mid-long
 
-  -- row t once the blocks to the diagonal are written and the others cleared
-  pub row-cleared : (w : ℕ) → t < points → rowAt points n t ≤ length retarded → w ≡ (points - (t + 1)) * (2 * (n * n))
-      → putMid (rowAt points n t + (t + 1) * (2 * (n * n))) w (putMid (rowAt points n t) ((t + 1) * (2 * (n * n))) retarded (join (t + 1) (forwardBlock points n times free kernel retarded t))) (replicate w plusZero)
-      ≡ putMid (rowAt points n t) (points * (2 * (n * n))) retarded (join points (forwardBlock points n times free kernel retarded t))
-  row-cleared w ht room e =
-      let v = 2 * (n * n) in
-      let f = forwardBlock points n times free kernel retarded t in
-      put-put (rowAt points n t) ((t + 1) * v) w retarded (join (t + 1) f) (replicate w plusZero) room (length-forward points n times free kernel retarded t (t + 1))
-      ∙ ap₂ (λ (i : ℕ) (ys : List Float). putMid (rowAt points n t) i retarded ys)
-      (ap (λ (m : ℕ). (t + 1) * v + m) e ∙ sym (add-mul (t + 1) (points - (t + 1)) v) ∙ ap (λ (k : ℕ). k * v) (let h : t + 1 + (points - (t + 1)) ≡ points = omega arith in h))
-      (ap (λ (m : ℕ). join (t + 1) f ++ replicate m plusZero) e ∙ sym (row-laid ht))
-
--- what is left of row t after the diagonal
-pub rest-is : (points v t r : ℕ) → t < points → r + points * v - (r + (t + 1) * v) ≡ (points - (t + 1)) * v
-rest-is points v t r h =
-    let k : ℕ = points - (t + 1) in
-    let e : points * v ≡ (t + 1 + k) * v = ap (λ (m : ℕ). m * v) (let g : points ≡ t + 1 + k = omega arith in g) in
-    omega (arith, add-mul (t + 1) k v)
-
-pub after-diagonal : (points v t : ℕ) → t < points → (t + 1) * v ≤ points * v
-after-diagonal points v t h = mul-le-mul-right v (let g : t + 1 ≤ points = omega arith in g)
+  pub row-hidden : clearedNew capacity n old points (forwardRow capacity n times free kernel retarded t .out) ≡ clearedNew capacity n old points retarded
+  unfolding forwardRow
+  row-hidden =
+      let w = 2 * (n * n) in
+      let at : rowAt capacity n t ≡ t * (capacity * w) + 0 * w = sym (ap (λ (k : ℕ). t * (capacity * w) + k) (zero-mul w) ∙ add-zero (t * (capacity * w))) in
+      let answer = forwardRow capacity n times free kernel retarded t .answer in
+      let part = summedOut answer (join (t + 1) (forwardBlock capacity n times free kernel retarded t)) (midOf (rowAt capacity n t) width retarded) in
+      ap (λ (k : ℕ). clearedNew capacity n old points (putMid k width retarded part)) at
+      ∙ cleared-blocks capacity n old points t 0 (t + 1) retarded part (omega arith) (omega arith) (λ u lo hi. new-is old points t u (omega arith) ht (omega arith)) long (row-left answer)

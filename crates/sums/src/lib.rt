@@ -1,18 +1,22 @@
 // The sums at all places, row by row and group by group (document 01, convolutions), and Dyson's row.
 mod forward;
 
-ghost use Rattle.lists.specs.Prelude.{_≡_, true, [], _∷_, _*_, _<_, _≤_, length};
+ghost use Rattle.lists.specs.Prelude.{_≡_, true, [], _∷_, _+_, _*_, _<_, _≤_, length};
 ghost use Rattle.lists.specs.Indexed.{allBelow, join};
 ghost use Rattle.block.specs.Block.{layOut};
 ghost use Rattle.refusal.specs.declared.Verdict.the-variants.{Pass};
 ghost use Rattle.two_time.specs.Layout.{lengthOf};
 ghost use Rattle.two_time.specs.Calls.{sizeChecks};
-ghost use Rattle.two_time.specs.Sums.{sumsNumbers, sumsFinite};
-ghost use Rattle.two_time.specs.Outcome.{summed};
+ghost use Rattle.two_time.specs.New.{clearedNew};
+ghost use Rattle.two_time.specs.Sums.{newNumbers, newFinite};
+ghost use Rattle.two_time.specs.Outcome.{summed, newSums};
 ghost use Rattle.groups.specs.PlaceSums.{sumAt, blockFinite};
 ghost use Rattle.sums.specs.Forward.{forwardRow};
 use groups::group;
 use refusal::Verdict;
+use two_time::capacity::Shape;
+use two_time::capacity::clear_new;
+use two_time::capacity::first_new;
 use two_time::checks::check_sizes;
 use two_time::checks::has_length;
 use two_time::layout::clear;
@@ -28,75 +32,86 @@ pub(crate) fn group_places(rest: usize, orbitals: usize) -> usize
     if rest < most { rest } else { most }
 }
 
-// Writes row t of the sums, and answers whether all that is made for it is finite; at the first group that is not the work ends.
+// Writes the sums at `count` places of row t from column `from` on, and answers whether all that is made for them is finite; at the first group that
+// is not the work ends.
 fn row(
     sums: Sums,
     times: &[f64],
     left: &[f64],
     right: &[f64],
-    points: usize,
+    capacity: usize,
     orbitals: usize,
     t: usize,
+    from: usize,
+    count: usize,
     out: &mut [f64],
 ) -> bool
-    requires { ⌜ (t < points) × (sizeChecks points orbitals true (now left ∷ now right ∷ []) ≡ Pass) ⌝ }
-    requires { ⌜ length (now out) ≡ points * (2 * (orbitals * orbitals)) ⌝ }
-    ensures { λ r. ⌜ (r ≡ allBelow points (λ u. blockFinite sums points orbitals (now (times .entry)) (now (left .entry)) (now (right .entry)) t u))
-        × (r ≡ true → now (out .exit) ≡ join points (λ u. layOut orbitals orbitals (sumAt sums points orbitals (now (times .entry)) (now (left .entry)) (now (right .entry)) t u))) ⌝ }
+    requires { ⌜ (t < capacity) × (from + count ≤ capacity) × (sizeChecks capacity orbitals true (now left ∷ now right ∷ []) ≡ Pass) ⌝ }
+    requires { ⌜ length (now out) ≡ count * (2 * (orbitals * orbitals)) ⌝ }
+    ensures { λ r. ⌜ (r ≡ allBelow count (λ p. blockFinite sums capacity orbitals (now (times .entry)) (now (left .entry)) (now (right .entry)) t (from + p)))
+        × (r ≡ true → now (out .exit) ≡ join count (λ p. layOut orbitals orbitals (sumAt sums capacity orbitals (now (times .entry)) (now (left .entry)) (now (right .entry)) t (from + p)))) ⌝ }
 {
     let width = 2 * (orbitals * orbitals);
-    let mut u = 0;
-    while u < points {
-        let places = group_places(points - u, orbitals);
-        let start = u * width;
+    let mut p = 0;
+    while p < count {
+        let places = group_places(count - p, orbitals);
+        let start = p * width;
         let end = start + places * width;
         let summed = group(
             sums,
             times,
             left,
             right,
-            points,
+            capacity,
             orbitals,
             t,
-            u,
+            from + p,
             places,
             &mut out[start..end],
         );
         if !summed.is_finite() {
             return false;
         }
-        u += places;
+        p += places;
     }
     true
 }
 
-// Writes the sums at all places, rows first, and answers whether all are finite.
+// Writes the sums at the new places, rows first, and answers whether all are finite. Whatever it writes stands at new places.
 fn fill(
     sums: Sums,
     times: &[f64],
     left: &[f64],
     right: &[f64],
-    points: usize,
-    orbitals: usize,
+    shape: Shape,
+    old: usize,
     out: &mut [f64],
 ) -> bool
-    requires { ⌜ sizeChecks points orbitals true (now left ∷ now right ∷ []) ≡ Pass ⌝ }
-    requires { ⌜ length (now out) ≡ lengthOf points orbitals ⌝ }
-    ensures { λ r. ⌜ (r ≡ sumsFinite sums points orbitals (now (times .entry)) (now (left .entry)) (now (right .entry)))
-        × (r ≡ true → now (out .exit) ≡ sumsNumbers sums points orbitals (now (times .entry)) (now (left .entry)) (now (right .entry))) ⌝ }
+    requires { ⌜ (old ≤ shape .points) × (shape .points ≤ shape .capacity) × (sizeChecks (shape .capacity) (shape .orbitals) true (now left ∷ now right ∷ []) ≡ Pass) ⌝ }
+    requires { ⌜ length (now out) ≡ lengthOf (shape .capacity) (shape .orbitals) ⌝ }
+    ensures { λ r. ⌜ (r ≡ newFinite sums (shape .capacity) (shape .orbitals) old (shape .points) (now (times .entry)) (now (left .entry)) (now (right .entry)))
+        × (r ≡ true → now (out .exit) ≡ newNumbers sums (shape .capacity) (shape .orbitals) old (shape .points) (now (times .entry)) (now (left .entry)) (now (right .entry)) (now (out .entry)))
+        × (clearedNew (shape .capacity) (shape .orbitals) old (shape .points) (now (out .exit)) ≡ clearedNew (shape .capacity) (shape .orbitals) old (shape .points) (now (out .entry))) ⌝ }
 {
-    let width = points * (2 * (orbitals * orbitals));
+    let points = shape.points;
+    let capacity = shape.capacity;
+    let orbitals = shape.orbitals;
+    let block = 2 * (orbitals * orbitals);
+    let width = capacity * block;
     for t in 0..points {
-        let start = t * width;
-        let end = start + width;
+        let from = first_new(old, t);
+        let start = t * width + from * block;
+        let end = t * width + points * block;
         let finite = row(
             sums,
             times,
             left,
             right,
-            points,
+            capacity,
             orbitals,
             t,
+            from,
+            points - from,
             &mut out[start..end],
         );
         if !finite {
@@ -106,8 +121,8 @@ fn fill(
     true
 }
 
-// Row t of G from K and the rows of G before it, as they stand in the slice, +0 above the diagonal. Where something is not finite the slice holds +0
-// throughout, and it is as it was where nothing is summed.
+// Row t of G to the diagonal, from K and the rows of G before it, as they stand in the slice. Where something is not finite +0 stands there; the rest
+// of the slice is as it was, and so is all where nothing is summed.
 pub fn forward_row(
     times: &[f64],
     free: &[f64],
@@ -128,18 +143,50 @@ pub fn forward_row(
         return Summed::Unfit;
     };
     if forward::blocks(times, free, kernel, points, orbitals, t, retarded) {
-        let width = 2 * (orbitals * orbitals);
-        let start = t * (points * width) + (t + 1) * width;
-        let end = t * (points * width) + points * width;
-        clear(&mut retarded[start..end]);
         return Summed::Finite;
     }
-    clear(retarded);
+    let width = 2 * (orbitals * orbitals);
+    let start = t * (points * width);
+    let end = start + (t + 1) * width;
+    clear(&mut retarded[start..end]);
     Summed::Overflow
 }
 
-// The sums at all places, laid out in the slice lent for them: +0 throughout where something is not finite, and as it was where nothing is
-// summed.
+// The sums at the new places, in the slice lent for them, where slices are laid out for the capacity: those whose larger index is at least `old` and
+// below the points. Where something is not finite the new places hold +0; the rest is as it was, and so is all where nothing is summed.
+pub fn new_sums(
+    sums: Sums,
+    times: &[f64],
+    left: &[f64],
+    right: &[f64],
+    shape: Shape,
+    old: usize,
+    out: &mut [f64],
+) -> Summed
+    ensures { λ r. ⌜ (let made = newSums sums (shape .capacity) (shape .orbitals) old (shape .points) (now (times .entry)) (now (left .entry)) (now (right .entry)) (now (out .entry)) in (r ≡ made .answer) × (now (out .exit) ≡ made .out)) ⌝ }
+{
+    let capacity = shape.capacity;
+    let orbitals = shape.orbitals;
+    let there = (old <= shape.points) & (shape.points <= capacity);
+    let left_fits = has_length(capacity, orbitals, left);
+    let right_fits = has_length(capacity, orbitals, right);
+    let out_fits = has_length(capacity, orbitals, out);
+    let verdict = check_sizes(
+        capacity,
+        orbitals,
+        there & (left_fits & (right_fits & out_fits)),
+    );
+    let Verdict::Pass = verdict else {
+        return Summed::Unfit;
+    };
+    if fill(sums, times, left, right, shape, old, out) {
+        return Summed::Finite;
+    }
+    clear_new(shape, old, out);
+    Summed::Overflow
+}
+
+// The sums at all places of slices laid out for the points: +0 throughout where something is not finite, and as it was where nothing is summed.
 pub fn weighted_sums(
     sums: Sums,
     times: &[f64],
@@ -151,16 +198,10 @@ pub fn weighted_sums(
 ) -> Summed
     ensures { λ r. ⌜ (let made = summed sums points orbitals (now (times .entry)) (now (left .entry)) (now (right .entry)) (now (out .entry)) in (r ≡ made .answer) × (now (out .exit) ≡ made .out)) ⌝ }
 {
-    let left_fits = has_length(points, orbitals, left);
-    let right_fits = has_length(points, orbitals, right);
-    let out_fits = has_length(points, orbitals, out);
-    let verdict = check_sizes(points, orbitals, left_fits & (right_fits & out_fits));
-    let Verdict::Pass = verdict else {
-        return Summed::Unfit;
+    let shape = Shape {
+        points,
+        capacity: points,
+        orbitals,
     };
-    if fill(sums, times, left, right, points, orbitals, out) {
-        return Summed::Finite;
-    }
-    clear(out);
-    Summed::Overflow
+    new_sums(sums, times, left, right, shape, 0, out)
 }

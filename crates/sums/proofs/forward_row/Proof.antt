@@ -1,5 +1,5 @@
--- `sums::forward_row` meets its contract: unfit, finite, or not finite with the slice cleared. Assumes nothing.
-use Rattle.lists.specs.Prelude.{_≡_, sym, ap, ap₂, _∙_, List, [], _∷_, ℕ, _+_, _-_, _*_, _<_, arith, ltb, length, replicate, Float, now, needs, ltb-true, putMid, midOf, mid-len}
+-- `sums::forward_row` meets its contract: unfit, finite, or not finite with the row cleared to the diagonal. Assumes nothing.
+use Rattle.lists.specs.Prelude.{_≡_, sym, ap, ap₂, _∙_, List, [], _∷_, ℕ, _+_, _-_, _*_, _<_, _≤_, arith, ltb, length, length-take, length-drop, replicate, Float, now, needs, ltb-true, putMid, put-same, midOf}
 use Rattle.complex.specs.Arithmetic.{plusZero}
 use Rattle.refusal.specs.declared.Verdict.{Verdict}
 use Rattle.refusal.specs.declared.Verdict.the-variants.{Refused}
@@ -7,7 +7,7 @@ use Rattle.two_time.specs.Calls.{sizeChecks}
 use Rattle.two_time.specs.Outcome.{summedAnswer, summedOut}
 use Rattle.two_time.specs.SizeChecks.{SizesPassed, sizes-passed, sizes-pass, sizes-asked, fits-more, long-first}
 use Rattle.groups.specs.Forward.{rowAt, Sizes, sizes-of}
-use Rattle.sums.specs.Forward.{forwardRow, row-finite, row-cleared, rest-is, after-diagonal}
+use Rattle.sums.specs.Forward.{forwardRow, to-diagonal}
 use Rattle.sums.proofs.forward_row.Statement.{statement}
 use Rattle.sums.proofs.forward_row.Tie as tie
 
@@ -45,7 +45,8 @@ long c =
 
 returns : tie.Need-returns
 unfolding forwardRow summedAnswer summedOut
-returns c = let checks : checks (c .before .before) ≡ Refused _ = sym (asked (c .before .before)) ∙ c .enum-told2 .given .1 in (rw checks, rw checks)
+returns c = let checks : checks (c .before .before) ≡ Refused _ = sym (asked (c .before .before)) ∙ c .enum-told2 .given .1 in let x = start (c .before .before) .args in
+    (rw checks, rw checks (sym (put-same (rowAt (x .points) (x .orbitals) (x .t)) ((x .t + 1) * (2 * (x .orbitals * x .orbitals))) (now (x .retarded)))))
 
 blocks-requires : tie.Need-blocks-requires
 blocks-requires c κs = let e = c .before in let z = passed e in (inside e, sizes-pass _ z (z .long))
@@ -53,23 +54,28 @@ blocks-requires c κs = let e = c .before in let z = passed e in (inside e, size
 abbrev told : tie.Then1 → tie.After-enum-told
 told c = c .before .before .before .before .before
 
+abbrev left : tie.Else1 → tie.After-enum-told
+left c = c .before .before .before .before .before
+
+-- row t to the diagonal lies within the slice
+fit : (e : tie.After-enum-told) → let x = start (e .before .before) .args in rowAt (x .points) (x .orbitals) (x .t) + (x .t + 1) * (2 * (x .orbitals * x .orbitals)) ≤ length (now (x .retarded))
+fit e = let x = start (e .before .before) .args in omega (arith, long e .row, to-diagonal (x .points) (2 * (x .orbitals * x .orbitals)) (x .t) (inside e))
+
 returns-2 : tie.Need-returns-2
 unfolding forwardRow summedAnswer summedOut
 returns-2 c =
-    let d = c .before .before in let i = d .before .before in let b = i .before .before .before in let e = told i in
-    let x = start (e .before .before) .args in
+    let b = c .before .before .before in let e = told c in
     let pass = sym (asked (e .before .before)) ∙ e .enum-told .given .1 in
-    let finite = row-finite (x .points) (x .orbitals) (now (x .times)) (now (x .free)) (now (x .kernel)) (now (x .retarded)) (x .t) (inside e) ∙ sym (b .blocks2 .ensures .0) ∙ i .if1 .taken in
-    let v = 2 * (x .orbitals * x .orbitals) in
-    let r = rowAt (x .points) (x .orbitals) (x .t) in
-    let w = r + x .points * v - (r + (x .t + 1) * v) in
-    let z = long e in let kept = b .blocks2 .kept .1 .1 .1 .1 .1 .1 .0 in
-    let part : length (midOf (r + (x .t + 1) * v) w (b .blocks2 .last .1 .1 .1 .1 .1 .1 .0)) ≡ w = mid-len (r + (x .t + 1) * v) (r + x .points * v) _ (omega (arith, z .row, kept)) in (
-      rw (pass, finite),
-      rw (pass, finite)
-          (ap₂ (λ (m ys : List Float). putMid (r + (x .t + 1) * v) w m ys) (b .blocks2 .ensures .1 (i .if1 .taken)) (d .clear .ensures ∙ ap (λ (k : ℕ). replicate k plusZero) part)
-          ∙ row-cleared (x .points) (x .orbitals) (now (x .times)) (now (x .free)) (now (x .kernel)) (now (x .retarded)) (x .t) w (inside e) (omega (arith, z .row)) (rest-is (x .points) v (x .t) r (inside e))),
-    )
+    let finite = sym (b .blocks2 .ensures .0) ∙ c .if1 .taken in
+    (rw (pass, finite), rw (pass, finite) (b .blocks2 .ensures .1 (c .if1 .taken)))
+
+-- the part that is cleared
+part-long : (i : tie.Else1) → let b = i .before .before .before in let x = start (b .before .before .before .before) .args in
+    let v = 2 * (x .orbitals * x .orbitals) in let r = rowAt (x .points) (x .orbitals) (x .t) in let k = (x .t + 1) * v in
+    length (midOf r (r + k - r) (b .blocks2 .last .1 .1 .1 .1 .1 .1 .0)) ≡ k
+part-long i =
+    let b = i .before .before .before in
+    simp (length-take, length-drop) (omega (arith, fit (b .before .before), b .blocks2 .kept .1 .1 .1 .1 .1 .1 .0))
 
 returns-3 : tie.Need-returns-3
 unfolding forwardRow summedAnswer summedOut
@@ -77,8 +83,14 @@ returns-3 c =
     let d = c .before .before in let i = d .before .before in let b = i .before .before .before in let e = b .before .before in
     let x = start (e .before .before) .args in
     let pass = sym (asked (e .before .before)) ∙ e .enum-told .given .1 in
-    let finite = row-finite (x .points) (x .orbitals) (now (x .times)) (now (x .free)) (now (x .kernel)) (now (x .retarded)) (x .t) (inside e) ∙ sym (b .blocks2 .ensures .0) ∙ i .if1 .left in
-    (rw (pass, finite), rw (pass, finite) (d .clear2 .ensures ∙ ap (λ (m : ℕ). replicate m plusZero) (b .blocks2 .kept .1 .1 .1 .1 .1 .1 .0)))
+    let finite = sym (b .blocks2 .ensures .0) ∙ i .if1 .left in
+    let v = 2 * (x .orbitals * x .orbitals) in let r = rowAt (x .points) (x .orbitals) (x .t) in let k = (x .t + 1) * v in
+    let was : length (midOf r k (now (x .retarded))) ≡ k = simp (length-take, length-drop) (omega (arith, fit e)) in (
+      rw (pass, finite),
+      rw (pass, finite)
+          (ap₂ (λ (m : ℕ) (ys : List Float). putMid r m (b .blocks2 .last .1 .1 .1 .1 .1 .1 .0) ys) (let same : r + k - r ≡ k = omega arith in same) (d .clear .ensures ∙ ap (λ (m : ℕ). replicate m plusZero) (part-long i ∙ sym was))
+          ∙ b .blocks2 .ensures .2 (replicate (length (midOf r k (now (x .retarded)))) plusZero)),
+    )
 
 pub forward-row-spec : {M : Type 1} → statement M
 forward-row-spec =
@@ -86,22 +98,16 @@ forward-row-spec =
     (λ c κs. search needs) (λ c κs. search needs) (λ c κs. search needs)  -- has-length-requires, has-length-requires-2, has-length-requires-3
     (λ c κs. search needs) (λ c. search needs) (λ c. search needs) (λ c. search needs)  -- check-sizes-requires, enum-told, enum-told-2, same-length
     returns blocks-requires
-    (λ c. let z = long (told c) in omega (arith, z .block)) (λ c. let z = long (told c) in omega (arith, z .block))  -- mul-width, mul-width-2
-    (λ c. let z = long (told c) in omega (arith, z .wide))  -- mul-start
-    (λ c. let z = long (told c) in omega (arith, z .row, z .all))  -- mul-start-2
-    (λ c. let z = long (told c) in let x = start (told c .before .before) .args in let h = after-diagonal (x .points) (2 * (x .orbitals * x .orbitals)) (x .t) (inside (told c)) in omega (arith, z .row, z .all, z .wide, inside (told c), c .before .before .before .blocks2 .kept .1 .1 .1 .1 .1 .1 .0))  -- add-start
-    (λ c. let z = long (told c) in let x = start (told c .before .before) .args in let h = after-diagonal (x .points) (2 * (x .orbitals * x .orbitals)) (x .t) (inside (told c)) in omega (arith, z .row, z .all, z .wide, inside (told c), c .before .before .before .blocks2 .kept .1 .1 .1 .1 .1 .1 .0))  -- mul-start-3
-    (λ c. let z = long (told c) in let x = start (told c .before .before) .args in let h = after-diagonal (x .points) (2 * (x .orbitals * x .orbitals)) (x .t) (inside (told c)) in omega (arith, z .row, z .all, z .wide, inside (told c), c .before .before .before .blocks2 .kept .1 .1 .1 .1 .1 .1 .0))  -- add-start-2
-    (λ c. let z = long (told c) in omega (arith, z .wide))  -- mul-end
-    (λ c. let z = long (told c) in omega (arith, z .row, z .all))  -- mul-end-2
-    (λ c. let z = long (told c) in omega (arith, z .wide))  -- mul-end-3
-    (λ c. let z = long (told c) in omega (arith, z .row, z .all))  -- add-end
-    (λ c. let z = long (told c) in let x = start (told c .before .before) .args in let h = after-diagonal (x .points) (2 * (x .orbitals * x .orbitals)) (x .t) (inside (told c)) in omega (arith, z .row, z .all, z .wide, inside (told c), c .before .before .before .blocks2 .kept .1 .1 .1 .1 .1 .1 .0))  -- mul-clear
-    (λ c. let z = long (told c) in let x = start (told c .before .before) .args in let h = after-diagonal (x .points) (2 * (x .orbitals * x .orbitals)) (x .t) (inside (told c)) in omega (arith, z .row, z .all, z .wide, inside (told c), c .before .before .before .blocks2 .kept .1 .1 .1 .1 .1 .1 .0))  -- sub-clear
-    (λ c. let z = long (told c) in let x = start (told c .before .before) .args in let h = after-diagonal (x .points) (2 * (x .orbitals * x .orbitals)) (x .t) (inside (told c)) in omega (arith, z .row, z .all, z .wide, inside (told c), c .before .before .before .blocks2 .kept .1 .1 .1 .1 .1 .1 .0))  -- part-clear-start
-    (λ c. let z = long (told c) in let x = start (told c .before .before) .args in let h = after-diagonal (x .points) (2 * (x .orbitals * x .orbitals)) (x .t) (inside (told c)) in omega (arith, z .row, z .all, z .wide, inside (told c), c .before .before .before .blocks2 .kept .1 .1 .1 .1 .1 .1 .0))  -- part-clear-end
-    (λ c κs. search needs)  -- clear-requires
-    (λ c. c .before .retarded2 .given .1 ∙ c .before .before .before .before .before .before .before .blocks2 .kept .1 .1 .1 .1 .1 .1 .0)  -- same-length-2
+    (λ c. search needs)  -- same-length-2
     returns-2
-    (λ c κs. search needs) (λ c. search needs)  -- clear-requires-2, same-length-3
+    (λ c. let z = long (left c) in omega (arith, z .block)) (λ c. let z = long (left c) in omega (arith, z .block))  -- mul-width, mul-width-2
+    (λ c. let z = long (left c) in omega (arith, z .wide)) (λ c. let z = long (left c) in omega (arith, z .row, z .all))  -- mul-start, mul-start-2
+    (λ c. let z = fit (left c) in omega (arith, long (left c) .all, inside (left c), passed (left c) .points-most))  -- add-end
+    (λ c. let z = fit (left c) in omega (arith, long (left c) .all)) (λ c. let z = fit (left c) in omega (arith, long (left c) .all))  -- mul-end, add-end-2
+    (λ c. let z = fit (left c) in omega (arith, long (left c) .all, c .before .before .before .blocks2 .kept .1 .1 .1 .1 .1 .1 .0))  -- mul-clear
+    (λ c. let z = fit (left c) in omega (arith, long (left c) .all, c .before .before .before .blocks2 .kept .1 .1 .1 .1 .1 .1 .0))  -- sub-clear
+    (λ c. let z = fit (left c) in omega (arith, long (left c) .all, c .before .before .before .blocks2 .kept .1 .1 .1 .1 .1 .1 .0))  -- part-clear-start
+    (λ c. let z = fit (left c) in omega (arith, long (left c) .all, c .before .before .before .blocks2 .kept .1 .1 .1 .1 .1 .1 .0))  -- part-clear-end
+    (λ c κs. search needs)  -- clear-requires
+    (λ c. c .before .retarded2 .given .1 ∙ c .before .before .before .before .before .before .before .blocks2 .kept .1 .1 .1 .1 .1 .1 .0)  -- same-length-3
     returns-3)

@@ -1,70 +1,13 @@
--- `sums::weighted_sums` meets its contract: unfit, finite, or not finite with the slice cleared. Assumes nothing.
-use Rattle.lists.specs.Prelude.{_≡_, sym, ap, _∙_, true, List, [], _∷_, Float, ℕ, replicate, now, needs}
-use Rattle.complex.specs.Arithmetic.{plusZero}
-use Rattle.refusal.specs.declared.Verdict.{Verdict}
-use Rattle.refusal.specs.declared.Verdict.the-variants.{Refused}
-use Rattle.two_time.specs.Calls.{sizeChecks}
-use Rattle.two_time.specs.Outcome.{summed, summedAnswer, summedOut}
-use Rattle.two_time.specs.SizeChecks.{SizesPassed, sizes-passed, sizes-pass, sizes-asked, fits-more, long-first, long-also, long-none}
+-- `sums::weighted_sums` meets its contract: the new places from 0 on are all. Assumes nothing.
+use Rattle.lists.specs.Prelude.{ap, _∙_, now, needs}
+use Rattle.two_time.specs.Outcome.{SumsOutcome, new-sums-all}
 use Rattle.sums.proofs.weighted_sums.Statement.{statement}
 use Rattle.sums.proofs.weighted_sums.Tie as tie
-
-abbrev start : tie.After-check-sizes → tie.Start
-start c = c .before .before .before .before .before .before .before .before .before
-
-abbrev slices : tie.After-check-sizes → List (List Float)
-slices c = let x = start c .args in now (x .left) ∷ now (x .right) ∷ now (x .out) ∷ []
-
-abbrev checks : tie.After-check-sizes → Verdict
-checks c = let x = start c .args in sizeChecks (x .points) (x .orbitals) true (slices c)
-
--- the verdict is that of checks 1 to 3
-asked : (c : tie.After-check-sizes) → c .check-sizes .result ≡ checks c
-asked c =
-    let x = start c .args in let h = c .before in
-    sizes-asked (x .points) (x .orbitals) (slices c) true _ _
-    (fits-more _ _ _ _ _ _ (h .before .before .before .has-length .ensures) (fits-more _ _ _ _ _ _ (h .before .before .has-length2 .ensures) (h .has-length3 .ensures)))
-    (c .check-sizes .ensures)
-
--- what it says that they pass
-sizes : (c : tie.After-enum-told) → let s = c .before .before in SizesPassed (start s .args .points) (start s .args .orbitals) true (slices s)
-sizes c = sizes-passed _ _ _ _ (sym (asked (c .before .before)) ∙ c .enum-told .given .1)
-
-returns : tie.Need-returns
-unfolding summed summedAnswer summedOut
-returns c = let checks : checks (c .before .before) ≡ Refused _ = sym (asked (c .before .before)) ∙ c .enum-told2 .given .1 in (rw checks, rw checks)
-
-fill-requires : tie.Need-fill-requires
-fill-requires c κs =
-    let e = c .before in let z = sizes e in
-    let l = long-first _ _ _ (z .long) in
-    let r = long-first _ _ _ (l .1) in
-    let o = long-first _ _ _ (r .1) in
-    (sizes-pass _ z (long-also _ _ _ (l .0) (long-also _ _ _ (r .0) (long-none _))), o .0)
-
-returns-2 : tie.Need-returns-2
-unfolding summed summedAnswer summedOut
-returns-2 c =
-    let f = c .before .before .before in let e = f .before .before in
-    let pass = sym (asked (e .before .before)) ∙ e .enum-told .given .1 in
-    let finite = sym (f .fill .ensures .0) ∙ c .if1 .taken in
-    (rw (pass, finite), rw (pass, finite) (f .fill .ensures .1 (c .if1 .taken)))
-
-returns-3 : tie.Need-returns-3
-unfolding summed summedAnswer summedOut
-returns-3 c =
-    let d = c .before .before in let i = d .before .before in let f = i .before .before .before in let e = f .before .before in
-    let pass = sym (asked (e .before .before)) ∙ e .enum-told .given .1 in
-    let finite = sym (f .fill .ensures .0) ∙ i .if1 .left in
-    (rw (pass, finite), rw (pass, finite) (d .clear .ensures ∙ ap (λ (m : ℕ). replicate m plusZero) (f .fill .kept .1 .1 .1 .1 .1 .1 .0)))
 
 pub weighted-sums-spec : {M : Type 1} → statement M
 weighted-sums-spec =
     tie.close (tie.spec
-    (λ c κs. search needs) (λ c κs. search needs) (λ c κs. search needs)  -- has-length-requires, has-length-requires-2, has-length-requires-3
-    (λ c κs. search needs) (λ c. search needs) (λ c. search needs) (λ c. search needs)  -- check-sizes-requires, enum-told, enum-told-2, same-length
-    returns fill-requires
-    (λ c. search needs)  -- same-length-2
-    returns-2
-    (λ c κs. search needs) (λ c. search needs)  -- clear-requires, same-length-3
-    returns-3)
+    (λ c κs. search needs) (λ c. search needs)  -- new-sums-requires, same-length
+    (λ c. let w = c .before .before in let x = w .before .before .before .before .before .before .args in
+    let all = new-sums-all (x .sums) (x .points) (x .orbitals) (now (x .times)) (now (x .left)) (now (x .right)) (now (x .out)) in
+    (w .new-sums .ensures .0 ∙ ap (λ (o : SumsOutcome). o .answer) all, w .new-sums .ensures .1 ∙ ap (λ (o : SumsOutcome). o .out) all)))  -- returns

@@ -1,6 +1,6 @@
 -- `sums::forward::blocks` meets its contract: after the groups before u the first u blocks of row t are finite and written, and the rows before are as they were.
 -- Assumes nothing.
-use Rattle.lists.specs.Prelude.{_≡_, refl, sym, ap, _∙_, true, List, [], _∷_, ℕ, _+_, _-_, _*_, _≤_, le-antisymm, zero-mul, arith, length, Float, now, needs, not-true}
+use Rattle.lists.specs.Prelude.{_≡_, refl, sym, ap, _∙_, true, List, [], _∷_, ℕ, _+_, _-_, _*_, _≤_, le-refl, le-antisymm, mul-le-mul-right, zero-mul, arith, length, Float, nan, now, needs, not-true}
 use Rattle.lists.specs.Prelude.{not-false, putMid, put-same}
 use Rattle.lists.specs.Indexed.{allBelow, join}
 use Rattle.lists.specs.Agreement.{never, all-agree, join-agree}
@@ -10,7 +10,7 @@ use Rattle.two_time.specs.SizeChecks.{SizesPassed, sizes-passed, sizes-pass, lo
 use Rattle.groups.specs.Forward.{forwardFinite, forwardBlock, rowAt, Sizes, sizes-of}
 use Rattle.groups.specs.Groups.{Grouped, forward-finite, forward-overflow}
 use Rattle.lanes.specs.Filled.{all-add, all-failed}
-use Rattle.sums.specs.Forward.{same-finite, same-block, forward-more}
+use Rattle.sums.specs.Forward.{same-finite, same-block, forward-more, length-forward, put-within, group-within, to-diagonal}
 use Rattle.sums.proofs.forward.blocks.Statement.{statement}
 use Rattle.sums.proofs.forward.blocks.Tie as tie
 
@@ -80,12 +80,30 @@ made w =
     let l = w .before .before in let s = start l in let x = s .args in let u = l .loop .u in
     join-agree _ _ _ (λ p hp. same-block (x .points) (x .orbitals) (now (x .times)) (now (x .free)) (now (x .kernel)) (now (x .retarded)) (x .t) (s .pre .0) (omega (arith, row s .row)) (u * (2 * (x .orbitals * x .orbitals))) (join u (forwardBlock (x .points) (x .orbitals) (now (x .times)) (now (x .free)) (now (x .kernel)) (now (x .retarded)) (x .t))) (l .loop .retarded) (l .loop .inv .3) (u + p) (omega (arith, hp, part w .0 .fit)))
 
+-- row t to the diagonal lies within the slice
+fit : (s : tie.Start Inv-loop μ-loop) → let x = s .args in rowAt (x .points) (x .orbitals) (x .t) + (x .t + 1) * (2 * (x .orbitals * x .orbitals)) ≤ length (now (x .retarded))
+fit s = omega (arith, row s .row, to-diagonal (s .args .points) (2 * (s .args .orbitals * s .args .orbitals)) (s .args .t) (s .pre .0))
+
+-- what stands elsewhere is as it was
+elsewhere : (l : tie.At-loop Inv-loop μ-loop) (ys : List Float) → let x = start l .args in let r = rowAt (x .points) (x .orbitals) (x .t) in let k = (x .t + 1) * (2 * (x .orbitals * x .orbitals)) in
+    putMid r k (l .loop .retarded) ys ≡ putMid r k (now (x .retarded)) ys
+elsewhere l ys =
+    let s = start l in let x = s .args in let n = x .orbitals in let v = 2 * (n * n) in let u = l .loop .u in let r = rowAt (x .points) n (x .t) in
+    let blocks = join u (forwardBlock (x .points) n (now (x .times)) (now (x .free)) (now (x .kernel)) (now (x .retarded)) (x .t)) in
+    ap (λ (xs : List Float). putMid r ((x .t + 1) * v) xs ys) (l .loop .inv .3)
+    ∙ put-within r ((x .t + 1) * v) r (u * v) (now (x .retarded)) blocks ys nan (fit s) (le-refl r) (omega (arith, mul-le-mul-right v (l .loop .inv .0)))
+    (length-forward (x .points) n (now (x .times)) (now (x .free)) (now (x .kernel)) (now (x .retarded)) (x .t) u)
+
 returns : tie.Need-returns Inv-loop μ-loop
 returns c =
     let f = c .before in let k = f .before .before .before in let w = k .before .before in let l = w .before .before in let s = start l in
     let x = s .args in let u = l .loop .u in let m = w .group-places .result in let z = part w in
-    let failed = forward-overflow (x .points) (x .orbitals) (now (x .times)) (now (x .free)) (now (x .kernel)) (l .loop .retarded) (x .t) u m (z .0) (z .1) (still l) _ _ (k .forward-group .ensures .0) (k .forward-group .ensures .1) (sym (f .is-finite .ensures) ∙ not-true _ (c .if1 .taken)) in
-    (sym (all-failed (forwardFinite (x .points) (x .orbitals) (now (x .times)) (now (x .free)) (now (x .kernel)) (now (x .retarded)) (x .t)) u m (x .t + 1) (z .1) (sym (fines w) ∙ failed)), λ h. never h)
+    let failed = forward-overflow (x .points) (x .orbitals) (now (x .times)) (now (x .free)) (now (x .kernel)) (l .loop .retarded) (x .t) u m (z .0) (z .1) (still l) _ _ (k .forward-group .ensures .0) (k .forward-group .ensures .1) (sym (f .is-finite .ensures) ∙ not-true _ (c .if1 .taken)) in (
+      sym (all-failed (forwardFinite (x .points) (x .orbitals) (now (x .times)) (now (x .free)) (now (x .kernel)) (now (x .retarded)) (x .t)) u m (x .t + 1) (z .1) (sym (fines w) ∙ failed)),
+      (λ h. never h),
+      λ ys. ap (λ (xs : List Float). putMid (rowAt (x .points) (x .orbitals) (x .t)) ((x .t + 1) * (2 * (x .orbitals * x .orbitals))) xs ys) (k .forward-group .ensures .1)
+          ∙ group-within (x .points) (x .orbitals) (now (x .times)) (now (x .free)) (now (x .kernel)) (l .loop .retarded) (x .t) u m ys (omega (arith, fit s, l .loop .inv .1)) (z .1) ∙ elsewhere l ys,
+    )
 
 loop-again : tie.Need-loop-again Inv-loop μ-loop
 loop-again c =
@@ -108,7 +126,8 @@ returns-2 c =
     let l = c .before in let i = l .loop .inv in let x = start l .args in let n = x .orbitals in
     let e : l .loop .u ≡ x .t + 1 = le-antisymm (i .0) (omega (arith, c .loop-test .left)) in (
       sym (ap (λ (k : ℕ). allBelow k (forwardFinite (x .points) n (now (x .times)) (now (x .free)) (now (x .kernel)) (now (x .retarded)) (x .t))) (sym e) ∙ i .2),
-      λ h. i .3 ∙ ap (λ (k : ℕ). putMid (rowAt (x .points) n (x .t)) (k * (2 * (n * n))) (now (x .retarded)) (join k (forwardBlock (x .points) n (now (x .times)) (now (x .free)) (now (x .kernel)) (now (x .retarded)) (x .t)))) e,
+      (λ h. i .3 ∙ ap (λ (k : ℕ). putMid (rowAt (x .points) n (x .t)) (k * (2 * (n * n))) (now (x .retarded)) (join k (forwardBlock (x .points) n (now (x .times)) (now (x .free)) (now (x .kernel)) (now (x .retarded)) (x .t)))) e),
+      elsewhere l,
     )
 
 pub blocks-spec : {M : Type 1} → statement M
