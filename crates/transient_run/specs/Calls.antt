@@ -1,18 +1,24 @@
--- Document 01, transient: the outcome of a transient run. "The device starts empty."
-use Rattle.lists.specs.Prelude.{ℕ, Bool, _&&_, List, [], _∷_, Float}
+-- Document 01, transient: the outcome of a transient run, "The device starts empty."; document 02, L1: in slices laid out for a capacity, and of an append.
+use Rattle.lists.specs.Prelude.{ℕ, suc, Bool, _&&_, List, [], _∷_, eqb, length, Float}
 use Rattle.refusal.specs.declared.Verdict.{Verdict}
 use Rattle.refusal.specs.declared.Verdict.the-variants.{Pass, Refused}
 use Rattle.refusal.specs.Verdict.{_then_, zeroed, afterwards}
 use Rattle.refusal.specs.Checks.{finiteWork}
+use Rattle.grid.specs.Calls.{gridChecks}
+use Rattle.two_time.specs.declared.capacity.Shape.{Shape}
 use Rattle.two_time.specs.declared.sums.Sums.the-variants.{LesserAdvanced, Lesser}
-use Rattle.two_time.specs.Sums.{sumsNumbers, sumsFinite}
-use Rattle.dyson.specs.Calls.{Equation, equationOf, kernelOf, retardedOf, solvedFinite, checksBefore}
+use Rattle.two_time.specs.Layout.{readAs}
+use Rattle.two_time.specs.New.{clearedNew}
+use Rattle.two_time.specs.Sums.{newNumbers, newFinite}
+use Rattle.two_time.specs.Calls.{capacityChecks, pointOperands}
+use Rattle.dyson.specs.Calls.{supportChecks, newKernel, newGreen, solvedNewFinite}
 use Rattle.transient_run.specs.declared.Solved.{Solved}
 use Rattle.transient_run.specs.declared.Solved.the-variants.{Accepted, Refused as NotSolved}
 
--- What a run is given, "Operands: free, retarded self-energy, Σ^<", and what its outputs and scratch hold before
+-- What a call is given: how many points it is told, the capacity, "Operands: free, retarded self-energy, Σ^<", and what its outputs and scratch hold before
 pub record Run : Type 0 where
   pub points : ℕ
+  pub capacity : ℕ
   pub orbitals : ℕ
   pub tolerance : Float
   pub times : List Float
@@ -25,11 +31,12 @@ pub record Run : Type 0 where
   pub lesserAdvanced : List Float
 
 -- the run of a call
-abbrev pub runOf : ℕ → ℕ → Float → List Float → List Float → List Float → List Float → List Float → List Float → List Float → List Float → Run
-runOf points orbitals tolerance times free selfEnergy lesserSelfEnergy retarded lesser kernel lesserAdvanced =
+abbrev pub runOf : Shape → Float → List Float → List Float → List Float → List Float → List Float → List Float → List Float → List Float → Run
+runOf shape tolerance times free selfEnergy lesserSelfEnergy retarded lesser kernel lesserAdvanced =
     record {
-      points = points;
-      orbitals = orbitals;
+      points = shape .points;
+      capacity = shape .capacity;
+      orbitals = shape .orbitals;
       tolerance = tolerance;
       times = times;
       free = free;
@@ -58,43 +65,55 @@ unfoldable pub solvedNumber : Solved → ℕ
 solvedNumber Accepted = 0
 solvedNumber (NotSolved r) = r .number
 
-module _ (r : Run) where
-  abbrev pub equationOfRun : Equation
-  equationOfRun = equationOf (r .points) (r .orbitals) (r .times) (r .free) (r .selfEnergy)
+-- A call that works out the places whose larger index is at least `old` and below `points`. Document 02, L1: "Old entries of K, G^R, X and G^< are read
+-- as the buffers hold them, whatever that is, and stay": each of the four is made of what stands in the slices before it.
+module _ (old points : ℕ) (r : Run) where
+  abbrev pub kernelMade : List Float
+  kernelMade = newKernel (r .capacity) (r .orbitals) old points (r .times) (r .free) (r .selfEnergy) (r .retarded) (r .kernel)
 
-  -- K, G^R, X and G^<, each made of what stands in the slices before it
-  abbrev pub kernelOfRun : List Float
-  kernelOfRun = kernelOf equationOfRun
+  abbrev pub retardedMade : List Float
+  retardedMade = newGreen (r .capacity) (r .orbitals) old points (r .times) (r .free) (r .selfEnergy) (r .retarded) (r .kernel)
 
-  abbrev pub retardedOfRun : List Float
-  retardedOfRun = retardedOf equationOfRun
+  abbrev pub lesserAdvancedMade : List Float
+  lesserAdvancedMade = newNumbers LesserAdvanced (r .capacity) (r .orbitals) old points (r .times) (r .lesserSelfEnergy) retardedMade (r .lesserAdvanced)
 
-  abbrev pub lesserAdvancedOfRun : List Float
-  lesserAdvancedOfRun = sumsNumbers LesserAdvanced (r .points) (r .orbitals) (r .times) (r .lesserSelfEnergy) retardedOfRun
-
-  abbrev pub lesserOfRun : List Float
-  lesserOfRun = sumsNumbers Lesser (r .points) (r .orbitals) (r .times) retardedOfRun lesserAdvancedOfRun
+  abbrev pub lesserMade : List Float
+  lesserMade = newNumbers Lesser (r .capacity) (r .orbitals) old points (r .times) retardedMade lesserAdvancedMade (r .lesser)
 
   -- every block made for the four is finite
-  unfoldable pub runFinite : Bool
-  runFinite =
-      solvedFinite equationOfRun
-      && (sumsFinite LesserAdvanced (r .points) (r .orbitals) (r .times) (r .lesserSelfEnergy) retardedOfRun && sumsFinite Lesser (r .points) (r .orbitals) (r .times) retardedOfRun lesserAdvancedOfRun)
+  unfoldable pub madeFinite : Bool
+  madeFinite =
+      solvedNewFinite (r .capacity) (r .orbitals) old points (r .times) (r .free) (r .selfEnergy) (r .retarded) (r .kernel)
+      && (newFinite LesserAdvanced (r .capacity) (r .orbitals) old points (r .times) (r .lesserSelfEnergy) retardedMade
+      && newFinite Lesser (r .capacity) (r .orbitals) old points (r .times) retardedMade lesserAdvancedMade)
 
-  -- checks 1 to 7, then as Dyson asks: 8, 9 for free, 9 for the retarded self-energy
-  abbrev pub runChecks : Verdict
-  runChecks = checksBefore equationOfRun (r .tolerance) (r .lesserSelfEnergy ∷ []) (r .retarded ∷ r .lesser ∷ r .kernel ∷ r .lesserAdvanced ∷ [])
+  -- checks 1, 2, 3 and 16; "Lines 4 to 9 are asked over all points": 4 to 7, then as Dyson asks: 8, 9 for free, 9 for the retarded self-energy
+  unfoldable pub checksOf : Verdict
+  checksOf =
+      capacityChecks (r .capacity) points (r .orbitals) (eqb (length (r .times)) (r .capacity))
+      (r .free ∷ r .selfEnergy ∷ r .lesserSelfEnergy ∷ r .retarded ∷ r .lesser ∷ r .kernel ∷ r .lesserAdvanced ∷ [])
+      then gridChecks points (r .times) then pointOperands (r .capacity) points (r .orbitals) 0 (r .free ∷ r .selfEnergy ∷ r .lesserSelfEnergy ∷ [])
+      then supportChecks points (r .orbitals) (r .tolerance) (readAs (r .capacity) (r .orbitals) (r .free)) (readAs (r .capacity) (r .orbitals) (r .selfEnergy))
 
   -- and 10
-  unfoldable pub runVerdict : Verdict
-  runVerdict = runChecks then finiteWork runFinite
+  unfoldable pub verdictOf : Verdict
+  verdictOf = checksOf then finiteWork madeFinite
 
-  unfoldable pub transientRun : Outcome
-  transientRun =
+  -- the answer, and what each slice holds afterwards, where 10 leaves it `cleared`
+  unfoldable pub worked : (List Float → List Float) → Outcome
+  worked cleared =
       record {
-        answer = solved runVerdict;
-        retarded = afterwards zeroed runVerdict retardedOfRun (r .retarded);
-        lesser = afterwards zeroed runVerdict lesserOfRun (r .lesser);
-        kernel = afterwards zeroed runVerdict kernelOfRun (r .kernel);
-        lesserAdvanced = afterwards zeroed runVerdict lesserAdvancedOfRun (r .lesserAdvanced);
+        answer = solved verdictOf;
+        retarded = afterwards cleared verdictOf retardedMade (r .retarded);
+        lesser = afterwards cleared verdictOf lesserMade (r .lesser);
+        kernel = afterwards cleared verdictOf kernelMade (r .kernel);
+        lesserAdvanced = afterwards cleared verdictOf lesserAdvancedMade (r .lesserAdvanced);
       }
+
+-- `transient_run`: all places of the points. "After 10 every output and scratch slice holds +0 throughout", room included.
+unfoldable pub transientRun : Run → Outcome
+transientRun r = worked 0 (r .points) r zeroed
+
+-- `append_point`: one point more than it is told. "On an append's 10 the new row and column hold +0 and the rest is untouched"
+unfoldable pub appendPoint : Run → Outcome
+appendPoint r = worked (r .points) (suc (r .points)) r (clearedNew (r .capacity) (r .orbitals) (r .points) (suc (r .points)))

@@ -3,18 +3,24 @@ use Rattle.lists.specs.Prelude.{_≡_, refl, List, [], _∷_, _++_, map, ℕ, r
 use lib.Ieee as Ieee
 use Rattle.complex.specs.Arithmetic.{plusZero, one}
 use Rattle.refusal.specs.Verdict.{by}
+use Rattle.refusal.specs.Checks.{withinCapacity}
 use Rattle.two_time.specs.declared.sums.Sums.the-variants.{LesserAdvanced, Lesser}
 use Rattle.two_time.specs.Sums.{sumsNumbers}
+use Rattle.two_time.specs.New.{isNew, written, everyNew}
+use Rattle.two_time.specs.Sums.{newNumbers, newFinite}
+use Rattle.two_time.specs.Calls.{capacityChecks, pointEntries, pointOperands}
 use Rattle.two_time.specs.Computation.{computation}
 use Rattle.two_time.specs.Example as Example
 use Rattle.two_time.specs.Example.{floats, bits}
+use Rattle.dyson.specs.Retarded.{retardedOnward, newRetarded, newRetardedFinite}
+use Rattle.dyson.specs.Calls.{solvedNewFinite}
 use Rattle.dyson.specs.Cases.{dysonComputation}
 use Rattle.transient_run.specs.declared.Solved.the-variants.{Accepted, Refused as NotSolved}
-use Rattle.transient_run.specs.Calls.{Run, runOf, solved, solvedNumber, runFinite, runVerdict, transientRun}
+use Rattle.transient_run.specs.Calls.{Run, runOf, solved, solvedNumber, madeFinite, checksOf, verdictOf, worked, transientRun, appendPoint}
 
--- what cases of runs compute with
+-- what cases of runs and appends compute with
 unfoldable pub runComputation : Unit {0}
-unfolding dysonComputation transientRun runVerdict runFinite solved solvedNumber
+unfolding dysonComputation isNew written everyNew newNumbers newFinite newRetarded newRetardedFinite retardedOnward solvedNewFinite withinCapacity capacityChecks pointEntries pointOperands solved solvedNumber madeFinite checksOf verdictOf worked transientRun appendPoint
 runComputation = tt
 
 -- ---- two orbitals, from the retarded function that the Dyson case gives
@@ -40,7 +46,7 @@ abbrev ones : List Float
 ones = replicate 8 one
 
 abbrev on : List Float → Float → List Float → List Float → List Float → Run
-on times tolerance free selfEnergy lesserSelfEnergy = runOf 2 1 tolerance times free selfEnergy lesserSelfEnergy ones ones ones ones
+on times tolerance free selfEnergy lesserSelfEnergy = runOf (record { points = 2; capacity = 2; orbitals = 1 }) tolerance times free selfEnergy lesserSelfEnergy ones ones ones ones
 
 abbrev run : Float → List Float → List Float → List Float → Run
 run = on (plusZero ∷ one ∷ [])

@@ -1,18 +1,22 @@
 -- P12 of document 01, made stage by stage: each stage is computed from what the stage before it left. Assumes nothing.
-use Rattle.lists.specs.Prelude.{_≡_, refl, true, List, [], _∷_, ℕ, length, Float}
+use Rattle.lists.specs.Prelude.{_≡_, refl, ap, _∙_, true, List, [], _∷_, ℕ, length, Float}
 use Rattle.refusal.specs.declared.Verdict.the-variants.{Pass}
 use Rattle.refusal.specs.Verdict.{ask, _then_, afterwards}
-use Rattle.refusal.specs.Checks.{finiteWork}
+use Rattle.refusal.specs.Checks.{finiteWork, withinCapacity}
+use Rattle.grid.specs.Calls.{gridChecks}
 use Rattle.two_time.specs.declared.sums.Sums.the-variants.{Causal, LesserAdvanced, Lesser}
 use Rattle.two_time.specs.Layout.{readAs}
 use Rattle.two_time.specs.Sums.{sumsNumbers, sumsFinite}
-use Rattle.two_time.specs.Calls.{inputChecks}
+use Rattle.two_time.specs.Sums.{newNumbers}
+use Rattle.two_time.specs.Calls.{capacityChecks, pointEntries, pointOperands}
+use Rattle.two_time.specs.Outcome.{all-finite, all-numbers}
 use Rattle.two_time.specs.Computation.{computation}
 use Rattle.two_time.specs.Example.{floats}
-use Rattle.dyson.specs.Retarded.{solve, retardedRetarded, retardedNumbers, retardedFinite}
-use Rattle.dyson.specs.Calls.{supportChecks, solvedFinite}
+use Rattle.dyson.specs.Retarded.{solve, retardedOnward, retardedNumbers, retardedFinite}
+use Rattle.dyson.specs.Calls.{supportChecks, newGreen, solvedFinite}
+use Rattle.dyson.specs.NewSolved.{finite-all, green-all}
 use Rattle.transient_run.specs.declared.Solved.the-variants.{Accepted}
-use Rattle.transient_run.specs.Calls.{Run, runOf, solved, runFinite, runVerdict, transientRun}
+use Rattle.transient_run.specs.Calls.{Run, runOf, solved, madeFinite, checksOf, verdictOf, worked, transientRun}
 
 -- 0, 1, 2
 abbrev pub times : List Float
@@ -61,7 +65,7 @@ unfolding computation
 kernel-stage = refl
 
 pub retarded-stage : retardedNumbers 3 1 times lower (floats kernelBits) ≡ floats retardedBits
-unfolding computation solve retardedRetarded retardedNumbers retardedFinite
+unfolding computation solve retardedOnward retardedNumbers retardedFinite
 retarded-stage = refl
 
 lesser-advanced-stage : sumsNumbers LesserAdvanced 3 1 times imaginary (floats retardedBits) ≡ floats lesserAdvancedBits
@@ -78,7 +82,7 @@ unfolding computation
 kernel-finite = refl
 
 pub retarded-finite : retardedFinite 3 1 times lower (floats kernelBits) ≡ true
-unfolding computation solve retardedRetarded retardedNumbers retardedFinite
+unfolding computation solve retardedOnward retardedNumbers retardedFinite
 retarded-finite = refl
 
 lesser-advanced-finite : sumsFinite LesserAdvanced 3 1 times imaginary (floats retardedBits) ≡ true
@@ -91,19 +95,42 @@ lesser-finite = refl
 
 -- the run, with outputs and scratch that hold `before`
 abbrev pub run : Float → List Float → Run
-run tolerance before = runOf 3 1 tolerance times lower lower imaginary before before before before
+run tolerance before = runOf (record { points = 3; capacity = 3; orbitals = 1 }) tolerance times lower lower imaginary before before before before
 
-inputs : (before : List Float) → length before ≡ 18 → inputChecks 3 1 times (lower ∷ lower ∷ imaginary ∷ []) (before ∷ before ∷ before ∷ before ∷ []) ≡ Pass
-unfolding computation
-inputs before h = rw h
+sizes : (before : List Float) → length before ≡ 18 → capacityChecks 3 3 1 true (lower ∷ lower ∷ imaginary ∷ before ∷ before ∷ before ∷ before ∷ []) ≡ Pass
+unfolding computation capacityChecks withinCapacity
+sizes before h = rw h
+
+inputs : (gridChecks 3 times ≡ Pass) × (pointOperands 3 3 1 0 (lower ∷ lower ∷ imaginary ∷ []) ≡ Pass)
+unfolding computation pointOperands pointEntries
+inputs = (refl, refl)
 
 module _ (tolerance : Float) (before : List Float) (long : length before ≡ 18) (passed : supportChecks 3 1 tolerance (readAs 3 1 lower) (readAs 3 1 lower) ≡ Pass) where
-  pub verdict : runVerdict (run tolerance before) ≡ Pass
-  unfolding runVerdict runFinite solvedFinite _then_ finiteWork ask
-  verdict = rw (inputs before long, passed, kernel-finite, kernel-stage, retarded-finite, retarded-stage, lesser-advanced-finite, lesser-advanced-stage, lesser-finite)
+  -- all places of slices laid out for the points
+  kernel-made : newNumbers Causal 3 1 0 3 times lower lower before ≡ floats kernelBits
+  kernel-made = all-numbers Causal 3 1 times lower lower before ∙ kernel-stage
+
+  retarded-made : newGreen 3 1 0 3 times lower lower before before ≡ floats retardedBits
+  retarded-made = green-all 3 1 times lower lower before before ∙ ap (retardedNumbers 3 1 times lower) kernel-stage ∙ retarded-stage
+
+  lesser-advanced-made : newNumbers LesserAdvanced 3 1 0 3 times imaginary (floats retardedBits) before ≡ floats lesserAdvancedBits
+  lesser-advanced-made = all-numbers LesserAdvanced 3 1 times imaginary (floats retardedBits) before ∙ lesser-advanced-stage
+
+  lesser-made : newNumbers Lesser 3 1 0 3 times (floats retardedBits) (floats lesserAdvancedBits) before ≡ floats lesserBits
+  lesser-made = all-numbers Lesser 3 1 times (floats retardedBits) (floats lesserAdvancedBits) before ∙ lesser-stage
+
+  finite : madeFinite 0 3 (run tolerance before) ≡ true
+  unfolding madeFinite solvedFinite
+  finite =
+      rw (retarded-made, lesser-advanced-made, finite-all 3 1 times lower lower before before, all-finite LesserAdvanced 3 1 times imaginary (floats retardedBits) before)
+      (rw (all-finite Lesser 3 1 times (floats retardedBits) (floats lesserAdvancedBits) before, kernel-finite, kernel-stage, retarded-finite, lesser-advanced-finite, lesser-finite))
+
+  pub verdict : verdictOf 0 3 (run tolerance before) ≡ Pass
+  unfolding verdictOf checksOf _then_ finiteWork ask
+  verdict = rw (finite, sizes before long, inputs .0, inputs .1, passed)
 
   -- "G^<(1,1) = 1.5625i, G^<(2,2) = 14.0625i", whatever tolerance passes checks 8 and 9
   pub outcome : transientRun (run tolerance before)
       ≡ record { answer = Accepted; retarded = floats retardedBits; lesser = floats lesserBits; kernel = floats kernelBits; lesserAdvanced = floats lesserAdvancedBits }
-  unfolding transientRun afterwards solved
-  outcome = rw (verdict, kernel-stage, retarded-stage, lesser-advanced-stage, lesser-stage)
+  unfolding transientRun worked afterwards solved
+  outcome = rw (verdict, retarded-made, lesser-advanced-made, lesser-made, kernel-made)

@@ -1,103 +1,117 @@
--- `transient_run::transient_run` meets its contract: refused, accepted, or 10 with all four slices cleared. Assumes nothing.
-use Rattle.lists.specs.Prelude.{_≡_, sym, ap, _∙_, List, [], _∷_, Float, now, needs}
-use Rattle.refusal.specs.Verdict.{zeroed}
-use Rattle.refusal.specs.Outcome.{unchanged, accepted, overflowed}
+-- `transient_run::transient_run` meets its contract: from 0 on, and 10 clears all four slices throughout. Assumes nothing.
+use Rattle.lists.specs.Prelude.{_≡_, refl, sym, ap, _∙_, Bool, true, false, cond, List, ℕ, eqb, eq-eqb, ne-eqb, arith, Float, now, needs}
+use Rattle.refusal.specs.declared.Refusal.{Refusal}
+use Rattle.refusal.specs.declared.Verdict.{Verdict}
+use Rattle.refusal.specs.declared.Verdict.the-variants.{Pass, Refused}
+use Rattle.refusal.specs.Verdict.{zeroed, afterwards}
+use Rattle.two_time.specs.New.{clearedNew}
 use Rattle.two_time.specs.Checks.{cleared}
-use Rattle.dyson.specs.Checks.{checks-keeping, checks-passed}
-use Rattle.transient_run.specs.declared.Solved.the-variants.{Refused as NotSolved}
-use Rattle.transient_run.specs.Calls.{Run, runOf, solved, equationOfRun, runFinite, runChecks, runVerdict, transientRun}
+use Rattle.transient_run.specs.declared.Solved.the-variants.{Accepted, Refused as NotSolved}
+use Rattle.transient_run.specs.Calls.{Run, runOf, solved, verdictOf, worked, transientRun}
 use Rattle.transient_run.proofs.transient_run.Statement.{statement}
 use Rattle.transient_run.proofs.transient_run.Tie as tie
 
-abbrev start : tie.After-checks → tie.Start
-start c = c .before .before .before .before .before .before .before .before .before .before .before .before .before .before
+-- the verdict, by the answer
+accepted-is : (v : Verdict) → Accepted ≡ solved v → v ≡ Pass
+unfolding solved
+accepted-is Pass e = refl
+accepted-is (Refused x) e = absurd (let z : _≡_ {A = ℕ} 0 1 = cc in omega arith)
 
-abbrev run : tie.After-checks → Run
+refused-is : (v : Verdict) (x : Refusal) → NotSolved x ≡ solved v → v ≡ Refused x
+unfolding solved
+refused-is Pass x e = absurd (let z : _≡_ {A = ℕ} 0 1 = cc in omega arith)
+refused-is (Refused y) x e = let same : y ≡ x = cc in ap Refused same
+
+-- what a slice holds by a verdict that is known
+module _ (clear : List Float → List Float) (v : Verdict) (made before : List Float) {after : List Float} (left : after ≡ afterwards clear v made before) where
+  stays : v ≡ Pass → after ≡ afterwards zeroed v made before
+  unfolding afterwards
+  stays p = left ∙ rw p
+
+  module _ (x : Refusal) (p : v ≡ Refused x) where
+    not-ten : eqb (x .number) 10 ≡ false → after ≡ afterwards zeroed v made before
+    unfolding afterwards
+    not-ten n = left ∙ rw (p, n)
+
+ten : (v : Verdict) (made before : List Float) {after : List Float} (x : Refusal) → v ≡ Refused x → eqb (x .number) 10 ≡ true → after ≡ zeroed before → after ≡ afterwards zeroed v made before
+unfolding afterwards
+ten v made before x p n e = e ∙ rw (p, n)
+
+abbrev start : tie.After-solve → tie.Start
+start c = c .before .before .before .before .before .before .before .before .before .before .before .before .before
+
+abbrev run : tie.After-solve → Run
 run c =
     let x = start c .args in
-    runOf (x .points) (x .orbitals) (x .tolerance) (now (x .times)) (now (x .free)) (now (x .self-energy)) (now (x .lesser-self-energy)) (now (x .retarded)) (now (x .lesser)) (now (x .kernel)) (now (x .lesser-advanced))
+    runOf (x .shape) (x .tolerance) (now (x .times)) (now (x .free)) (now (x .self-energy)) (now (x .lesser-self-energy)) (now (x .retarded)) (now (x .lesser)) (now (x .kernel)) (now (x .lesser-advanced))
 
-abbrev outputs : Run → List (List Float)
-outputs r = r .retarded ∷ r .lesser ∷ r .kernel ∷ r .lesserAdvanced ∷ []
+abbrev verdict : tie.After-solve → Verdict
+verdict c = verdictOf 0 (run c .points) (run c)
 
-checked : (c : tie.After-checks) → c .checks .result ≡ runChecks (run c)
-checked c = c .checks .ensures (outputs (run c)) (c .before .all-fit .ensures)
+abbrev clear : tie.After-solve → List Float → List Float
+clear c = let r = run c in clearedNew (r .capacity) (r .orbitals) 0 (r .points)
 
-abbrev worked : tie.After-work → tie.After-enum-told
-worked w = w .before .before .before .before .before
-
-work-requires : tie.Need-work-requires
-work-requires c κs =
-    let e = c .before .before .before .before in
-    let l = e .before .before in
-    let r = run l in
-    checks-passed (equationOfRun r) (r .tolerance) (r .lesserSelfEnergy ∷ []) (outputs r) (sym (checked l) ∙ e .enum-told .given .1)
+abbrev solving : tie.After-slice-known8 → tie.After-solve
+solving c = c .before .before .before .before .before .before .before .before
 
 returns : tie.Need-returns
-unfolding transientRun runVerdict solved
+unfolding transientRun worked
 returns c =
-    let w = c .before .before .before .before .before .before .before .before .before in
-    let told = worked w in
-    let l = told .before .before in
-    let t = w .work .ensures (run l .tolerance) in
-    let e = accepted zeroed (checked l) (runFinite (run l)) (told .enum-told .given .1) (sym (t .0) ∙ c .if1 .taken) in
-    let made = t .1 (c .if1 .taken) in
-    (ap solved (e .answered), made .0 ∙ e .slice _ _, made .1 ∙ e .slice _ _, made .2 ∙ e .slice _ _, made .3 ∙ e .slice _ _)
+    let s = solving (c .before .before) in
+    let o = s .solve .ensures in
+    let told = c .enum-told .given .1 in
+    let p = accepted-is (verdict s) (sym told ∙ o .0) in
+    (sym told ∙ o .0, stays (clear s) (verdict s) _ _ (o .1) p, stays (clear s) (verdict s) _ _ (o .2) p, stays (clear s) (verdict s) _ _ (o .3) p, stays (clear s) (verdict s) _ _ (o .4) p)
 
 returns-2 : tie.Need-returns-2
-unfolding transientRun runVerdict solved
+unfolding transientRun worked
 returns-2 c =
-    let l = c .before .before .before in
-    let refused = c .before .verdict .given .1 in
-    let e = unchanged zeroed (checked l) (runFinite (run l)) (checks-keeping _ _ _ _) _ refused in
-    (ap solved (sym refused ∙ e .answered), e .slice _ _, e .slice _ _, e .slice _ _, e .slice _ _)
-
-returns-3 : tie.Need-returns-3
-unfolding transientRun runVerdict solved
-returns-3 c =
-    let fourth = c .before .before .before in
+    let fourth = c .before .before in
     let third = fourth .before .before .before .before in
     let second = third .before .before .before .before in
     let first = second .before .before .before .before in
     let test = first .before .before in
-    let w = test .before .before .before .before .before .before .before .before .before in
-    let told = worked w in
-    let l = told .before .before in
-    let e = overflowed zeroed (checked l) (runFinite (run l)) (told .enum-told .given .1) (sym (w .work .ensures (run l .tolerance) .0) ∙ test .if1 .left) in
-    let lengths = w .work .kept .1 .1 .1 .1 .1 .1 in (
-      ap NotSolved (c .by .ensures) ∙ ap solved (e .answered),
-      cleared (first .clear .ensures) (lengths .0) ∙ e .slice _ _,
-      cleared (second .clear2 .ensures) (lengths .1 .0) ∙ e .slice _ _,
-      cleared (third .clear3 .ensures) (lengths .1 .1 .0) ∙ e .slice _ _,
-      cleared (fourth .clear4 .ensures) (lengths .1 .1 .1 .0) ∙ e .slice _ _,
+    let k = test .before .before in
+    let s = solving (k .before .before .before) in
+    let o = s .solve .ensures in
+    let told = k .before .solved .given .1 in
+    let x = k .before .solved .given .0 .0 in
+    let p = refused-is (verdict s) x (sym told ∙ o .0) in
+    let n = eq-eqb (x .number) 10 (test .if1 .taken) in
+    let kept = s .solve .kept .1 .1 .1 .1 .1 .1 .1 in (
+      sym told ∙ o .0,
+      ten (verdict s) _ _ x p n (cleared (first .clear .ensures) (kept .0)),
+      ten (verdict s) _ _ x p n (cleared (second .clear2 .ensures) (kept .1 .0)),
+      ten (verdict s) _ _ x p n (cleared (third .clear3 .ensures) (kept .1 .1 .0)),
+      ten (verdict s) _ _ x p n (cleared (fourth .clear4 .ensures) (kept .1 .1 .1 .0)),
     )
+
+returns-3 : tie.Need-returns-3
+unfolding transientRun worked
+returns-3 c =
+    let k = c .before .before in
+    let s = solving (k .before .before .before) in
+    let o = s .solve .ensures in
+    let told = k .before .solved .given .1 in
+    let x = k .before .solved .given .0 .0 in
+    let p = refused-is (verdict s) x (sym told ∙ o .0) in
+    let n = ne-eqb (x .number) 10 (c .if1 .left) in
+    (sym told ∙ o .0, not-ten (clear s) (verdict s) _ _ (o .1) x p n, not-ten (clear s) (verdict s) _ _ (o .2) x p n, not-ten (clear s) (verdict s) _ _ (o .3) x p n, not-ten (clear s) (verdict s) _ _ (o .4) x p n)
 
 pub transient-run-spec : {M : Type 1} → statement M
 transient-run-spec =
     tie.close
     (tie.spec
-    (λ c κs. search needs)  -- all-fit-requires
-    (λ c κs. search needs)  -- checks-requires
-    (λ c. search needs)  -- enum-known-verdict
+    (λ c κs. search needs)  -- solve-requires
     (λ c. search needs)  -- enum-told
-    work-requires
-    (λ c. search needs)  -- same-length
-    (λ c. search needs)  -- same-length-2
-    (λ c. search needs)  -- same-length-3
-    (λ c. search needs)  -- same-length-4
-    returns
+    (λ c. search needs)  -- enum-known-solved
     (λ c κs. search needs)  -- clear-requires
     (λ c κs. search needs)  -- clear-requires-2
     (λ c κs. search needs)  -- clear-requires-3
     (λ c κs. search needs)  -- clear-requires-4
-    (λ c κs. search needs)  -- by-requires
-    (λ c. search needs)  -- same-length-5
-    (λ c. search needs)  -- same-length-6
-    (λ c. search needs)  -- same-length-7
-    (λ c. search needs)  -- same-length-8
+    (λ c. search needs) (λ c. search needs) (λ c. search needs) (λ c. search needs)  -- same-length .. same-length-4
+    returns
+    (λ c. search needs) (λ c. search needs) (λ c. search needs) (λ c. search needs)  -- same-length-5 .. same-length-8
     returns-2
-    (λ c. search needs)  -- same-length-9
-    (λ c. search needs)  -- same-length-10
-    (λ c. search needs)  -- same-length-11
-    (λ c. search needs)  -- same-length-12
+    (λ c. search needs) (λ c. search needs) (λ c. search needs) (λ c. search needs)  -- same-length-9 .. same-length-12
     returns-3)

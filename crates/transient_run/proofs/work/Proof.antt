@@ -1,55 +1,80 @@
 -- `transient_run::work` meets its contract: each step's answer says whether what it makes is finite. Assumes nothing.
-use Rattle.lists.specs.Prelude.{_≡_, sym, ap, ap₂, _∙_, Bool, true, false, cond, List, [], _∷_, arith, Float, now, needs, not-true, not-false}
+use Rattle.lists.specs.Prelude.{_≡_, refl, sym, ap, ap₂, _∙_, Bool, true, false, cond, _&&_, List, [], _∷_, leb, le-leb, arith, Float, now, needs, not-true, not-false}
 use Rattle.lists.specs.Agreement.{never}
-use Rattle.refusal.specs.Verdict.{zeroed}
-use Rattle.two_time.specs.declared.sums.Sums.the-variants.{LesserAdvanced, Lesser}
-use Rattle.two_time.specs.Sums.{sumsNumbers, sumsFinite}
-use Rattle.two_time.specs.Outcome.{sums-said}
-use Rattle.two_time.specs.SizeChecks.{SizesPassed}
+use Rattle.refusal.specs.declared.Verdict.the-variants.{Pass}
+use Rattle.two_time.specs.declared.sums.Sums.the-variants.{Causal, LesserAdvanced, Lesser}
+use Rattle.two_time.specs.New.{clearedNew}
+use Rattle.two_time.specs.Sums.{newNumbers, newFinite}
+use Rattle.two_time.specs.Calls.{sizeChecks}
+use Rattle.two_time.specs.Outcome.{flagged, new-sums-said}
+use Rattle.two_time.specs.SizeChecks.{SizesPassed, sizes-pass}
 use Rattle.two_time.specs.Lengths.{lengths, none-asked, also-asked}
-use Rattle.dyson.specs.Calls.{Equation, equationOf, kernelOf, retardedOf, solvedFinite}
-use Rattle.dyson.specs.Checks.{solved-said}
-use Rattle.transient_run.specs.Calls.{Run, runOf}
-use Rattle.transient_run.specs.Finite.{retarded-fails, lesser-advanced-fails, lesser-says}
+use Rattle.dyson.specs.Calls.{newKernel, newGreen}
+use Rattle.dyson.specs.NewSolved.{solved-new-said}
+use Rattle.transient_run.specs.Calls.{Run, runOf, retardedMade, kernelMade}
+use Rattle.transient_run.specs.Steps.{retardedIsFinite, retarded-fails, lesser-advanced-fails, lesser-says, sums-cleared, retarded-cleared}
 use Rattle.transient_run.proofs.work.Statement.{statement}
 use Rattle.transient_run.proofs.work.Tie as tie
-
-abbrev start : tie.After-solve-retarded → tie.Start
-start c = c .before .before .before .before .before .before .before .before .before .before .before
 
 abbrev run : tie.Start → Float → Run
 run s tolerance =
     let x = s .args in
-    runOf (x .points) (x .orbitals) tolerance (now (x .times)) (now (x .free)) (now (x .self-energy)) (now (x .lesser-self-energy)) (now (x .retarded)) (now (x .lesser)) (now (x .kernel)) (now (x .lesser-advanced))
+    runOf (x .shape) tolerance (now (x .times)) (now (x .free)) (now (x .self-energy)) (now (x .lesser-self-energy)) (now (x .retarded)) (now (x .lesser)) (now (x .kernel)) (now (x .lesser-advanced))
 
-abbrev equation : tie.Start → Equation
-equation s = let x = s .args in equationOf (x .points) (x .orbitals) (now (x .times)) (now (x .free)) (now (x .self-energy))
+-- slices of their length pass the sizes that a step asks
+asked : (s : tie.Start) (slices : List (List Float)) → let x = s .args in SizesPassed (x .shape .capacity) (x .shape .orbitals) true slices
+    → sizeChecks (x .shape .capacity) (x .shape .orbitals) (leb (x .old) (x .shape .points) && leb (x .shape .points) (x .shape .capacity)) slices ≡ Pass
+asked s slices z = flagged _ _ _ slices (rw (le-leb _ _ (s .pre .0), le-leb _ _ (s .pre .1))) (sizes-pass slices z (z .long))
+
+-- what is left of a slice once the new places are cleared
+abbrev cleared : tie.Start → List Float → List Float
+cleared s = let x = s .args in clearedNew (x .shape .capacity) (x .shape .orbitals) (x .old) (x .shape .points)
 
 -- K and G^R, by the first answer
-module _ (f : tie.After-is-finite) where
-  abbrev solved : tie.After-solve-retarded
+module _ (tolerance : Float) (f : tie.After-is-finite) where
+  abbrev solved : tie.After-solve-new
   solved = f .before .before .before .before .before
 
-  abbrev retarded : List Float
-  retarded = solved .solve-retarded .last .1 .1 .1 .1 .1 .0
-
   abbrev s : tie.Start
-  s = start solved
+  s = solved .before .before .before .before .before .before .before .before .before .before .before
 
-  retardeds : (ok : Bool) → f .is-finite .result ≡ ok → (solvedFinite (equation s) ≡ ok) × (retarded ≡ cond ok (retardedOf (equation s)) (zeroed (now (s .args .retarded))))
-      × (solved .solve-retarded .last .1 .1 .1 .1 .1 .1 .0 ≡ cond ok (kernelOf (equation s)) (zeroed (now (s .args .kernel))))
+  abbrev r : Run
+  r = run s tolerance
+
+  abbrev retarded : List Float
+  retarded = solved .solve-new .last .1 .1 .1 .1 .1 .0
+
+  abbrev kernel : List Float
+  kernel = solved .solve-new .last .1 .1 .1 .1 .1 .1 .0
+
+  retardeds : (ok : Bool) → ok ≡ f .is-finite .result → let x = s .args in
+      (retardedIsFinite (x .old) (x .shape .points) r ≡ ok) × (retarded ≡ cond ok (retardedMade (x .old) (x .shape .points) r) (cleared s (now (x .retarded))))
+      × (kernel ≡ cond ok (kernelMade (x .old) (x .shape .points) r) (cleared s (now (x .kernel))))
   retardeds ok e =
-      let l = lengths (s .pre) in
-      solved-said (equation s) (now (s .args .retarded)) (now (s .args .kernel))
-      (also-asked (omega arith) (also-asked (omega arith) (also-asked (omega arith) (also-asked (omega arith) (none-asked (s .pre))))))
-      (solved .solve-retarded .ensures) ok (sym e ∙ f .is-finite .ensures)
+      let x = s .args in
+      let z = s .pre .2 in
+      let l = lengths z in
+      solved-new-said (x .shape .capacity) (x .shape .orbitals) (x .old) (x .shape .points) (now (x .times)) (now (x .free)) (now (x .self-energy)) (now (x .retarded)) (now (x .kernel))
+      (asked s _ (also-asked (l .0) (also-asked (l .1 .0) (also-asked (l .1 .1 .1 .0) (also-asked (l .1 .1 .1 .1 .1 .0) (none-asked z)))))) (solved .solve-new .ensures) ok (e ∙ f .is-finite .ensures)
+
+  -- both are cleared to what they were
+  retardeds-gone : (cleared s retarded ≡ cleared s (now (s .args .retarded))) × (cleared s kernel ≡ cleared s (now (s .args .kernel)))
+  retardeds-gone =
+      let x = s .args in
+      let t = retardeds (f .is-finite .result) refl in (
+        retarded-cleared (x .shape .capacity) (x .shape .orbitals) (x .old) (x .shape .points) (now (x .times)) (now (x .free)) (kernelMade (x .old) (x .shape .points) r) (now (x .retarded)) (f .is-finite .result) (t .1),
+        sums-cleared (x .shape .capacity) (x .shape .orbitals) (x .old) (x .shape .points) Causal (now (x .times)) (now (x .free)) (now (x .self-energy)) (now (x .kernel)) (f .is-finite .result) (t .2),
+      )
 
 returns : tie.Need-returns
-returns c tolerance = let f = c .before in (retarded-fails (run (s f) tolerance) (retardeds f false (not-true _ (c .if1 .taken)) .0), λ h. never h)
+returns c tolerance =
+    let f = c .before in
+    let gone = retardeds-gone tolerance f in
+    (retarded-fails _ _ (r tolerance f) (retardeds tolerance f false (sym (not-true _ (c .if1 .taken))) .0), λ h. never h, gone .0, refl, gone .1, refl)
 
 -- X, by the second
-module _ (f₂ : tie.After-is-finite2) where
-  abbrev summed : tie.After-weighted-sums
+module _ (tolerance : Float) (f₂ : tie.After-is-finite2) where
+  abbrev summed : tie.After-new-sums
   summed = f₂ .before .before .before
 
   abbrev else1 : tie.Else1
@@ -58,25 +83,39 @@ module _ (f₂ : tie.After-is-finite2) where
   abbrev f : tie.After-is-finite
   f = else1 .before
 
-  first : (solvedFinite (equation (s f)) ≡ true) × (retarded f ≡ retardedOf (equation (s f))) × (solved f .solve-retarded .last .1 .1 .1 .1 .1 .1 .0 ≡ kernelOf (equation (s f)))
-  first = retardeds f true (not-false _ (else1 .if1 .left))
+  first : let x = s tolerance f .args in (retardedIsFinite (x .old) (x .shape .points) (r tolerance f) ≡ true) × (retarded tolerance f ≡ retardedMade (x .old) (x .shape .points) (r tolerance f)) × (kernel tolerance f ≡ kernelMade (x .old) (x .shape .points) (r tolerance f))
+  first = retardeds tolerance f true (sym (not-false _ (else1 .if1 .left)))
 
   abbrev lesserAdvanced : List Float
-  lesserAdvanced = summed .weighted-sums .last .1 .1 .1 .1 .1 .1 .0
+  lesserAdvanced = summed .new-sums .last .1 .1 .1 .1 .1 .1 .0
 
-  lesser-advanced-made : (ok : Bool) → f₂ .is-finite2 .result ≡ ok → let x = s f .args in
-      (sumsFinite LesserAdvanced (x .points) (x .orbitals) (now (x .times)) (now (x .lesser-self-energy)) (retarded f) ≡ ok)
-      × (lesserAdvanced ≡ cond ok (sumsNumbers LesserAdvanced (x .points) (x .orbitals) (now (x .times)) (now (x .lesser-self-energy)) (retarded f)) (zeroed (now (x .lesser-advanced))))
+  lesser-advanced-made : (ok : Bool) → ok ≡ f₂ .is-finite2 .result → let x = s tolerance f .args in
+      (newFinite LesserAdvanced (x .shape .capacity) (x .shape .orbitals) (x .old) (x .shape .points) (now (x .times)) (now (x .lesser-self-energy)) (retarded tolerance f) ≡ ok)
+      × (lesserAdvanced ≡ cond ok (newNumbers LesserAdvanced (x .shape .capacity) (x .shape .orbitals) (x .old) (x .shape .points) (now (x .times)) (now (x .lesser-self-energy)) (retarded tolerance f) (now (x .lesser-advanced))) (cleared (s tolerance f) (now (x .lesser-advanced))))
   lesser-advanced-made ok e =
-      let l = lengths (s f .pre) in
-      let long = solved f .solve-retarded .kept .1 .1 .1 .1 .1 .0 in
-      sums-said LesserAdvanced _ _ _ _ _ _ (also-asked (omega arith) (also-asked (omega arith) (also-asked (omega arith) (none-asked (s f .pre)))))
-      (summed .weighted-sums .ensures .0) (summed .weighted-sums .ensures .1) ok (sym e ∙ f₂ .is-finite2 .ensures)
+      let x = s tolerance f .args in
+      let z = s tolerance f .pre .2 in
+      let l = lengths z in
+      let long = solved tolerance f .solve-new .kept .1 .1 .1 .1 .1 .0 in
+      new-sums-said LesserAdvanced (x .shape .capacity) (x .shape .orbitals) (x .old) (x .shape .points) (now (x .times)) (now (x .lesser-self-energy)) (retarded tolerance f) (now (x .lesser-advanced))
+      (asked (s tolerance f) _ (also-asked (l .1 .1 .0) (also-asked (long ∙ l .1 .1 .1 .0) (also-asked (l .1 .1 .1 .1 .1 .1 .0) (none-asked z))))) (summed .new-sums .ensures) ok (e ∙ f₂ .is-finite2 .ensures)
+
+  lesser-advanced-gone : let x = s tolerance f .args in cleared (s tolerance f) lesserAdvanced ≡ cleared (s tolerance f) (now (x .lesser-advanced))
+  lesser-advanced-gone =
+      let x = s tolerance f .args in
+      sums-cleared (x .shape .capacity) (x .shape .orbitals) (x .old) (x .shape .points) LesserAdvanced (now (x .times)) (now (x .lesser-self-energy)) (retarded tolerance f) (now (x .lesser-advanced)) (f₂ .is-finite2 .result) (lesser-advanced-made (f₂ .is-finite2 .result) refl .1)
 
 returns-2 : tie.Need-returns-2
 returns-2 c tolerance =
     let f₂ = c .before in
-    (lesser-advanced-fails (run (s (f f₂)) tolerance) (first f₂ .0) (first f₂ .1) (lesser-advanced-made f₂ false (not-true _ (c .if2 .taken)) .0), λ h. never h)
+    let gone = retardeds-gone tolerance (f tolerance f₂) in (
+      lesser-advanced-fails _ _ (r tolerance (f tolerance f₂)) (first tolerance f₂ .0) (first tolerance f₂ .1) (lesser-advanced-made tolerance f₂ false (sym (not-true _ (c .if2 .taken))) .0),
+      λ h. never h,
+      gone .0,
+      refl,
+      gone .1,
+      lesser-advanced-gone tolerance f₂,
+    )
 
 -- G^<, by the last
 returns-3 : tie.Need-returns-3
@@ -84,37 +123,44 @@ returns-3 c tolerance =
     let w = c .before .before .before in
     let e = w .before .before .before .before in
     let f₂ = e .before in
-    let t = s (f f₂) in
-    let x = t .args in
-    let l = lengths (t .pre) in
-    let retarded-long = solved (f f₂) .solve-retarded .kept .1 .1 .1 .1 .1 .0 in
-    let lesser-advanced-long = summed f₂ .weighted-sums .kept .1 .1 .1 .1 .1 .1 .0 in
-    let g = first f₂ in
-    let m = lesser-advanced-made f₂ true (not-false _ (e .if2 .left)) in
-    let made = m .1 ∙ ap (sumsNumbers LesserAdvanced (x .points) (x .orbitals) (now (x .times)) (now (x .lesser-self-energy))) (g .1) in
-    let o = sums-said Lesser (x .points) (x .orbitals) (now (x .times)) (retarded (f f₂)) (lesserAdvanced f₂) (now (x .lesser))
-    (also-asked (omega arith) (also-asked (lesser-advanced-long ∙ l .1 .1 .1 .1 .1 .1 .0) (also-asked (omega arith) (none-asked (t .pre)))))
-    (w .weighted-sums2 .ensures .0) (w .weighted-sums2 .ensures .1) _ (c .is-finite3 .ensures) in (
-      lesser-says (run t tolerance) (g .0) (g .1) (m .0) made (o .0),
-      λ h. (g .1, (rw h at (o .1)) ∙ ap₂ (sumsNumbers Lesser (x .points) (x .orbitals) (now (x .times))) (g .1) made, g .2, made),
+    let g = f tolerance f₂ in
+    let t = s tolerance g in
+    let y = t .args in
+    let z = t .pre .2 in
+    let l = lengths z in
+    let retarded-long = solved tolerance g .solve-new .kept .1 .1 .1 .1 .1 .0 in
+    let lesser-advanced-long = summed tolerance f₂ .new-sums .kept .1 .1 .1 .1 .1 .1 .0 in
+    let one = first tolerance f₂ in
+    let m = lesser-advanced-made tolerance f₂ true (sym (not-false _ (e .if2 .left))) in
+    let numbers : List Float → List Float = λ xs. newNumbers LesserAdvanced (y .shape .capacity) (y .shape .orbitals) (y .old) (y .shape .points) (now (y .times)) (now (y .lesser-self-energy)) xs (now (y .lesser-advanced)) in
+    let made = m .1 ∙ ap numbers (one .1) in
+    let o = new-sums-said Lesser (y .shape .capacity) (y .shape .orbitals) (y .old) (y .shape .points) (now (y .times)) (retarded tolerance g) (lesserAdvanced tolerance f₂) (now (y .lesser))
+    (asked t _ (also-asked (retarded-long ∙ l .1 .1 .1 .0) (also-asked (lesser-advanced-long ∙ l .1 .1 .1 .1 .1 .1 .0) (also-asked (l .1 .1 .1 .1 .0) (none-asked z))))) (w .new-sums2 .ensures) (c .is-finite3 .result) (c .is-finite3 .ensures) in
+    let gone = retardeds-gone tolerance g in (
+      lesser-says _ _ (r tolerance g) (one .0) (one .1) (m .0) made (o .0),
+      λ h. (one .1, (rw h at (o .1)) ∙ ap₂ (λ (xs ys : List Float). newNumbers Lesser (y .shape .capacity) (y .shape .orbitals) (y .old) (y .shape .points) (now (y .times)) xs ys (now (y .lesser))) (one .1) made, one .2, made),
+      gone .0,
+      sums-cleared (y .shape .capacity) (y .shape .orbitals) (y .old) (y .shape .points) Lesser (now (y .times)) (retarded tolerance g) (lesserAdvanced tolerance f₂) (now (y .lesser)) (c .is-finite3 .result) (o .1),
+      gone .1,
+      lesser-advanced-gone tolerance f₂,
     )
 
 pub work-spec : {M : Type 1} → statement M
 work-spec =
     tie.close
     (tie.spec
-    (λ c κs. search needs)  -- solve-retarded-requires
+    (λ c κs. search needs)  -- solve-new-requires
     (λ c κs. search needs)  -- is-finite-requires
     (λ c. search needs)  -- same-length
     (λ c. search needs)  -- same-length-2
     returns
-    (λ c κs. search needs)  -- weighted-sums-requires
+    (λ c κs. search needs)  -- new-sums-requires
     (λ c κs. search needs)  -- is-finite-requires-2
     (λ c. search needs)  -- same-length-3
     (λ c. search needs)  -- same-length-4
     (λ c. search needs)  -- same-length-5
     returns-2
-    (λ c κs. search needs)  -- weighted-sums-requires-2
+    (λ c κs. search needs)  -- new-sums-requires-2
     (λ c κs. search needs)  -- is-finite-requires-3
     (λ c. search needs)  -- same-length-6
     (λ c. search needs)  -- same-length-7

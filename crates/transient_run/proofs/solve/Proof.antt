@@ -1,0 +1,120 @@
+-- `transient_run::solve` meets its contract: refused, accepted, or 10 with the new places of all four slices cleared. Assumes nothing.
+use Rattle.lists.specs.Prelude.{_≡_, sym, ap, _∙_, true, cond, List, [], _∷_, _≤_, le-leb, length, Float, now, needs}
+use Rattle.refusal.specs.Outcome.{unchanged, accepted, overflowed}
+use Rattle.two_time.specs.Layout.{lengthOf}
+use Rattle.two_time.specs.New.{clearedNew, fitsNew}
+use Rattle.two_time.specs.SizeChecks.{SizesPassed}
+use Rattle.two_time.specs.Lengths.{lengths}
+use Rattle.two_time.specs.Cleared.{fits-new}
+use Rattle.transient_run.specs.declared.Solved.the-variants.{Refused as NotSolved}
+use Rattle.transient_run.specs.Calls.{Run, runOf, solved, madeFinite, checksOf, verdictOf, worked}
+use Rattle.transient_run.specs.Checks.{slices, checks-keeping, checks-passed}
+use Rattle.transient_run.proofs.solve.Statement.{statement}
+use Rattle.transient_run.proofs.solve.Tie as tie
+
+abbrev start : tie.After-checks → tie.Start
+start c = c .before .before .before .before .before .before .before .before .before .before .before .before .before .before
+
+abbrev run : tie.After-checks → Run
+run c =
+    let x = start c .args in
+    runOf (x .shape) (x .tolerance) (now (x .times)) (now (x .free)) (now (x .self-energy)) (now (x .lesser-self-energy)) (now (x .retarded)) (now (x .lesser)) (now (x .kernel)) (now (x .lesser-advanced))
+
+-- what is left of a slice once the new places are cleared
+abbrev cleared : tie.After-checks → List Float → List Float
+cleared c = let x = start c .args in clearedNew (x .shape .capacity) (x .shape .orbitals) (x .old) (x .shape .points)
+
+checked : (c : tie.After-checks) → let x = start c .args in c .checks .result ≡ checksOf (x .old) (x .shape .points) (run c)
+checked c = let x = start c .args in c .checks .ensures (x .old) (now (x .retarded)) (now (x .lesser)) (now (x .kernel)) (now (x .lesser-advanced)) (c .before .all-fit .ensures)
+
+passed : (c : tie.After-enum-told) → let l = c .before .before in let x = start l .args in (2 ≤ x .shape .points) × (x .shape .points ≤ x .shape .capacity) × SizesPassed (x .shape .capacity) (x .shape .orbitals) true (slices (x .shape .points) (run l))
+passed c = let l = c .before .before in let x = start l .args in checks-passed (x .shape .points) (run l) (x .old) (sym (checked l) ∙ c .enum-told .given .1)
+
+-- a slice of its length is cleared
+clears : (c : tie.After-enum-told) (xs : List Float) → let l = c .before .before in let x = start l .args in length xs ≡ lengthOf (x .shape .capacity) (x .shape .orbitals)
+    → cond (fitsNew (x .shape .capacity) (x .shape .orbitals) (x .old) (x .shape .points) xs) (cleared l xs) xs ≡ cleared l xs
+clears c xs long =
+    let l = c .before .before in
+    let x = start l .args in
+    let z = passed c in
+    rw (fits-new (x .shape .capacity) (x .shape .orbitals) (x .old) (x .shape .points) xs (rw (le-leb _ _ (start l .pre), le-leb _ _ (z .1))) (z .2 .points-most) (z .2 .orbitals-most) long)
+
+abbrev told : tie.After-work → tie.After-enum-told
+told w = w .before .before .before .before .before
+
+work-requires : tie.Need-work-requires
+work-requires c κs = let e = c .before .before .before .before in let z = passed e in (start (e .before .before) .pre, z .1, z .2)
+
+returns : tie.Need-returns
+unfolding worked verdictOf solved
+returns c =
+    let w = c .before .before .before .before .before .before .before .before .before in
+    let e = told w in
+    let l = e .before .before in
+    let x = start l .args in
+    let t = w .work .ensures (x .tolerance) in
+    let end = accepted (cleared l) (checked l) (madeFinite (x .old) (x .shape .points) (run l)) (e .enum-told .given .1) (sym (t .0) ∙ c .if1 .taken) in
+    let made = t .1 (c .if1 .taken) in
+    (ap solved (end .answered), made .0 ∙ end .slice _ _, made .1 ∙ end .slice _ _, made .2 ∙ end .slice _ _, made .3 ∙ end .slice _ _)
+
+returns-2 : tie.Need-returns-2
+unfolding worked verdictOf solved
+returns-2 c =
+    let l = c .before .before .before in
+    let x = start l .args in
+    let refused = c .before .verdict .given .1 in
+    let end = unchanged (cleared l) (checked l) (madeFinite (x .old) (x .shape .points) (run l)) (checks-keeping (x .shape .points) (run l) (x .old)) _ refused in
+    (ap solved (sym refused ∙ end .answered), end .slice _ _, end .slice _ _, end .slice _ _, end .slice _ _)
+
+returns-3 : tie.Need-returns-3
+unfolding worked verdictOf solved
+returns-3 c =
+    let fourth = c .before .before .before in
+    let third = fourth .before .before .before .before in
+    let second = third .before .before .before .before in
+    let first = second .before .before .before .before in
+    let test = first .before .before in
+    let w = test .before .before .before .before .before .before .before .before .before in
+    let e = told w in
+    let l = e .before .before in
+    let x = start l .args in
+    let t = w .work .ensures (x .tolerance) in
+    let end = overflowed (cleared l) (checked l) (madeFinite (x .old) (x .shape .points) (run l)) (e .enum-told .given .1) (sym (t .0) ∙ test .if1 .left) in
+    let kept = w .work .kept .1 .1 .1 .1 .1 .1 in
+    let long = lengths (passed e .2) .1 .1 .1 in (
+      ap NotSolved (c .by .ensures) ∙ ap solved (end .answered),
+      first .clear-new .ensures ∙ clears e _ (kept .0 ∙ long .0) ∙ t .2 ∙ end .slice _ _,
+      second .clear-new2 .ensures ∙ clears e _ (kept .1 .0 ∙ long .1 .0) ∙ t .3 ∙ end .slice _ _,
+      third .clear-new3 .ensures ∙ clears e _ (kept .1 .1 .0 ∙ long .1 .1 .0) ∙ t .4 ∙ end .slice _ _,
+      fourth .clear-new4 .ensures ∙ clears e _ (kept .1 .1 .1 .0 ∙ long .1 .1 .1 .0) ∙ t .5 ∙ end .slice _ _,
+    )
+
+pub solve-spec : {M : Type 1} → statement M
+solve-spec =
+    tie.close
+    (tie.spec
+    (λ c κs. search needs)  -- all-fit-requires
+    (λ c κs. search needs)  -- checks-requires
+    (λ c. search needs)  -- enum-known-verdict
+    (λ c. search needs)  -- enum-told
+    work-requires
+    (λ c. search needs)  -- same-length
+    (λ c. search needs)  -- same-length-2
+    (λ c. search needs)  -- same-length-3
+    (λ c. search needs)  -- same-length-4
+    returns
+    (λ c κs. search needs)  -- clear-new-requires
+    (λ c κs. search needs)  -- clear-new-requires-2
+    (λ c κs. search needs)  -- clear-new-requires-3
+    (λ c κs. search needs)  -- clear-new-requires-4
+    (λ c κs. search needs)  -- by-requires
+    (λ c. search needs)  -- same-length-5
+    (λ c. search needs)  -- same-length-6
+    (λ c. search needs)  -- same-length-7
+    (λ c. search needs)  -- same-length-8
+    returns-2
+    (λ c. search needs)  -- same-length-9
+    (λ c. search needs)  -- same-length-10
+    (λ c. search needs)  -- same-length-11
+    (λ c. search needs)  -- same-length-12
+    returns-3)

@@ -1,0 +1,71 @@
+-- The checks of a call as the code makes them, what it says that they pass, and points past every capacity. Assumes nothing.
+use Rattle.lists.specs.Prelude.{_≡_, refl, sym, ap, _∙_, ⊎-elim, Bool, true, List, [], _∷_, ℕ, suc, _+_, _≤_, _<_, min, min-eq-left, min-eq-right, le-trans, le-refl, decLt, arith, add-one, leb, eqb, length, le-leb, Float}
+use Rattle.refusal.specs.declared.Refusal.{Refusal}
+use Rattle.refusal.specs.declared.Verdict.{Verdict}
+use Rattle.refusal.specs.declared.Verdict.the-variants.{Pass, Refused}
+use Rattle.refusal.specs.Verdict.{by, ask, _then_, afterwards}
+use Rattle.refusal.specs.Checks.{largeEnough, withinLimits, fitting, finiteWork, withinCapacity}
+use Rattle.refusal.specs.Agreement.{then-pass, then-agree, then-after, then-refused}
+use Rattle.refusal.specs.Unchanged.{Keeping, then-keeping, keeping-clears}
+use Rattle.grid.specs.Calls.{gridChecks}
+use Rattle.support.specs.Support.{checkInputs}
+use Rattle.two_time.specs.Layout.{readAs}
+use Rattle.two_time.specs.New.{clearedNew}
+use Rattle.two_time.specs.Calls.{capacityChecks, pointOperands, pointChecks}
+use Rattle.two_time.specs.SizeChecks.{SizesPassed, limited}
+use Rattle.two_time.specs.Checks.{times-keeping}
+use Rattle.two_time.specs.Lengths.{lengths, others-asked, none-asked, also-asked}
+use Rattle.two_time.specs.CapacityChecks.{capacity-passed, capacity-pass, capacity-keeping, operands-of-points-keeping, points-asked, points-last, points-more}
+use Rattle.dyson.specs.Calls.{supportChecks}
+use Rattle.dyson.specs.Checks.{support-keeping}
+use Rattle.transient_run.specs.Calls.{Run, Outcome, solved, kernelMade, retardedMade, lesserAdvancedMade, lesserMade, madeFinite, checksOf, verdictOf, worked, appendPoint}
+
+module _ (points : ℕ) (r : Run) where
+  abbrev operands : List (List Float)
+  operands = r .free ∷ r .selfEnergy ∷ r .lesserSelfEnergy ∷ []
+
+  abbrev pub slices : List (List Float)
+  slices = r .free ∷ r .selfEnergy ∷ r .lesserSelfEnergy ∷ r .retarded ∷ r .lesser ∷ r .kernel ∷ r .lesserAdvanced ∷ []
+
+  abbrev pub sizesAsked : Verdict
+  sizesAsked = capacityChecks (r .capacity) points (r .orbitals) (eqb (length (r .times)) (r .capacity)) slices
+
+  abbrev pub supportAsked : Verdict
+  supportAsked = supportChecks points (r .orbitals) (r .tolerance) (readAs (r .capacity) (r .orbitals) (r .free)) (readAs (r .capacity) (r .orbitals) (r .selfEnergy))
+
+  -- the sizes of a call that passes them
+  pub sizes-said : sizesAsked ≡ Pass → (2 ≤ points) × (points ≤ r .capacity) × SizesPassed (r .capacity) (r .orbitals) true slices
+  sizes-said h = let z = capacity-passed (r .capacity) points (r .orbitals) _ slices h in (z .0, z .1, others-asked (z .2) slices (z .2 .long))
+
+  module _ (old : ℕ) where
+    pub checks-keeping : Keeping (checksOf old points r)
+    unfolding checksOf
+    checks-keeping =
+        then-keeping (capacity-keeping (r .capacity) points (r .orbitals) _ slices)
+        (then-keeping (times-keeping points (r .orbitals) (r .times)) (then-keeping (operands-of-points-keeping (r .capacity) points (r .orbitals) 0 operands) (support-keeping points (r .orbitals) (r .tolerance) _ _)))
+
+    pub checks-passed : checksOf old points r ≡ Pass → (2 ≤ points) × (points ≤ r .capacity) × SizesPassed (r .capacity) (r .orbitals) true slices
+    unfolding checksOf
+    checks-passed h = sizes-said (then-pass sizesAsked _ h .0)
+
+    -- refused by its sizes
+    pub sizes-refused : {v : Verdict} {x : Refusal} → v ≡ sizesAsked → v ≡ Refused x → v ≡ checksOf old points r
+    unfolding checksOf
+    sizes-refused e h = h ∙ sym (then-refused sizesAsked _ _ (sym e ∙ h))
+
+    -- with its sizes passed; of each operand the code asks them again, which changes nothing
+    module _ {sizes : Verdict} (asked : sizes ≡ sizesAsked) (passed : sizes ≡ Pass) {grid first second third later entries support rest all : Verdict} where
+      pub checks-asked : grid ≡ gridChecks points (r .times)
+          → first ≡ pointChecks (r .capacity) points (r .orbitals) 0 (r .free) → second ≡ pointChecks (r .capacity) points (r .orbitals) 1 (r .selfEnergy) → third ≡ pointChecks (r .capacity) points (r .orbitals) 2 (r .lesserSelfEnergy)
+          → support ≡ checkInputs (r .capacity) points (r .orbitals) (r .free) (r .selfEnergy) (r .tolerance)
+          → later ≡ (second then third) → entries ≡ (first then later) → rest ≡ (entries then support) → all ≡ (grid then rest) → all ≡ checksOf old points r
+      unfolding checksOf checkInputs
+      checks-asked g a b c s el ee er e =
+          let z = sizes-said (sym asked ∙ passed) in
+          let l = lengths (z .2) in
+          let none = none-asked (z .2) in
+          let operands-are = points-more (r .capacity) points (r .orbitals) 0 (r .free) (r .selfEnergy ∷ r .lesserSelfEnergy ∷ []) _ _ _ (points-asked (r .capacity) points (r .orbitals) (z .0) (z .1) 0 (also-asked (l .0) none) a)
+          (points-more (r .capacity) points (r .orbitals) 1 (r .selfEnergy) (r .lesserSelfEnergy ∷ []) _ _ _ (points-asked (r .capacity) points (r .orbitals) (z .0) (z .1) 1 (also-asked (l .1 .0) none) b)
+          (points-last (r .capacity) points (r .orbitals) 2 (r .lesserSelfEnergy) _ (points-asked (r .capacity) points (r .orbitals) (z .0) (z .1) 2 (also-asked (l .1 .1 .0) none) c)) el) ee in
+          let support-is : support ≡ supportAsked = s ∙ then-after _ _ (capacity-pass (z .0) (z .1) (also-asked (l .0) (also-asked (l .1 .0) none))) in
+          e ∙ rw (g, er, operands-are, support-is) (sym (then-after sizesAsked _ (sym asked ∙ passed)))

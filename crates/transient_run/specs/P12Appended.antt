@@ -1,0 +1,145 @@
+-- P12 in a capacity of 4, to 2 points and then appended twice, made stage by stage; the room beyond the points holds 7+7i (reference/expected.py, case k).
+-- Assumes nothing.
+use Rattle.lists.specs.Prelude.{_≡_, refl, true, List, [], _∷_, ℕ, max, replicate, Float}
+use Rattle.two_time.specs.declared.sums.Sums.the-variants.{Causal, LesserAdvanced, Lesser}
+use Rattle.two_time.specs.New.{isNew, written, everyNew}
+use Rattle.two_time.specs.Sums.{newNumbers, newFinite}
+use Rattle.two_time.specs.Computation.{computation}
+use Rattle.two_time.specs.Example.{floats}
+use Rattle.dyson.specs.Retarded.{solve, retardedOnward, newRetarded, newRetardedFinite}
+
+-- 0, 1, 2, 3
+abbrev times : List Float
+times = floats (0 ∷ 0x3ff0000000000000 ∷ 0x4000000000000000 ∷ 0x4008000000000000 ∷ [])
+
+-- 1 on and below the diagonal, +0 above
+abbrev lower : List Float
+lower = floats (
+    0x3ff0000000000000 ∷ 0 ∷ 0 ∷ 0 ∷ 0 ∷ 0 ∷ 0 ∷ 0 ∷
+    0x3ff0000000000000 ∷ 0 ∷ 0x3ff0000000000000 ∷ 0 ∷ 0 ∷ 0 ∷ 0 ∷ 0 ∷
+    0x3ff0000000000000 ∷ 0 ∷ 0x3ff0000000000000 ∷ 0 ∷ 0x3ff0000000000000 ∷ 0 ∷ 0 ∷ 0 ∷
+    0x3ff0000000000000 ∷ 0 ∷ 0x3ff0000000000000 ∷ 0 ∷ 0x3ff0000000000000 ∷ 0 ∷ 0x3ff0000000000000 ∷ 0 ∷ [])
+
+-- i everywhere
+abbrev imaginary : List Float
+imaginary = floats (
+    0 ∷ 0x3ff0000000000000 ∷ 0 ∷ 0x3ff0000000000000 ∷ 0 ∷ 0x3ff0000000000000 ∷ 0 ∷ 0x3ff0000000000000 ∷
+    0 ∷ 0x3ff0000000000000 ∷ 0 ∷ 0x3ff0000000000000 ∷ 0 ∷ 0x3ff0000000000000 ∷ 0 ∷ 0x3ff0000000000000 ∷
+    0 ∷ 0x3ff0000000000000 ∷ 0 ∷ 0x3ff0000000000000 ∷ 0 ∷ 0x3ff0000000000000 ∷ 0 ∷ 0x3ff0000000000000 ∷
+    0 ∷ 0x3ff0000000000000 ∷ 0 ∷ 0x3ff0000000000000 ∷ 0 ∷ 0x3ff0000000000000 ∷ 0 ∷ 0x3ff0000000000000 ∷ [])
+
+-- what the slices hold before the run
+abbrev room : List Float
+room = floats (
+    0x401c000000000000 ∷ 0x401c000000000000 ∷ 0x401c000000000000 ∷ 0x401c000000000000 ∷ 0x401c000000000000 ∷ 0x401c000000000000 ∷ 0x401c000000000000 ∷ 0x401c000000000000 ∷
+    0x401c000000000000 ∷ 0x401c000000000000 ∷ 0x401c000000000000 ∷ 0x401c000000000000 ∷ 0x401c000000000000 ∷ 0x401c000000000000 ∷ 0x401c000000000000 ∷ 0x401c000000000000 ∷
+    0x401c000000000000 ∷ 0x401c000000000000 ∷ 0x401c000000000000 ∷ 0x401c000000000000 ∷ 0x401c000000000000 ∷ 0x401c000000000000 ∷ 0x401c000000000000 ∷ 0x401c000000000000 ∷
+    0x401c000000000000 ∷ 0x401c000000000000 ∷ 0x401c000000000000 ∷ 0x401c000000000000 ∷ 0x401c000000000000 ∷ 0x401c000000000000 ∷ 0x401c000000000000 ∷ 0x401c000000000000 ∷ [])
+
+abbrev twoKernel : List ℕ
+twoKernel =
+    0 ∷ 0 ∷ 0 ∷ 0 ∷ 0x401c000000000000 ∷ 0x401c000000000000 ∷ 0x401c000000000000 ∷ 0x401c000000000000 ∷
+    0x3ff0000000000000 ∷ 0 ∷ 0 ∷ 0 ∷ 0x401c000000000000 ∷ 0x401c000000000000 ∷ 0x401c000000000000 ∷ 0x401c000000000000 ∷
+    0x401c000000000000 ∷ 0x401c000000000000 ∷ 0x401c000000000000 ∷ 0x401c000000000000 ∷ 0x401c000000000000 ∷ 0x401c000000000000 ∷ 0x401c000000000000 ∷ 0x401c000000000000 ∷
+    0x401c000000000000 ∷ 0x401c000000000000 ∷ 0x401c000000000000 ∷ 0x401c000000000000 ∷ 0x401c000000000000 ∷ 0x401c000000000000 ∷ 0x401c000000000000 ∷ 0x401c000000000000 ∷ []
+
+abbrev twoRetarded : List ℕ
+twoRetarded =
+    0x3ff0000000000000 ∷ 0 ∷ 0 ∷ 0 ∷ 0x401c000000000000 ∷ 0x401c000000000000 ∷ 0x401c000000000000 ∷ 0x401c000000000000 ∷
+    0x3ff8000000000000 ∷ 0 ∷ 0x3ff0000000000000 ∷ 0 ∷ 0x401c000000000000 ∷ 0x401c000000000000 ∷ 0x401c000000000000 ∷ 0x401c000000000000 ∷
+    0x401c000000000000 ∷ 0x401c000000000000 ∷ 0x401c000000000000 ∷ 0x401c000000000000 ∷ 0x401c000000000000 ∷ 0x401c000000000000 ∷ 0x401c000000000000 ∷ 0x401c000000000000 ∷
+    0x401c000000000000 ∷ 0x401c000000000000 ∷ 0x401c000000000000 ∷ 0x401c000000000000 ∷ 0x401c000000000000 ∷ 0x401c000000000000 ∷ 0x401c000000000000 ∷ 0x401c000000000000 ∷ []
+
+abbrev twoLesserAdvanced : List ℕ
+twoLesserAdvanced =
+    0 ∷ 0 ∷ 0 ∷ 0x3ff4000000000000 ∷ 0x401c000000000000 ∷ 0x401c000000000000 ∷ 0x401c000000000000 ∷ 0x401c000000000000 ∷
+    0 ∷ 0 ∷ 0 ∷ 0x3ff4000000000000 ∷ 0x401c000000000000 ∷ 0x401c000000000000 ∷ 0x401c000000000000 ∷ 0x401c000000000000 ∷
+    0x401c000000000000 ∷ 0x401c000000000000 ∷ 0x401c000000000000 ∷ 0x401c000000000000 ∷ 0x401c000000000000 ∷ 0x401c000000000000 ∷ 0x401c000000000000 ∷ 0x401c000000000000 ∷
+    0x401c000000000000 ∷ 0x401c000000000000 ∷ 0x401c000000000000 ∷ 0x401c000000000000 ∷ 0x401c000000000000 ∷ 0x401c000000000000 ∷ 0x401c000000000000 ∷ 0x401c000000000000 ∷ []
+
+abbrev twoLesser : List ℕ
+twoLesser =
+    0 ∷ 0 ∷ 0 ∷ 0 ∷ 0x401c000000000000 ∷ 0x401c000000000000 ∷ 0x401c000000000000 ∷ 0x401c000000000000 ∷
+    0 ∷ 0 ∷ 0 ∷ 0x3ff9000000000000 ∷ 0x401c000000000000 ∷ 0x401c000000000000 ∷ 0x401c000000000000 ∷ 0x401c000000000000 ∷
+    0x401c000000000000 ∷ 0x401c000000000000 ∷ 0x401c000000000000 ∷ 0x401c000000000000 ∷ 0x401c000000000000 ∷ 0x401c000000000000 ∷ 0x401c000000000000 ∷ 0x401c000000000000 ∷
+    0x401c000000000000 ∷ 0x401c000000000000 ∷ 0x401c000000000000 ∷ 0x401c000000000000 ∷ 0x401c000000000000 ∷ 0x401c000000000000 ∷ 0x401c000000000000 ∷ 0x401c000000000000 ∷ []
+
+abbrev threeKernel : List ℕ
+threeKernel =
+    0 ∷ 0 ∷ 0 ∷ 0 ∷ 0 ∷ 0 ∷ 0x401c000000000000 ∷ 0x401c000000000000 ∷
+    0x3ff0000000000000 ∷ 0 ∷ 0 ∷ 0 ∷ 0 ∷ 0 ∷ 0x401c000000000000 ∷ 0x401c000000000000 ∷
+    0x4000000000000000 ∷ 0 ∷ 0x3ff0000000000000 ∷ 0 ∷ 0 ∷ 0 ∷ 0x401c000000000000 ∷ 0x401c000000000000 ∷
+    0x401c000000000000 ∷ 0x401c000000000000 ∷ 0x401c000000000000 ∷ 0x401c000000000000 ∷ 0x401c000000000000 ∷ 0x401c000000000000 ∷ 0x401c000000000000 ∷ 0x401c000000000000 ∷ []
+
+abbrev threeRetarded : List ℕ
+threeRetarded =
+    0x3ff0000000000000 ∷ 0 ∷ 0 ∷ 0 ∷ 0 ∷ 0 ∷ 0x401c000000000000 ∷ 0x401c000000000000 ∷
+    0x3ff8000000000000 ∷ 0 ∷ 0x3ff0000000000000 ∷ 0 ∷ 0 ∷ 0 ∷ 0x401c000000000000 ∷ 0x401c000000000000 ∷
+    0x400c000000000000 ∷ 0 ∷ 0x3ff8000000000000 ∷ 0 ∷ 0x3ff0000000000000 ∷ 0 ∷ 0x401c000000000000 ∷ 0x401c000000000000 ∷
+    0x401c000000000000 ∷ 0x401c000000000000 ∷ 0x401c000000000000 ∷ 0x401c000000000000 ∷ 0x401c000000000000 ∷ 0x401c000000000000 ∷ 0x401c000000000000 ∷ 0x401c000000000000 ∷ []
+
+abbrev threeLesserAdvanced : List ℕ
+threeLesserAdvanced =
+    0 ∷ 0 ∷ 0 ∷ 0x3ff4000000000000 ∷ 0 ∷ 0x400e000000000000 ∷ 0x401c000000000000 ∷ 0x401c000000000000 ∷
+    0 ∷ 0 ∷ 0 ∷ 0x3ff4000000000000 ∷ 0 ∷ 0x400e000000000000 ∷ 0x401c000000000000 ∷ 0x401c000000000000 ∷
+    0 ∷ 0 ∷ 0 ∷ 0x3ff4000000000000 ∷ 0 ∷ 0x400e000000000000 ∷ 0x401c000000000000 ∷ 0x401c000000000000 ∷
+    0x401c000000000000 ∷ 0x401c000000000000 ∷ 0x401c000000000000 ∷ 0x401c000000000000 ∷ 0x401c000000000000 ∷ 0x401c000000000000 ∷ 0x401c000000000000 ∷ 0x401c000000000000 ∷ []
+
+abbrev threeLesser : List ℕ
+threeLesser =
+    0 ∷ 0 ∷ 0 ∷ 0 ∷ 0 ∷ 0 ∷ 0x401c000000000000 ∷ 0x401c000000000000 ∷
+    0 ∷ 0 ∷ 0 ∷ 0x3ff9000000000000 ∷ 0 ∷ 0x4012c00000000000 ∷ 0x401c000000000000 ∷ 0x401c000000000000 ∷
+    0 ∷ 0 ∷ 0 ∷ 0x4012c00000000000 ∷ 0 ∷ 0x402c200000000000 ∷ 0x401c000000000000 ∷ 0x401c000000000000 ∷
+    0x401c000000000000 ∷ 0x401c000000000000 ∷ 0x401c000000000000 ∷ 0x401c000000000000 ∷ 0x401c000000000000 ∷ 0x401c000000000000 ∷ 0x401c000000000000 ∷ 0x401c000000000000 ∷ []
+
+abbrev fourKernel : List ℕ
+fourKernel =
+    0 ∷ 0 ∷ 0 ∷ 0 ∷ 0 ∷ 0 ∷ 0 ∷ 0 ∷
+    0x3ff0000000000000 ∷ 0 ∷ 0 ∷ 0 ∷ 0 ∷ 0 ∷ 0 ∷ 0 ∷
+    0x4000000000000000 ∷ 0 ∷ 0x3ff0000000000000 ∷ 0 ∷ 0 ∷ 0 ∷ 0 ∷ 0 ∷
+    0x4008000000000000 ∷ 0 ∷ 0x4000000000000000 ∷ 0 ∷ 0x3ff0000000000000 ∷ 0 ∷ 0 ∷ 0 ∷ []
+
+abbrev fourRetarded : List ℕ
+fourRetarded =
+    0x3ff0000000000000 ∷ 0 ∷ 0 ∷ 0 ∷ 0 ∷ 0 ∷ 0 ∷ 0 ∷
+    0x3ff8000000000000 ∷ 0 ∷ 0x3ff0000000000000 ∷ 0 ∷ 0 ∷ 0 ∷ 0 ∷ 0 ∷
+    0x400c000000000000 ∷ 0 ∷ 0x3ff8000000000000 ∷ 0 ∷ 0x3ff0000000000000 ∷ 0 ∷ 0 ∷ 0 ∷
+    0x4022000000000000 ∷ 0 ∷ 0x400c000000000000 ∷ 0 ∷ 0x3ff8000000000000 ∷ 0 ∷ 0x3ff0000000000000 ∷ 0 ∷ []
+
+abbrev fourLesserAdvanced : List ℕ
+fourLesserAdvanced =
+    0 ∷ 0 ∷ 0 ∷ 0x3ff4000000000000 ∷ 0 ∷ 0x400e000000000000 ∷ 0 ∷ 0x4024000000000000 ∷
+    0 ∷ 0 ∷ 0 ∷ 0x3ff4000000000000 ∷ 0 ∷ 0x400e000000000000 ∷ 0 ∷ 0x4024000000000000 ∷
+    0 ∷ 0 ∷ 0 ∷ 0x3ff4000000000000 ∷ 0 ∷ 0x400e000000000000 ∷ 0 ∷ 0x4024000000000000 ∷
+    0 ∷ 0 ∷ 0 ∷ 0x3ff4000000000000 ∷ 0 ∷ 0x400e000000000000 ∷ 0 ∷ 0x4024000000000000 ∷ []
+
+abbrev fourLesser : List ℕ
+fourLesser =
+    0 ∷ 0 ∷ 0 ∷ 0 ∷ 0 ∷ 0 ∷ 0 ∷ 0 ∷
+    0 ∷ 0 ∷ 0 ∷ 0x3ff9000000000000 ∷ 0 ∷ 0x4012c00000000000 ∷ 0 ∷ 0x4029000000000000 ∷
+    0 ∷ 0 ∷ 0 ∷ 0x4012c00000000000 ∷ 0 ∷ 0x402c200000000000 ∷ 0 ∷ 0x4042c00000000000 ∷
+    0 ∷ 0 ∷ 0 ∷ 0x4029000000000000 ∷ 0 ∷ 0x4042c00000000000 ∷ 0 ∷ 0x4059000000000000 ∷ []
+
+-- to 2 points, from 0 on
+two-made : (newNumbers Causal 4 1 0 2 times lower lower room ≡ floats twoKernel)
+    × (newRetarded 4 1 0 2 times lower (floats twoKernel) room ≡ floats twoRetarded)
+    × (newNumbers LesserAdvanced 4 1 0 2 times imaginary (floats twoRetarded) room ≡ floats twoLesserAdvanced)
+    × (newNumbers Lesser 4 1 0 2 times (floats twoRetarded) (floats twoLesserAdvanced) room ≡ floats twoLesser)
+unfolding computation isNew written everyNew newNumbers newFinite newRetarded newRetardedFinite solve retardedOnward
+two-made = (refl, refl, refl, refl)
+
+-- to 3 points, from 2 on
+three-made : (newNumbers Causal 4 1 2 3 times lower lower (floats twoKernel) ≡ floats threeKernel)
+    × (newRetarded 4 1 2 3 times lower (floats threeKernel) (floats twoRetarded) ≡ floats threeRetarded)
+    × (newNumbers LesserAdvanced 4 1 2 3 times imaginary (floats threeRetarded) (floats twoLesserAdvanced) ≡ floats threeLesserAdvanced)
+    × (newNumbers Lesser 4 1 2 3 times (floats threeRetarded) (floats threeLesserAdvanced) (floats twoLesser) ≡ floats threeLesser)
+unfolding computation isNew written everyNew newNumbers newFinite newRetarded newRetardedFinite solve retardedOnward
+three-made = (refl, refl, refl, refl)
+
+-- to 4 points, from 3 on
+four-made : (newNumbers Causal 4 1 3 4 times lower lower (floats threeKernel) ≡ floats fourKernel)
+    × (newRetarded 4 1 3 4 times lower (floats fourKernel) (floats threeRetarded) ≡ floats fourRetarded)
+    × (newNumbers LesserAdvanced 4 1 3 4 times imaginary (floats fourRetarded) (floats threeLesserAdvanced) ≡ floats fourLesserAdvanced)
+    × (newNumbers Lesser 4 1 3 4 times (floats fourRetarded) (floats fourLesserAdvanced) (floats threeLesser) ≡ floats fourLesser)
+unfolding computation isNew written everyNew newNumbers newFinite newRetarded newRetardedFinite solve retardedOnward
+four-made = (refl, refl, refl, refl)
