@@ -24,28 +24,28 @@ unfolding _then_
 either-order a b w (inl p) = rw p
 either-order a b w (inr p) = rw p
 
-module _ (points n : ℕ) (lesser : List Float) (time : ℕ) (tolerance : Float) where
+module _ (capacity points n : ℕ) (lesser : List Float) (time : ℕ) (tolerance : Float) where
   abbrev rho : Entries
-  rho = densityOf points n lesser time
+  rho = densityOf capacity n lesser time
 
   -- ---- "`particle_number`: 11, 8, 14."
 
   abbrev pub numberBefore : Observed
   numberBefore =
-      observed (lesserChecks points n lesser then timeBelow time points then validTolerance tolerance then realWithin tolerance (trace n rho .im)) (trace n rho .re)
+      observed (lesserChecks capacity points n lesser then timeBelow time points then validTolerance tolerance then realWithin tolerance (trace n rho .im)) (trace n rho .re)
 
-  pub number-kept : (lesserChecks points n lesser ≡ Pass → (validTolerance tolerance ≡ Pass) ⊎ (timeBelow time points ≡ Pass))
-      → numberUnasked points n lesser time tolerance ≡ numberBefore
+  pub number-kept : (lesserChecks capacity points n lesser ≡ Pass → (validTolerance tolerance ≡ Pass) ⊎ (timeBelow time points ≡ Pass))
+      → numberUnasked capacity points n lesser time tolerance ≡ numberBefore
   number-kept h = ap (λ (v : Verdict). observed v (trace n rho .re)) (then-agree _ _ _ _ refl (λ p. either-order _ _ _ (h p)))
 
-  pub number-changed : lesserChecks points n lesser ≡ Pass → validTolerance tolerance ≡ Refused (by 8) → timeBelow time points ≡ Refused (by 11)
-      → (particleNumber points n lesser time tolerance ≡ NotObserved (by 8)) × (numberBefore ≡ NotObserved (by 11))
+  pub number-changed : lesserChecks capacity points n lesser ≡ Pass → validTolerance tolerance ≡ Refused (by 8) → timeBelow time points ≡ Refused (by 11)
+      → (particleNumber capacity points n lesser time tolerance ≡ NotObserved (by 8)) × (numberBefore ≡ NotObserved (by 11))
   unfolding particleNumber observed _then_
   number-changed l v t = (rw (l, v), rw (l, t))
 
   -- with a valid tolerance and a finite trace the answer is the one that document 01 first had
-  pub number-first : validTolerance tolerance ≡ Pass → finiteTrace n rho ≡ true → particleNumber points n lesser time tolerance ≡ numberBefore
-  number-first v e = FiniteTrace.number-kept points n lesser time tolerance (λ l w t. e) ∙ number-kept (λ l. inl v)
+  pub number-first : validTolerance tolerance ≡ Pass → finiteTrace n rho ≡ true → particleNumber capacity points n lesser time tolerance ≡ numberBefore
+  number-first v e = FiniteTrace.number-kept capacity points n lesser time tolerance (λ l w t. e) ∙ number-kept (λ l. inl v)
 
   -- ---- "`one_body_expectation`: 11, 10 (the product observable·density), 8, 14."
 
@@ -58,25 +58,25 @@ module _ (points n : ℕ) (lesser : List Float) (time : ℕ) (tolerance : Float)
 
     abbrev pub expectationBefore : Observed
     expectationBefore =
-        observed (lesserBlockChecks points n lesser x then timeBelow time points then work then validTolerance tolerance then realWithin tolerance (trace n made .im)) (trace n made .re)
+        observed (lesserBlockChecks capacity points n lesser x then timeBelow time points then work then validTolerance tolerance then realWithin tolerance (trace n made .im)) (trace n made .re)
 
-    pub expectation-kept : (lesserBlockChecks points n lesser x ≡ Pass → (validTolerance tolerance ≡ Pass) ⊎ ((timeBelow time points then work) ≡ Pass))
-        → expectationUnasked points n lesser time tolerance x ≡ expectationBefore
+    pub expectation-kept : (lesserBlockChecks capacity points n lesser x ≡ Pass → (validTolerance tolerance ≡ Pass) ⊎ ((timeBelow time points then work) ≡ Pass))
+        → expectationUnasked capacity points n lesser time tolerance x ≡ expectationBefore
     expectation-kept h =
         ap (λ (v : Verdict). observed v (trace n made .re))
         (then-agree _ _ _ _ refl
         (λ p. ap (λ (v : Verdict). validTolerance tolerance then v) (sym (then-assoc (timeBelow time points) work _))
         ∙ either-order _ (timeBelow time points then work) _ (h p) ∙ then-assoc (timeBelow time points) work _))
 
-    pub index-changed : lesserBlockChecks points n lesser x ≡ Pass → validTolerance tolerance ≡ Refused (by 8) → timeBelow time points ≡ Refused (by 11)
-        → (oneBodyExpectation points n lesser time x tolerance ≡ NotObserved (by 8)) × (expectationBefore ≡ NotObserved (by 11))
+    pub index-changed : lesserBlockChecks capacity points n lesser x ≡ Pass → validTolerance tolerance ≡ Refused (by 8) → timeBelow time points ≡ Refused (by 11)
+        → (oneBodyExpectation capacity points n lesser time x tolerance ≡ NotObserved (by 8)) × (expectationBefore ≡ NotObserved (by 11))
     unfolding oneBodyExpectation observed _then_
     index-changed l v t = (rw (l, v), rw (l, t))
 
-    pub product-changed : lesserBlockChecks points n lesser x ≡ Pass → validTolerance tolerance ≡ Refused (by 8) → timeBelow time points ≡ Pass → work ≡ Refused (by 10)
-        → (oneBodyExpectation points n lesser time x tolerance ≡ NotObserved (by 8)) × (expectationBefore ≡ NotObserved (by 10))
+    pub product-changed : lesserBlockChecks capacity points n lesser x ≡ Pass → validTolerance tolerance ≡ Refused (by 8) → timeBelow time points ≡ Pass → work ≡ Refused (by 10)
+        → (oneBodyExpectation capacity points n lesser time x tolerance ≡ NotObserved (by 8)) × (expectationBefore ≡ NotObserved (by 10))
     unfolding oneBodyExpectation observed _then_
     product-changed l v t w = (rw (l, v), rw (l, t, w))
 
-    pub expectation-first : validTolerance tolerance ≡ Pass → finiteTrace n made ≡ true → oneBodyExpectation points n lesser time x tolerance ≡ expectationBefore
-    expectation-first v e = FiniteTrace.expectation-kept points n lesser time tolerance x (λ l w t f. e) ∙ expectation-kept (λ l. inl v)
+    pub expectation-first : validTolerance tolerance ≡ Pass → finiteTrace n made ≡ true → oneBodyExpectation capacity points n lesser time x tolerance ≡ expectationBefore
+    expectation-first v e = FiniteTrace.expectation-kept capacity points n lesser time tolerance x (λ l w t f. e) ∙ expectation-kept (λ l. inl v)

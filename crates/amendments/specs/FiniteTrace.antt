@@ -40,25 +40,25 @@ module _ (x : DenseMatrix) where
   unfolding traceOf valued _then_ finiteWork ask
   trace-changed p e = rw (p, e)
 
-module _ (points n : ℕ) (lesser : List Float) (time : ℕ) (tolerance : Float) where
+module _ (capacity points n : ℕ) (lesser : List Float) (time : ℕ) (tolerance : Float) where
   abbrev rho : Entries
-  rho = densityOf points n lesser time
+  rho = densityOf capacity n lesser time
 
   -- ---- `particle_number`: 8, 11, 14
 
   abbrev pub numberUnasked : Observed
   numberUnasked =
-      observed (lesserChecks points n lesser then validTolerance tolerance then timeBelow time points then realWithin tolerance (trace n rho .im)) (trace n rho .re)
+      observed (lesserChecks capacity points n lesser then validTolerance tolerance then timeBelow time points then realWithin tolerance (trace n rho .im)) (trace n rho .re)
 
-  pub number-kept : (lesserChecks points n lesser ≡ Pass → validTolerance tolerance ≡ Pass → timeBelow time points ≡ Pass → finiteTrace n rho ≡ true)
-      → particleNumber points n lesser time tolerance ≡ numberUnasked
+  pub number-kept : (lesserChecks capacity points n lesser ≡ Pass → validTolerance tolerance ≡ Pass → timeBelow time points ≡ Pass → finiteTrace n rho ≡ true)
+      → particleNumber capacity points n lesser time tolerance ≡ numberUnasked
   unfolding particleNumber
   number-kept h =
       ap (λ (v : Verdict). observed v (trace n rho .re))
       (then-agree _ _ _ _ refl (λ l. then-agree _ _ _ _ refl (λ v. then-agree _ _ _ _ refl (λ t. then-after _ _ (passes (h l v t))))))
 
-  pub number-changed : lesserChecks points n lesser ≡ Pass → validTolerance tolerance ≡ Pass → timeBelow time points ≡ Pass → finiteTrace n rho ≡ false
-      → particleNumber points n lesser time tolerance ≡ NotObserved (by 10)
+  pub number-changed : lesserChecks capacity points n lesser ≡ Pass → validTolerance tolerance ≡ Pass → timeBelow time points ≡ Pass → finiteTrace n rho ≡ false
+      → particleNumber capacity points n lesser time tolerance ≡ NotObserved (by 10)
   unfolding particleNumber observed _then_ finiteWork ask
   number-changed l v t e = rw (l, v, t, e)
 
@@ -73,16 +73,16 @@ module _ (points n : ℕ) (lesser : List Float) (time : ℕ) (tolerance : Float)
 
     abbrev pub expectationUnasked : Observed
     expectationUnasked =
-        observed (lesserBlockChecks points n lesser x then validTolerance tolerance then timeBelow time points then work then realWithin tolerance (trace n made .im)) (trace n made .re)
+        observed (lesserBlockChecks capacity points n lesser x then validTolerance tolerance then timeBelow time points then work then realWithin tolerance (trace n made .im)) (trace n made .re)
 
-    pub expectation-kept : (lesserBlockChecks points n lesser x ≡ Pass → validTolerance tolerance ≡ Pass → timeBelow time points ≡ Pass → work ≡ Pass → finiteTrace n made ≡ true)
-        → oneBodyExpectation points n lesser time x tolerance ≡ expectationUnasked
+    pub expectation-kept : (lesserBlockChecks capacity points n lesser x ≡ Pass → validTolerance tolerance ≡ Pass → timeBelow time points ≡ Pass → work ≡ Pass → finiteTrace n made ≡ true)
+        → oneBodyExpectation capacity points n lesser time x tolerance ≡ expectationUnasked
     unfolding oneBodyExpectation
     expectation-kept h =
         ap (λ (v : Verdict). observed v (trace n made .re))
         (then-agree _ _ _ _ refl (λ l. then-agree _ _ _ _ refl (λ v. then-agree _ _ _ _ refl (λ t. then-agree _ _ _ _ refl (λ w. then-after _ _ (passes (h l v t w)))))))
 
-    pub expectation-changed : lesserBlockChecks points n lesser x ≡ Pass → validTolerance tolerance ≡ Pass → timeBelow time points ≡ Pass → work ≡ Pass → finiteTrace n made ≡ false
-        → oneBodyExpectation points n lesser time x tolerance ≡ NotObserved (by 10)
+    pub expectation-changed : lesserBlockChecks capacity points n lesser x ≡ Pass → validTolerance tolerance ≡ Pass → timeBelow time points ≡ Pass → work ≡ Pass → finiteTrace n made ≡ false
+        → oneBodyExpectation capacity points n lesser time x tolerance ≡ NotObserved (by 10)
     unfolding oneBodyExpectation observed _then_ finiteWork ask
     expectation-changed l v t w e = rw (l, v, t, w, e)

@@ -1,5 +1,5 @@
 -- Document 02, L2: "Runs that had an answer keep it." Document 01 first formed the term also where an interval has one point. Each call that was
--- accepted then is accepted now and leaves the same bits. Assumes nothing.
+-- accepted then is accepted now and leaves the same bits; the transient run is in OnePointRun. Assumes nothing.
 use Rattle.lists.specs.Prelude.{_≡_, refl, sym, ap, ap₂, subst, _∙_, Bool, true, _&&_, List, [], _∷_, _++_, _⊎_, inl, inr, ℕ, suc, _+_, _-_, _<_, decLt, arith, Float, le-leb}
 use Rattle.lists.specs.Indexed.{allBelow}
 use Rattle.lists.specs.Agreement.{both, join-agree, each-all}
@@ -26,8 +26,6 @@ use Rattle.two_time.specs.Finite.{everywhere-each}
 use Rattle.convolution.specs.Calls.{convolvedBy}
 use Rattle.dyson.specs.Retarded.{retardedNumbers, retardedFinite}
 use Rattle.dyson.specs.Calls.{Equation, equationOf, kernelOf, retardedOf, solvedFinite, checksBefore, dysonVerdict, dysonWithTolerance}
-use Rattle.transient_run.specs.declared.Solved.the-variants.{Accepted}
-use Rattle.transient_run.specs.Calls.{Run, equationOfRun, retardedOfRun, lesserAdvancedOfRun, lesserOfRun, runFinite, runChecks, runVerdict, solved, transientRun}
 use Rattle.langreth.specs.Calls.{Components, componentsOf, listed, correlationFinite, productOf, productFinite, productVerdict, langrethProduct}
 
 -- ---- the sums as document 01 first had them
@@ -44,10 +42,10 @@ abbrev pub withCount : ℕ → Terms → Terms
 withCount count x = record { start = x .start; weight = x .weight; left = x .left; right = x .right; from = x .from; count = count }
 
 module _ (sums : Sums) (points n : ℕ) (times left right : List Float) where
-  abbrev now : ℕ → ℕ → Terms
+  abbrev pub now : ℕ → ℕ → Terms
   now = termsAt sums points times (readAs points n left) (readAs points n right)
 
-  abbrev before : ℕ → ℕ → Terms
+  abbrev pub before : ℕ → ℕ → Terms
   before t u = withCount (countBefore sums points t u) (now t u)
 
   -- the sums at all places laid out, and whether every block made for them was finite
@@ -112,7 +110,7 @@ module _ (points n : ℕ) (times : List Float) (x y : TwoTime) (t u a b : ℕ) w
             (record { none = omega (arith, interval-count start end); one = omega arith; weight = ap (λ (k : ℕ). intervalWeight times (start + 0) start k) (sym e) ∙ point-weight start; start = λ c d. refl })
       ]
 
-  kept : (sums : Sums) → Kept n (termsAt sums points times x y t u) a b (countBefore sums points t u)
+  pub kept : (sums : Sums) → Kept n (termsAt sums points times x y t u) a b (countBefore sums points t u)
   unfolding termsAt
   kept Full = λ h. (h, refl)
   kept Causal = by-interval u t (λ s. x t s) (λ s. y s u)
@@ -184,63 +182,6 @@ module _ (points n : ℕ) (tolerance : Float) (times free selfEnergy retarded ke
       let p = then-pass (checksBefore equation tolerance [] (retarded ∷ kernel ∷ [])) _ h in
       let e = ask-pass (solvedBefore equation) _ (p .1) in
       rw (p .0, kernel-kept equation e .0, retarded-kept equation e, kernel-kept equation e .1)
-
--- `transient_run`
-module _ (r : Run) where
-  abbrev q : Equation
-  q = equationOfRun r
-
-  abbrev pub lesserAdvancedBefore : List Float
-  lesserAdvancedBefore = numbersBefore LesserAdvanced (r .points) (r .orbitals) (r .times) (r .lesserSelfEnergy) (retardedBefore q)
-
-  abbrev pub lesserBefore : List Float
-  lesserBefore = numbersBefore Lesser (r .points) (r .orbitals) (r .times) (retardedBefore q) lesserAdvancedBefore
-
-  abbrev pub runBefore : Bool
-  runBefore =
-      solvedBefore q
-      && (finiteBefore LesserAdvanced (r .points) (r .orbitals) (r .times) (r .lesserSelfEnergy) (retardedBefore q)
-      && finiteBefore Lesser (r .points) (r .orbitals) (r .times) (retardedBefore q) lesserAdvancedBefore)
-
-  module _ (h : runBefore ≡ true) where
-    solved-first : solvedBefore q ≡ true
-    solved-first = both (solvedBefore q) _ h .0
-
-    lesser-advanced-first : finiteBefore LesserAdvanced (r .points) (r .orbitals) (r .times) (r .lesserSelfEnergy) (retardedBefore q) ≡ true
-    lesser-advanced-first = both (finiteBefore LesserAdvanced (r .points) (r .orbitals) (r .times) (r .lesserSelfEnergy) (retardedBefore q)) _ (both (solvedBefore q) _ h .1) .0
-
-    lesser-first : finiteBefore Lesser (r .points) (r .orbitals) (r .times) (retardedBefore q) lesserAdvancedBefore ≡ true
-    lesser-first = both (finiteBefore LesserAdvanced (r .points) (r .orbitals) (r .times) (r .lesserSelfEnergy) (retardedBefore q)) _ (both (solvedBefore q) _ h .1) .1
-
-    green : retardedBefore q ≡ retardedOfRun r
-    green = retarded-kept q solved-first
-
-    lesser-advanced-kept : lesserAdvancedBefore ≡ lesserAdvancedOfRun r
-    lesser-advanced-kept =
-        numbers-kept LesserAdvanced (r .points) (r .orbitals) (r .times) (r .lesserSelfEnergy) (retardedBefore q) lesser-advanced-first
-        ∙ ap (sumsNumbers LesserAdvanced (r .points) (r .orbitals) (r .times) (r .lesserSelfEnergy)) green
-
-    lesser-kept : lesserBefore ≡ lesserOfRun r
-    lesser-kept =
-        numbers-kept Lesser (r .points) (r .orbitals) (r .times) (retardedBefore q) lesserAdvancedBefore lesser-first
-        ∙ ap₂ (sumsNumbers Lesser (r .points) (r .orbitals) (r .times)) green lesser-advanced-kept
-
-    run-finite : runFinite r ≡ true
-    unfolding runFinite
-    run-finite =
-        rw (
-          kernel-kept q solved-first .0,
-          sym (ap (sumsFinite LesserAdvanced (r .points) (r .orbitals) (r .times) (r .lesserSelfEnergy)) green) ∙ finite-kept LesserAdvanced (r .points) (r .orbitals) (r .times) (r .lesserSelfEnergy) (retardedBefore q) lesser-advanced-first,
-          sym (ap₂ (sumsFinite Lesser (r .points) (r .orbitals) (r .times)) green lesser-advanced-kept) ∙ finite-kept Lesser (r .points) (r .orbitals) (r .times) (retardedBefore q) lesserAdvancedBefore lesser-first,
-        )
-
-  pub run-kept : (runChecks r then finiteWork runBefore) ≡ Pass
-      → transientRun r ≡ record { answer = Accepted; retarded = retardedBefore q; lesser = lesserBefore; kernel = kernelBefore q; lesserAdvanced = lesserAdvancedBefore }
-  unfolding transientRun runVerdict solved _then_ finiteWork ask afterwards
-  run-kept h =
-      let p = then-pass (runChecks r) _ h in
-      let e = ask-pass runBefore _ (p .1) in
-      rw (p .0, run-finite e, lesser-kept e, lesser-advanced-kept e, green e, kernel-kept q (solved-first e) .1)
 
 -- `langreth_product`; lesser and greater are full convolutions, as they were
 module _ (points n : ℕ) (times : List Float) (left right out : Components) where

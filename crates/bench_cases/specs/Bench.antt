@@ -6,11 +6,11 @@ use Rattle.complex.specs.Arithmetic.{plusZero, one, real}
 use Rattle.norm.specs.Norm.{norm}
 use Rattle.refusal.specs.declared.Verdict.the-variants.{Pass, Refused}
 use Rattle.refusal.specs.Verdict.{by, ask, _then_, afterwards}
-use Rattle.refusal.specs.Checks.{finiteWork}
+use Rattle.refusal.specs.Checks.{finiteWork, withinCapacity}
 use Rattle.grid.specs.Calls.{gridCallChecks, checkTimes}
 use Rattle.two_time.specs.Layout.{readAs}
 use Rattle.support.specs.Support.{residual, checkSupport}
-use Rattle.two_time.specs.Calls.{inputChecks}
+use Rattle.two_time.specs.Calls.{inputChecks, capacityChecks, pointEntries, pointChecks}
 use Rattle.two_time.specs.Computation.{checks}
 use Rattle.two_time.specs.Example.{floats}
 use Rattle.dyson.specs.Calls.{Equation, Solved, equationOf, defaultTolerance, solvedFinite, dysonVerdict, dysonWithTolerance, dyson}
@@ -59,9 +59,9 @@ pub record BenchCases : Type 0 where
   pub p9-residual : residual 2 1 (readAs 2 1 huge) 0 1 ≡ plusZero
   pub p9 : checkSupport 2 1 huge half ≡ Pass
   -- "P10 imaginary 0.5, tolerance 0.5: a number; 0.75: 14."
-  pub p10-number : particleNumber 2 1 (lesserWith half) 0 half ≡ Number (whole 2)
-  pub p10-refused : particleNumber 2 1 (lesserWith threeQuarters) 0 half ≡ NotReal threeQuarters
-  pub p10-answers : observedNumber (particleNumber 2 1 (lesserWith half) 0 half) ∷ observedNumber (particleNumber 2 1 (lesserWith threeQuarters) 0 half) ∷ [] ≡ 0 ∷ 14 ∷ []
+  pub p10-number : particleNumber 2 2 1 (lesserWith half) 0 half ≡ Number (whole 2)
+  pub p10-refused : particleNumber 2 2 1 (lesserWith threeQuarters) 0 half ≡ NotReal threeQuarters
+  pub p10-answers : observedNumber (particleNumber 2 2 1 (lesserWith half) 0 half) ∷ observedNumber (particleNumber 2 2 1 (lesserWith threeQuarters) 0 half) ∷ [] ≡ 0 ∷ 14 ∷ []
   -- "P11 times 0,1,2, n=1, free and self-energy 1 on and below the diagonal, +0 above: K(2,0) = 2, G(1,0) = 1.5, G(2,0) = 3.5."
   pub p11-answer : p11-run .answer ≡ Pass
   pub p11-kernel : entry (p11-run .kernel) 2 0 ≡ real (whole 2)
@@ -95,7 +95,7 @@ run-outcome : transientRun (P12.run defaultTolerance before)
 run-outcome = P12.outcome defaultTolerance before refl retarded-inputs
 
 pub bench-cases : BenchCases
-unfolding dysonComputation checkTimes gridCallChecks checkSupport particleNumber observed observedNumber lesserChecks density Ieee.ofInt
+unfolding dysonComputation checkTimes gridCallChecks checkSupport particleNumber observed observedNumber lesserChecks pointChecks capacityChecks withinCapacity pointEntries density Ieee.ofInt
 bench-cases =
     record {
       p1 = refl;

@@ -3,8 +3,9 @@
 use Rattle.lists.specs.Prelude.{_≡_, refl, replicate}
 use Rattle.complex.specs.Arithmetic.{plusZero}
 use Rattle.refusal.specs.declared.Verdict.the-variants.{Pass}
-use Rattle.refusal.specs.Checks.{withinProgram, wellFormed}
+use Rattle.refusal.specs.Checks.{withinProgram, wellFormed, withinCapacity}
 use Rattle.two_time.specs.Layout.{readAs}
+use Rattle.two_time.specs.Calls.{capacityChecks, pointEntries, pointChecks}
 use Rattle.two_time.specs.Computation.{arithmetic, checks}
 use Rattle.two_time.specs.Example.{floats}
 use Rattle.dyson.specs.Calls.{supportChecks, defaultTolerance}
@@ -32,7 +33,7 @@ unfolding arithmetic fileRun numbers littleEndian
 file-run = refl
 
 run-text : runText 3 1 defaultTolerance (floats P12.lesserBits) ≡ File.text
-unfolding checks runText timeLine line decimal decimalIn hexadecimal hexDigit particleNumber observed lesserChecks density
+unfolding checks runText timeLine line decimal decimalIn hexadecimal hexDigit particleNumber observed lesserChecks pointChecks capacityChecks withinCapacity pointEntries density
 run-text = refl
 
 -- what the program prints

@@ -61,53 +61,53 @@ module _ (a b c w : Verdict) {v : Verdict} (asked : v ≡ (a then b then c)) whe
   first-passed x p = ap (λ (u : Verdict). observed u x) (sym (then-after (a then b then c) w (sym asked ∙ p)) ∙ in-line)
 
 -- the trace of the density
-module _ (points orbitals : ℕ) (lesser : List Float) (time : ℕ) (tolerance : Float) where
+module _ (capacity points orbitals : ℕ) (lesser : List Float) (time : ℕ) (tolerance : Float) where
   -- the questions in their order
-  number-order : (z : Complex) → trace orbitals (densityOf points orbitals lesser time) ≡ z
-      → observed (lesserChecks points orbitals lesser then validTolerance tolerance then timeBelow time points then finiteWork (cfinite z) then realWithin tolerance (z .im)) (z .re)
-      ≡ particleNumber points orbitals lesser time tolerance
+  number-order : (z : Complex) → trace orbitals (densityOf capacity orbitals lesser time) ≡ z
+      → observed (lesserChecks capacity points orbitals lesser then validTolerance tolerance then timeBelow time points then finiteWork (cfinite z) then realWithin tolerance (z .im)) (z .re)
+      ≡ particleNumber capacity points orbitals lesser time tolerance
   unfolding particleNumber
   number-order z e = rw e
 
-  module _ {v : Verdict} (asked : v ≡ withArguments tolerance time points (lesserChecks points orbitals lesser)) where
-    pub number-refused : {r : Refusal} (x : Float) → v ≡ Refused r → observed (Refused r) x ≡ particleNumber points orbitals lesser time tolerance
+  module _ {v : Verdict} (asked : v ≡ withArguments tolerance time points (lesserChecks capacity points orbitals lesser)) where
+    pub number-refused : {r : Refusal} (x : Float) → v ≡ Refused r → observed (Refused r) x ≡ particleNumber capacity points orbitals lesser time tolerance
     number-refused x p = first-refused _ _ _ _ asked x _ p ∙ number-order _ refl
 
-    pub number-passed : {z : Complex} → v ≡ Pass → z ≡ trace orbitals (densityOf points orbitals lesser time) → realObserved tolerance z ≡ particleNumber points orbitals lesser time tolerance
+    pub number-passed : {z : Complex} → v ≡ Pass → z ≡ trace orbitals (densityOf capacity orbitals lesser time) → realObserved tolerance z ≡ particleNumber capacity points orbitals lesser time tolerance
     number-passed p e = first-passed _ _ _ _ asked _ p ∙ number-order _ (sym e)
 
 -- the trace of the product by a matrix
-module _ (points orbitals : ℕ) (lesser : List Float) (time : ℕ) (x : DenseMatrix) (tolerance : Float) where
+module _ (capacity points orbitals : ℕ) (lesser : List Float) (time : ℕ) (x : DenseMatrix) (tolerance : Float) where
   abbrev asks : Entries → Verdict
   asks f = finiteWork (allFinite orbitals orbitals f) then finiteWork (finiteTrace orbitals f) then realWithin tolerance (trace orbitals f .im)
 
   -- the questions in their order
-  product-order : (o rho : Entries) → entriesOf x ≡ o → densityOf points orbitals lesser time ≡ rho
-      → observed (lesserBlockChecks points orbitals lesser x then validTolerance tolerance then timeBelow time points then asks (product orbitals o rho)) (trace orbitals (product orbitals o rho) .re)
-      ≡ oneBodyExpectation points orbitals lesser time x tolerance
+  product-order : (o rho : Entries) → entriesOf x ≡ o → densityOf capacity orbitals lesser time ≡ rho
+      → observed (lesserBlockChecks capacity points orbitals lesser x then validTolerance tolerance then timeBelow time points then asks (product orbitals o rho)) (trace orbitals (product orbitals o rho) .re)
+      ≡ oneBodyExpectation capacity points orbitals lesser time x tolerance
   unfolding oneBodyExpectation
   product-order o rho e d = rw (e, d)
 
-  module _ {v : Verdict} (asked : v ≡ withArguments tolerance time points (lesserBlockChecks points orbitals lesser x)) where
-    pub inputs-refused : {r : Refusal} (y : Float) → v ≡ Refused r → observed (Refused r) y ≡ oneBodyExpectation points orbitals lesser time x tolerance
+  module _ {v : Verdict} (asked : v ≡ withArguments tolerance time points (lesserBlockChecks capacity points orbitals lesser x)) where
+    pub inputs-refused : {r : Refusal} (y : Float) → v ≡ Refused r → observed (Refused r) y ≡ oneBodyExpectation capacity points orbitals lesser time x tolerance
     inputs-refused y p = first-refused _ _ _ _ asked y _ p ∙ product-order _ _ refl refl
 
     -- past its checks the matrix has n columns
     module _ (p : v ≡ Pass) where
       abbrev made : Entries
-      made = productOf points orbitals (x .values) lesser time
+      made = productOf capacity orbitals (x .values) lesser time
 
       n-columns : entriesOf x ≡ entriesIn orbitals (x .values)
       n-columns =
           let all = ends-passed _ _ _ (sym asked ∙ p) in
-          ap (λ (n : ℕ). entriesIn n (x .values)) (block-at points orbitals lesser x time (all .0) (all .1) .1)
+          ap (λ (n : ℕ). entriesIn n (x .values)) (block-at capacity points orbitals lesser x time (all .0) (all .1) .1)
 
-      product-asked : observed (asks made) (trace orbitals made .re) ≡ oneBodyExpectation points orbitals lesser time x tolerance
+      product-asked : observed (asks made) (trace orbitals made .re) ≡ oneBodyExpectation capacity points orbitals lesser time x tolerance
       product-asked = first-passed _ _ _ _ asked _ p ∙ product-order _ _ n-columns refl
 
       module _ {work : Verdict} (h : work ≡ finiteWork (allFinite orbitals orbitals made)) where
-        pub product-refused : {r : Refusal} (y : Float) → work ≡ Refused r → observed (Refused r) y ≡ oneBodyExpectation points orbitals lesser time x tolerance
+        pub product-refused : {r : Refusal} (y : Float) → work ≡ Refused r → observed (Refused r) y ≡ oneBodyExpectation capacity points orbitals lesser time x tolerance
         product-refused y q = observed-no y _ (then-refused _ _ _ (sym h ∙ q)) ∙ product-asked
 
-        pub product-passed : work ≡ Pass → realObserved tolerance (trace orbitals made) ≡ oneBodyExpectation points orbitals lesser time x tolerance
+        pub product-passed : work ≡ Pass → realObserved tolerance (trace orbitals made) ≡ oneBodyExpectation capacity points orbitals lesser time x tolerance
         product-passed q = ap (λ (u : Verdict). observed u (trace orbitals made .re)) (sym (then-after _ _ (sym h ∙ q))) ∙ product-asked

@@ -10,8 +10,8 @@ density lesser t a b = cmul minusI (lesser t t a b)
 
 -- of a lesser function as numbers
 abbrev pub densityOf : ℕ → ℕ → List Float → ℕ → Entries
-densityOf points orbitals lesser = density (readAs points orbitals lesser)
+densityOf capacity orbitals lesser = density (readAs capacity orbitals lesser)
 
 -- its product by an n by n block of these numbers
 abbrev pub productOf : ℕ → ℕ → List Float → List Float → ℕ → Entries
-productOf points orbitals values lesser time = product orbitals (entriesIn orbitals values) (densityOf points orbitals lesser time)
+productOf capacity orbitals values lesser time = product orbitals (entriesIn orbitals values) (densityOf capacity orbitals lesser time)

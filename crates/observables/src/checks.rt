@@ -1,8 +1,9 @@
-// Checks 1, 2, 3 and 7 of a lesser function, and of a block beside it (document 01, "Questions in order"), and 8 and 11 after them.
+// Checks 1, 2, 3, 16 and 7 of a lesser function, and of a block beside it (document 01, "Questions in order"; document 02, L1), and 8 and 11 after them.
 ghost use Rattle.lists.specs.Prelude.{_≡_};
 ghost use Rattle.refusal.specs.Verdict.{_then_};
-ghost use Rattle.refusal.specs.Checks.{largeEnough, notEmpty, withinLimits, withinBlock, fitting, timeBelow};
+ghost use Rattle.refusal.specs.Checks.{timeBelow};
 ghost use Rattle.observables.specs.Calls.{lesserChecks, lesserBlockChecks};
+ghost use Rattle.observables.specs.LesserChecks.{blockSizes};
 ghost use Rattle.observables.specs.Answers.{withArguments};
 use refusal::Verdict;
 use refusal::checks::finite_entries;
@@ -12,29 +13,24 @@ use refusal::checks::not_empty;
 use refusal::checks::time_below;
 use refusal::checks::valid_tolerance;
 use refusal::checks::within_block;
+use refusal::checks::within_capacity;
 use refusal::checks::within_limits;
-use two_time::checks::check_operand;
-use two_time::checks::check_sizes;
+use two_time::capacity::Shape;
+use two_time::capacity::check_points;
 use two_time::checks::has_length;
 
-pub fn check_lesser(lesser: &[f64], points: usize, orbitals: usize) -> Verdict
-    ensures { λ r. ⌜ r ≡ lesserChecks points orbitals (now (lesser .entry)) ⌝ }
+pub fn check_lesser(lesser: &[f64], shape: Shape) -> Verdict
+    ensures { λ r. ⌜ r ≡ lesserChecks (shape .capacity) (shape .points) (shape .orbitals) (now (lesser .entry)) ⌝ }
 {
-    let fits = has_length(points, orbitals, lesser);
-    check_sizes(points, orbitals, fits).then(check_operand(0, lesser))
+    check_points(0, lesser, shape)
 }
 
 // The same, then 11.
-pub(crate) fn check_lesser_time(
-    lesser: &[f64],
-    points: usize,
-    orbitals: usize,
-    time: usize,
-) -> Verdict
-    ensures { λ r. ⌜ r ≡ (lesserChecks points orbitals (now (lesser .entry)) then timeBelow time points) ⌝ }
+pub(crate) fn check_lesser_time(lesser: &[f64], shape: Shape, time: usize) -> Verdict
+    ensures { λ r. ⌜ r ≡ (lesserChecks (shape .capacity) (shape .points) (shape .orbitals) (now (lesser .entry)) then timeBelow time (shape .points)) ⌝ }
 {
-    let inputs = check_lesser(lesser, points, orbitals);
-    inputs.then(time_below(time, points))
+    let inputs = check_lesser(lesser, shape);
+    inputs.then(time_below(time, shape.points))
 }
 
 // The checks of what is read, then 8, then 11.
@@ -49,31 +45,31 @@ pub(crate) fn check_arguments(
     inputs.then(valid_tolerance(tolerance).then(time_below(time, points)))
 }
 
-// 1, 2 and 3, each of the function before the block: `fits` says whether the length and the shape fit.
-fn block_sizes(points: usize, orbitals: usize, rows: usize, columns: usize, fits: bool) -> Verdict
-    ensures { λ r. ⌜ r ≡ ((largeEnough points orbitals then notEmpty rows columns) then (withinLimits points orbitals then withinBlock rows columns) then fitting fits) ⌝ }
+// 1, 2 and 3, each of the function before the block, then 16: `fits` says whether the length and the shape fit.
+fn block_sizes(shape: Shape, rows: usize, columns: usize, fits: bool) -> Verdict
+    ensures { λ r. ⌜ r ≡ blockSizes (shape .capacity) (shape .points) (shape .orbitals) rows columns fits ⌝ }
 {
-    let some = large_enough(points, orbitals).then(not_empty(rows, columns));
-    let most = within_limits(points, orbitals).then(within_block(rows, columns));
-    some.then(most.then(fitting(fits)))
+    let some = large_enough(shape.points, shape.orbitals).then(not_empty(rows, columns));
+    let most = within_limits(shape.capacity, shape.orbitals).then(within_block(rows, columns));
+    let room = fitting(fits).then(within_capacity(shape.points, shape.capacity));
+    some.then(most.then(room))
 }
 
-// All four checks of both, the block by its rows, columns and numbers.
+// All five checks of both, the block by its rows, columns and numbers. `check_points` asks the function's sizes again, which passed.
 pub(crate) fn check_lesser_block(
     lesser: &[f64],
-    points: usize,
-    orbitals: usize,
+    shape: Shape,
     rows: usize,
     columns: usize,
     values: &[f64],
 ) -> Verdict
-    ensures { λ r. ⌜ r ≡ lesserBlockChecks points orbitals (now (lesser .entry)) (record { rows = rows; columns = columns; values = now (values .entry) }) ⌝ }
+    ensures { λ r. ⌜ r ≡ lesserBlockChecks (shape .capacity) (shape .points) (shape .orbitals) (now (lesser .entry)) (record { rows = rows; columns = columns; values = now (values .entry) }) ⌝ }
 {
-    let shape = (rows == orbitals) & (columns == orbitals);
-    let fits = has_length(points, orbitals, lesser) & shape;
-    let verdict = block_sizes(points, orbitals, rows, columns, fits);
+    let square = (rows == shape.orbitals) & (columns == shape.orbitals);
+    let fits = has_length(shape.capacity, shape.orbitals, lesser) & square;
+    let verdict = block_sizes(shape, rows, columns, fits);
     let Verdict::Pass = verdict else {
         return verdict;
     };
-    check_operand(0, lesser).then(finite_entries(1, values, 2 * (rows * columns)))
+    check_points(0, lesser, shape).then(finite_entries(1, values, 2 * (rows * columns)))
 }

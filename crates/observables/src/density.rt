@@ -36,55 +36,55 @@ pub(crate) fn stored(
 // Entry (a, b) of the density.
 pub(crate) fn entry(
     lesser: &[f64],
-    points: usize,
+    capacity: usize,
     orbitals: usize,
     time: usize,
     a: usize,
     b: usize,
 ) -> Complex
-    requires { ⌜ Passed points orbitals (now lesser) time ⌝ }
+    requires { ⌜ Passed capacity orbitals (now lesser) time ⌝ }
     requires { ⌜ (a < orbitals) × (b < orbitals) ⌝ }
-    ensures { λ r. ⌜ r ≡ densityOf points orbitals (now (lesser .entry)) time a b ⌝ }
+    ensures { λ r. ⌜ r ≡ densityOf capacity orbitals (now (lesser .entry)) time a b ⌝ }
 {
-    Complex::MINUS_I.times(stored(lesser, points, orbitals, time, time, a, b))
+    Complex::MINUS_I.times(stored(lesser, capacity, orbitals, time, time, a, b))
 }
 
 // The sum of the diagonal.
-pub(crate) fn trace(lesser: &[f64], points: usize, orbitals: usize, time: usize) -> Complex
-    requires { ⌜ Passed points orbitals (now lesser) time ⌝ }
-    ensures { λ r. ⌜ r ≡ trace orbitals (densityOf points orbitals (now (lesser .entry)) time) ⌝ }
+pub(crate) fn trace(lesser: &[f64], capacity: usize, orbitals: usize, time: usize) -> Complex
+    requires { ⌜ Passed capacity orbitals (now lesser) time ⌝ }
+    ensures { λ r. ⌜ r ≡ trace orbitals (densityOf capacity orbitals (now (lesser .entry)) time) ⌝ }
 {
     let mut sum = Complex::ZERO;
     for a in 0..orbitals {
-        sum = sum.plus(entry(lesser, points, orbitals, time, a, a));
+        sum = sum.plus(entry(lesser, capacity, orbitals, time, a, a));
     }
     sum
 }
 
 // Writes row a, its n entries.
-fn row(lesser: &[f64], points: usize, orbitals: usize, time: usize, a: usize, out: &mut [f64])
-    requires { ⌜ Passed points orbitals (now lesser) time ⌝ }
+fn row(lesser: &[f64], capacity: usize, orbitals: usize, time: usize, a: usize, out: &mut [f64])
+    requires { ⌜ Passed capacity orbitals (now lesser) time ⌝ }
     requires { ⌜ (a < orbitals) × (length (now out) ≡ 2 * orbitals) ⌝ }
-    ensures { λ _. ⌜ now (out .exit) ≡ cells orbitals (densityOf points orbitals (now (lesser .entry)) time a) ⌝ }
+    ensures { λ _. ⌜ now (out .exit) ≡ cells orbitals (densityOf capacity orbitals (now (lesser .entry)) time a) ⌝ }
 {
     for b in 0..orbitals {
-        let z = entry(lesser, points, orbitals, time, a, b);
+        let z = entry(lesser, capacity, orbitals, time, a, b);
         out[2 * b] = z.re;
         out[2 * b + 1] = z.im;
     }
 }
 
 // All entries as one block, with +0 beyond them.
-pub(crate) fn block(lesser: &[f64], points: usize, orbitals: usize, time: usize) -> DenseMatrix
-    requires { ⌜ Passed points orbitals (now lesser) time ⌝ }
-    ensures { λ r. ⌜ r ≡ blockOf orbitals orbitals (densityOf points orbitals (now (lesser .entry)) time) ⌝ }
+pub(crate) fn block(lesser: &[f64], capacity: usize, orbitals: usize, time: usize) -> DenseMatrix
+    requires { ⌜ Passed capacity orbitals (now lesser) time ⌝ }
+    ensures { λ r. ⌜ r ≡ blockOf orbitals orbitals (densityOf capacity orbitals (now (lesser .entry)) time) ⌝ }
 {
     let mut values = [0.0; 512];
     let width = 2 * orbitals;
     for a in 0..orbitals {
         let start = a * width;
         let end = start + width;
-        row(lesser, points, orbitals, time, a, &mut values[start..end]);
+        row(lesser, capacity, orbitals, time, a, &mut values[start..end]);
     }
     DenseMatrix {
         rows: orbitals,

@@ -21,20 +21,20 @@ fn observable_entry(values: &[f64], orbitals: usize, a: usize, b: usize) -> Comp
 fn entry(
     values: &[f64],
     lesser: &[f64],
-    points: usize,
+    capacity: usize,
     orbitals: usize,
     time: usize,
     a: usize,
     b: usize,
 ) -> Complex
-    requires { ⌜ Passed points orbitals (now lesser) time ⌝ }
+    requires { ⌜ Passed capacity orbitals (now lesser) time ⌝ }
     requires { ⌜ (a < orbitals) × (b < orbitals) × (512 ≤ length (now values)) ⌝ }
-    ensures { λ r. ⌜ r ≡ productOf points orbitals (now (values .entry)) (now (lesser .entry)) time a b ⌝ }
+    ensures { λ r. ⌜ r ≡ productOf capacity orbitals (now (values .entry)) (now (lesser .entry)) time a b ⌝ }
 {
     let mut sum = Complex::ZERO;
     for k in 0..orbitals {
         let x = observable_entry(values, orbitals, a, k);
-        let rho = density::entry(lesser, points, orbitals, time, k, b);
+        let rho = density::entry(lesser, capacity, orbitals, time, k, b);
         sum = sum.plus(x.times(rho));
     }
     sum
@@ -44,18 +44,18 @@ fn entry(
 fn row_is_finite(
     values: &[f64],
     lesser: &[f64],
-    points: usize,
+    capacity: usize,
     orbitals: usize,
     time: usize,
     a: usize,
 ) -> bool
-    requires { ⌜ Passed points orbitals (now lesser) time ⌝ }
+    requires { ⌜ Passed capacity orbitals (now lesser) time ⌝ }
     requires { ⌜ (a < orbitals) × (512 ≤ length (now values)) ⌝ }
-    ensures { λ r. ⌜ r ≡ allBelow orbitals (λ b. cfinite (productOf points orbitals (now (values .entry)) (now (lesser .entry)) time a b)) ⌝ }
+    ensures { λ r. ⌜ r ≡ allBelow orbitals (λ b. cfinite (productOf capacity orbitals (now (values .entry)) (now (lesser .entry)) time a b)) ⌝ }
 {
     let mut all = true;
     for b in 0..orbitals {
-        let z = entry(values, lesser, points, orbitals, time, a, b);
+        let z = entry(values, lesser, capacity, orbitals, time, a, b);
         all = all & z.is_finite();
     }
     all
@@ -65,17 +65,17 @@ fn row_is_finite(
 pub(crate) fn is_finite(
     values: &[f64],
     lesser: &[f64],
-    points: usize,
+    capacity: usize,
     orbitals: usize,
     time: usize,
 ) -> bool
-    requires { ⌜ Passed points orbitals (now lesser) time ⌝ }
+    requires { ⌜ Passed capacity orbitals (now lesser) time ⌝ }
     requires { ⌜ 512 ≤ length (now values) ⌝ }
-    ensures { λ r. ⌜ r ≡ allFinite orbitals orbitals (productOf points orbitals (now (values .entry)) (now (lesser .entry)) time) ⌝ }
+    ensures { λ r. ⌜ r ≡ allFinite orbitals orbitals (productOf capacity orbitals (now (values .entry)) (now (lesser .entry)) time) ⌝ }
 {
     let mut all = true;
     for a in 0..orbitals {
-        let row = row_is_finite(values, lesser, points, orbitals, time, a);
+        let row = row_is_finite(values, lesser, capacity, orbitals, time, a);
         all = all & row;
     }
     all
@@ -85,17 +85,17 @@ pub(crate) fn is_finite(
 pub(crate) fn trace(
     values: &[f64],
     lesser: &[f64],
-    points: usize,
+    capacity: usize,
     orbitals: usize,
     time: usize,
 ) -> Complex
-    requires { ⌜ Passed points orbitals (now lesser) time ⌝ }
+    requires { ⌜ Passed capacity orbitals (now lesser) time ⌝ }
     requires { ⌜ 512 ≤ length (now values) ⌝ }
-    ensures { λ r. ⌜ r ≡ trace orbitals (productOf points orbitals (now (values .entry)) (now (lesser .entry)) time) ⌝ }
+    ensures { λ r. ⌜ r ≡ trace orbitals (productOf capacity orbitals (now (values .entry)) (now (lesser .entry)) time) ⌝ }
 {
     let mut sum = Complex::ZERO;
     for a in 0..orbitals {
-        sum = sum.plus(entry(values, lesser, points, orbitals, time, a, a));
+        sum = sum.plus(entry(values, lesser, capacity, orbitals, time, a, a));
     }
     sum
 }

@@ -2,7 +2,8 @@
 use Rattle.lists.specs.Prelude.{_≡_, refl, true, false, List, [], _∷_, _++_, ℕ, replicate, inf, binary64, toBits}
 use lib.Ieee as Ieee
 use Rattle.refusal.specs.Verdict.{by, ask, _then_, numberOf}
-use Rattle.refusal.specs.Checks.{largeEnough, withinProgram, wellFormed}
+use Rattle.refusal.specs.Checks.{largeEnough, withinProgram, wellFormed, withinCapacity}
+use Rattle.two_time.specs.Calls.{capacityChecks, pointEntries, pointChecks}
 use Rattle.two_time.specs.Computation.{checks}
 use Rattle.two_time.specs.Example.{floats}
 use Rattle.dyson.specs.Calls.{defaultTolerance}
@@ -51,5 +52,5 @@ texts = refl
 infinite : runText 2 2 defaultTolerance (floats (0 ∷ 0x7fef_ffff_ffff_ffff ∷ 0 ∷ 0 ∷ 0 ∷ 0 ∷ 0 ∷ 0x7fef_ffff_ffff_ffff ∷ replicate 24 0))
     ≡ (114 ∷ 117 ∷ 110 ∷ 32 ∷ 50 ∷ 32 ∷ 50 ∷ 10 ∷ []) ++ (48 ∷ 32 ∷ 114 ∷ 101 ∷ 102 ∷ 117 ∷ 115 ∷ 101 ∷ 100 ∷ 32 ∷ 49 ∷ 48 ∷ 10 ∷ [])
     ++ (49 ∷ 32 ∷ 110 ∷ 117 ∷ 109 ∷ 98 ∷ 101 ∷ 114 ∷ 32 ∷ replicate 16 48) ++ (10 ∷ [])
-unfolding checks runText timeLine line decimal decimalIn hexadecimal hexDigit particleNumber observed lesserChecks density
+unfolding checks runText timeLine line decimal decimalIn hexadecimal hexDigit particleNumber observed lesserChecks pointChecks capacityChecks withinCapacity pointEntries density
 infinite = refl

@@ -6,10 +6,15 @@ use Rattle.complex.specs.Arithmetic.{plusZero}
 use Rattle.refusal.specs.declared.Verdict.{Verdict}
 use Rattle.refusal.specs.Verdict.{_then_}
 use Rattle.refusal.specs.Checks.{largeEnough, withinProgram, wellFormed}
+use Rattle.two_time.specs.declared.capacity.Shape.{Shape}
 use Rattle.two_time.specs.Layout.{lengthOf}
 use Rattle.dyson.specs.Calls.{defaultTolerance}
 use Rattle.transient_run.specs.Calls.{Run, runOf}
 use Rattle.run_file.specs.Bytes.{u32, numbers}
+
+-- N points and n orbitals: the program's capacity is N
+abbrev pub shapeOf : ℕ → ℕ → Shape
+shapeOf points orbitals = record { points = points; capacity = points; orbitals = orbitals }
 
 module _ (bytes : List ℕ) where
   abbrev pub pointsOf : ℕ
@@ -45,5 +50,5 @@ module _ (bytes : List ℕ) where
       let each = lengthOf pointsOf orbitalsOf in
       let free = 40 + 8 * pointsOf in
       let zeros = replicate each plusZero in
-      runOf pointsOf orbitalsOf defaultTolerance (numbers 40 pointsOf bytes)
+      runOf (shapeOf pointsOf orbitalsOf) defaultTolerance (numbers 40 pointsOf bytes)
       (numbers free each bytes) (numbers (free + 8 * each) each bytes) (numbers (free + 16 * each) each bytes) zeros zeros zeros zeros

@@ -12,7 +12,7 @@ use Rattle.transient_run.specs.declared.Solved.{Solved}
 use Rattle.transient_run.specs.declared.Solved.the-variants.{Accepted, Refused as NotSolved}
 use Rattle.transient_run.specs.Calls.{Run, runOf, transientRun}
 use Rattle.run_file.specs.Bytes.{numbers}
-use Rattle.run_file.specs.File.{fileChecks, fileRun}
+use Rattle.run_file.specs.File.{shapeOf, fileChecks, fileRun}
 use Rattle.run_file.specs.Table.{FileSizes}
 use Rattle.run_file.specs.Program.{solvedText, runAnswer, fileText, printed}
 use Rattle.run_file.specs.Appended.{Appended, as-text, whole-text}
@@ -21,7 +21,7 @@ use Rattle.run_file.specs.Appended.{Appended, as-text, whole-text}
 pub decoded-run : {points orbitals : ℕ} {bytes : List ℕ} → FileSizes points orbitals bytes → {times free selfEnergy lesserSelfEnergy zeros : List Float} → let each = lengthOf points orbitals in
     times ≡ numbers 40 points bytes → free ≡ numbers (40 + 8 * points) each bytes → selfEnergy ≡ numbers (40 + 8 * points + 8 * each) each bytes
     → lesserSelfEnergy ≡ numbers (40 + 8 * points + 16 * each) each bytes → zeros ≡ replicate each plusZero
-    → runOf points orbitals defaultTolerance times free selfEnergy lesserSelfEnergy zeros zeros zeros zeros ≡ fileRun bytes
+    → runOf (shapeOf points orbitals) defaultTolerance times free selfEnergy lesserSelfEnergy zeros zeros zeros zeros ≡ fileRun bytes
 unfolding fileRun
 decoded-run s h i j k z = rw (h, i, j, k, z, s .points-named, s .orbitals-named)
 

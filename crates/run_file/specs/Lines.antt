@@ -40,13 +40,13 @@ module _ (t : ℕ) (o : Observed) where
 -- the lines of the first t times
 module _ (points orbitals : ℕ) (lesser : List Float) where
   unfoldable pub timesText : ℕ → List ℕ
-  timesText t = join t (λ u. timeLine u (particleNumber points orbitals lesser u defaultTolerance))
+  timesText t = join t (λ u. timeLine u (particleNumber points points orbitals lesser u defaultTolerance))
 
   pub no-times : [] ≡ timesText 0
   unfolding timesText join
   no-times = refl
 
-  pub time-more : (t : ℕ) {o : Observed} → o ≡ particleNumber points orbitals lesser t defaultTolerance → timesText t ++ timeLine t o ≡ timesText (t + 1)
+  pub time-more : (t : ℕ) {o : Observed} → o ≡ particleNumber points points orbitals lesser t defaultTolerance → timesText t ++ timeLine t o ≡ timesText (t + 1)
   unfolding timesText
   time-more t e = rw (e, join-more)
 

@@ -17,13 +17,14 @@ refusedText number = line (refusedWord ∷ decimal number ∷ [])
 -- "Accepted: `run N n`, then per time" a line: the particle number with the solve's tolerance
 unfoldable pub runText : ℕ → ℕ → Float → List Float → List ℕ
 runText points orbitals tolerance lesser =
-    line (runWord ∷ decimal points ∷ decimal orbitals ∷ []) ++ join points (λ t. timeLine t (particleNumber points orbitals lesser t tolerance))
+    line (runWord ∷ decimal points ∷ decimal orbitals ∷ []) ++ join points (λ t. timeLine t (particleNumber points points orbitals lesser t tolerance))
 
 -- the text of a run's answer, with the lesser function that it left
 unfoldable pub solvedText : ℕ → ℕ → Float → Solved → List Float → List ℕ
 solvedText points orbitals tolerance Accepted lesser = runText points orbitals tolerance lesser
 solvedText points orbitals tolerance (NotSolved r) lesser = refusedText (r .number)
 
+-- of a run whose capacity is N
 unfoldable pub runAnswer : Run → List ℕ
 runAnswer r = let o = transientRun r in solvedText (r .points) (r .orbitals) (r .tolerance) (o .answer) (o .lesser)
 

@@ -9,7 +9,7 @@ ghost use Rattle.lists.specs.Filling.{over};
 ghost use Rattle.dyson.specs.Calls.{defaultTolerance};
 ghost use Rattle.two_time.specs.Layout.{lengthOf};
 ghost use Rattle.transient_run.specs.Calls.{runOf};
-ghost use Rattle.run_file.specs.File.{fileRun};
+ghost use Rattle.run_file.specs.File.{shapeOf, fileRun};
 ghost use Rattle.run_file.specs.Program.{runText, solvedText, runAnswer, printed};
 ghost use Rattle.run_file.specs.Table.{FileSizes};
 ghost use Rattle.run_file.specs.Appended.{Appended};
@@ -24,6 +24,7 @@ use text::run_line;
 use text::time_line;
 use transient_run::Solved;
 use transient_run::transient_run;
+use two_time::capacity::Shape;
 
 // The tolerance of solve and particle number.
 const TOLERANCE: f64 = 1e-12;
@@ -33,9 +34,14 @@ fn run_text(points: usize, orbitals: usize, lesser: &[f64], out: &mut [u8]) -> u
     requires { ⌜ (points ≤ 16) × (orbitals ≤ 16) × (512 ≤ length (now out)) ⌝ }
     ensures { λ r. ⌜ Appended (now (out .entry)) (now (out .exit)) 0 r (runText points orbitals defaultTolerance (now (lesser .entry))) ⌝ }
 {
+    let shape = Shape {
+        points,
+        capacity: points,
+        orbitals,
+    };
     let mut at = run_line(out, points as u8, orbitals as u8);
     for t in 0..points {
-        let number = particle_number(lesser, points, orbitals, t, TOLERANCE);
+        let number = particle_number(lesser, shape, t, TOLERANCE);
         at = time_line(out, at, t as u8, number);
     }
     at
@@ -73,16 +79,20 @@ fn solve(
     out: &mut [u8],
 ) -> usize
     requires { ⌜ (points ≤ 16) × (orbitals ≤ 16) × (512 ≤ length (now out)) ⌝ }
-    ensures { λ r. ⌜ Appended (now (out .entry)) (now (out .exit)) 0 r (runAnswer (runOf points orbitals defaultTolerance (now (times .entry)) (now (free .entry)) (now («self_energy» .entry)) (now («lesser_self_energy» .entry))
+    ensures { λ r. ⌜ Appended (now (out .entry)) (now (out .exit)) 0 r (runAnswer (runOf (shapeOf points orbitals) defaultTolerance (now (times .entry)) (now (free .entry)) (now («self_energy» .entry)) (now («lesser_self_energy» .entry))
         (now (retarded .entry)) (now (lesser .entry)) (now (kernel .entry)) (now («lesser_advanced» .entry)))) ⌝ }
 {
+    let shape = Shape {
+        points,
+        capacity: points,
+        orbitals,
+    };
     let solved = transient_run(
         times,
         free,
         self_energy,
         lesser_self_energy,
-        points,
-        orbitals,
+        shape,
         TOLERANCE,
         retarded,
         lesser,

@@ -3,10 +3,10 @@ use Rattle.lists.specs.Prelude.{_≡_, refl, List, [], _∷_, replicate, Float,
 use lib.Ieee as Ieee
 use Rattle.complex.specs.Arithmetic.{plusZero, one, finite}
 use Rattle.refusal.specs.Verdict.{by, ask, _then_, askAll}
-use Rattle.refusal.specs.Checks.{largeEnough, withinLimits, fitting, finiteEntries, timeBelow, orbitalBelow}
+use Rattle.refusal.specs.Checks.{largeEnough, withinLimits, fitting, withinCapacity, timeBelow, orbitalBelow}
 use Rattle.matrix.specs.declared.Value.the-variants.{Of, Refused}
 use Rattle.matrix.specs.Calls.{valued}
-use Rattle.two_time.specs.Calls.{allLong, sizeChecks, operandChecks}
+use Rattle.two_time.specs.Calls.{allLong, capacityChecks, pointEntries, pointChecks}
 use Rattle.observables.specs.Calls.{lesserChecks}
 use Rattle.view.specs.Calls.{entryChecks, storedEntry}
 
@@ -21,5 +21,5 @@ entries : storedEntry 2 1 numbers 1 0 0 0 ∷ storedEntry 2 1 numbers 0 1 0 0
     ≡ Of (record { re = one; im = plusZero }) ∷ Of (record { re = plusZero; im = plusZero })
     ∷ Refused (by 11) ∷ Refused (by 11) ∷ Refused (by 12) ∷ Refused (by 12) ∷ Refused (by 11)
     ∷ Refused (by 1) ∷ Refused (by 2) ∷ Refused (by 3) ∷ Refused (record { number = 7; operand = 0; first = 3; second = 0; part = plusZero }) ∷ []
-unfolding storedEntry entryChecks valued lesserChecks sizeChecks allLong operandChecks largeEnough withinLimits fitting finiteEntries timeBelow orbitalBelow ask askAll _then_ finite Ieee.ofBits
+unfolding storedEntry entryChecks valued lesserChecks pointChecks capacityChecks allLong largeEnough withinLimits fitting withinCapacity pointEntries timeBelow orbitalBelow ask askAll _then_ finite Ieee.ofBits
 entries = refl

@@ -22,13 +22,13 @@ module _ (points orbitals : ℕ) (numbers : List Float) (t u a b : ℕ) where
       let last = then-pass _ _ (first .1) in
       let times = then-pass _ _ (last .0) in
       let entry = then-pass _ _ (last .1) in
-      let l = passed points orbitals numbers t (first .0) (times .0) in
+      let l = passed points points orbitals numbers t (first .0) (times .0) in
       let p : Placed points orbitals t u a b = record {
         first = l .time-below;
         second = below u points (times .1);
         row = orbital a orbitals (entry .0);
         column = orbital b orbitals (entry .1);
-        stride-most = l .points-most;
+        stride-most = l .capacity-most;
         orbitals-most = l .orbitals-most;
       } in
       read-placed numbers p (l .room)

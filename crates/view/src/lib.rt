@@ -1,5 +1,7 @@
 // A view of one two-time function (document 01, "Where the Rust leans on heap and closures"). The borrow checker covers no
 // function over such a struct, so each is thin: it takes the view apart and calls a covered function with plain parameters.
+mod lent;
+
 ghost use Rattle.lists.specs.Prelude.{_≡_};
 ghost use Rattle.observables.specs.Calls.{lesserChecks, particleNumber, oneBodyExpectation, bondFlowInto};
 ghost use Rattle.view.specs.Calls.{storedEntry};
@@ -7,7 +9,6 @@ use complex::Complex;
 use matrix::DenseMatrix;
 use matrix::Value;
 use observables::Observed;
-use observables::checks::check_lesser;
 use refusal::Refusal;
 use refusal::Verdict;
 use refusal::checks::orbital_below;
@@ -35,9 +36,9 @@ pub fn new<'a>(numbers: &'a [f64], points: usize, orbitals: usize) -> View<'a>
 
 // Checks 1, 2, 3 and 7 of what a view holds. Every other call over it asks them too.
 pub fn check<'a>(view: View<'a>) -> Verdict
-    ensures { λ r. ⌜ r ≡ lesserChecks (view .entry .points) (view .entry .orbitals) (now (view .entry .numbers)) ⌝ }
+    ensures { λ r. ⌜ r ≡ lesserChecks (view .entry .points) (view .entry .points) (view .entry .orbitals) (now (view .entry .numbers)) ⌝ }
 {
-    check_lesser(view.numbers, view.points, view.orbitals)
+    lent::check(view.numbers, view.points, view.orbitals)
 }
 
 // Entry (a, b) of block (t, u) of a function that is lent as numbers: 1, 2, 3 and 7, then 11 of t and of u, then 12 of a and of b.
@@ -54,7 +55,7 @@ pub fn stored_entry(
 {
     let times = time_below(t, points).then(time_below(u, points));
     let entry = orbital_below(a, orbitals).then(orbital_below(b, orbitals));
-    let verdict = check_lesser(numbers, points, orbitals).then(times.then(entry));
+    let verdict = lent::check(numbers, points, orbitals).then(times.then(entry));
     if let Verdict::Refused(r) = verdict {
         return Value::Refused(r);
     }
@@ -74,9 +75,9 @@ pub fn entry<'a>(view: View<'a>, t: usize, u: usize, a: usize, b: usize) -> Valu
 
 // Tr rho of a lesser function.
 pub fn particle_number<'a>(view: View<'a>, time_index: usize, tolerance: f64) -> Observed
-    ensures { λ r. ⌜ r ≡ particleNumber (view .entry .points) (view .entry .orbitals) (now (view .entry .numbers)) «time_index» tolerance ⌝ }
+    ensures { λ r. ⌜ r ≡ particleNumber (view .entry .points) (view .entry .points) (view .entry .orbitals) (now (view .entry .numbers)) «time_index» tolerance ⌝ }
 {
-    observables::particle_number(
+    lent::particle_number(
         view.numbers,
         view.points,
         view.orbitals,
@@ -92,9 +93,9 @@ pub fn one_body_expectation<'a>(
     observable: DenseMatrix,
     tolerance: f64,
 ) -> Observed
-    ensures { λ r. ⌜ r ≡ oneBodyExpectation (view .entry .points) (view .entry .orbitals) (now (view .entry .numbers)) «time_index» observable tolerance ⌝ }
+    ensures { λ r. ⌜ r ≡ oneBodyExpectation (view .entry .points) (view .entry .points) (view .entry .orbitals) (now (view .entry .numbers)) «time_index» observable tolerance ⌝ }
 {
-    observables::one_body_expectation(
+    lent::one_body_expectation(
         view.numbers,
         view.points,
         view.orbitals,
@@ -113,9 +114,9 @@ pub fn bond_flow_into<'a>(
     hopping_ab: Complex,
     charge_over_hbar: f64,
 ) -> Observed
-    ensures { λ r. ⌜ r ≡ bondFlowInto (view .entry .points) (view .entry .orbitals) (now (view .entry .numbers)) «time_index» a b «hopping_ab» «charge_over_hbar» ⌝ }
+    ensures { λ r. ⌜ r ≡ bondFlowInto (view .entry .points) (view .entry .points) (view .entry .orbitals) (now (view .entry .numbers)) «time_index» a b «hopping_ab» «charge_over_hbar» ⌝ }
 {
-    observables::bond_flow_into(
+    lent::bond_flow_into(
         view.numbers,
         view.points,
         view.orbitals,

@@ -10,8 +10,8 @@ use Rattle.observables.proofs.bond_flow_into.Tie as tie
 
 -- the checks in their order
 asked : (c : tie.After-then4) → let x = c .before .before .before .before .before .before .before .before .before .before .args in
-    c .then4 .result ≡ (lesserChecks (x .points) (x .orbitals) (now (x .lesser)) then finiteFactors (x .hopping-ab) (x .charge-over-hbar)
-    then (orbitalBelow (x .a) (x .orbitals) then orbitalBelow (x .b) (x .orbitals)) then timeBelow (x .time-index) (x .points))
+    c .then4 .result ≡ (lesserChecks (x .shape .capacity) (x .shape .points) (x .shape .orbitals) (now (x .lesser)) then finiteFactors (x .hopping-ab) (x .charge-over-hbar)
+    then (orbitalBelow (x .a) (x .shape .orbitals) then orbitalBelow (x .b) (x .shape .orbitals)) then timeBelow (x .time-index) (x .shape .points))
 asked c =
     let l = c .before .before in
     let n = l .before .before in
@@ -29,7 +29,7 @@ bond-flow-into-spec =
     (λ c. search needs) (λ c κs. search needs)  -- enum-known-verdict, refused-requires
     (λ c. let found = c .before .before in c .refused .ensures ∙ observed-no _ _ (sym (asked (found .before .before)) ∙ found .verdict .given .1))  -- returns
     (λ c. search needs)  -- enum-told
-    (λ c κs. let l = bond-passed _ _ _ _ _ _ _ (sym (asked (c .before .before)) ∙ c .enum-told .given .1) in (l .0, (omega arith, omega arith)))  -- entry-requires
+    (λ c κs. let l = bond-passed _ _ _ _ _ _ _ _ (sym (asked (c .before .before)) ∙ c .enum-told .given .1) in (l .0, (omega arith, omega arith)))  -- entry-requires
     (λ c κs. search needs)  -- times-requires
     (λ c.
     let e = c .before .before in

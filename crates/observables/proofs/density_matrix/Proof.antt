@@ -13,5 +13,5 @@ density-matrix-spec =
     (tie.spec
     (λ c κs. search needs) (λ c. search needs) (λ c. search needs)  -- check-lesser-time-requires, enum-told, enum-told-2
     (λ c. checked-no _ (c .enum-told2 .given .1) (c .before .before .check-lesser-time .ensures))  -- returns
-    (λ c κs. time-passed _ _ _ _ (c .before .before .check-lesser-time .ensures) (c .enum-told .given .1))  -- block-requires
+    (λ c κs. time-passed _ _ _ _ _ (c .before .before .check-lesser-time .ensures) (c .enum-told .given .1))  -- block-requires
     (λ c. let e = c .before in checked-yes (e .enum-told .given .1) (e .before .before .check-lesser-time .ensures) (c .block .ensures)))  -- returns-2

@@ -6,11 +6,11 @@ use Rattle.run_file.proofs.run_text.Statement.{statement}
 use Rattle.run_file.proofs.run_text.Tie as tie
 
 abbrev Inv : tie.InvT-loop
-Inv points orbitals lesser out₀ at₀ t₀ out at t =
+Inv points orbitals lesser out₀ shape at₀ t₀ out at t =
     (t ≤ points) × (length out ≡ length out₀) × (at ≤ at₀ + 28 * t) × Appended out₀ out at₀ at (timesText points orbitals lesser t)
 
 abbrev μ : tie.MeasureT-loop
-μ points orbitals lesser out₀ at₀ t₀ out at t = points - t
+μ points orbitals lesser out₀ shape at₀ t₀ out at t = points - t
 
 loop-again : tie.Need-loop-again Inv μ
 loop-again c =

@@ -16,7 +16,7 @@ asked c =
     let o = l .before in
     let t = o .before .before .before in
     c .then4 .ensures
-    ∙ ap₂ _then_ (l .check-lesser .ensures)
+    ∙ ap₂ _then_ (l .check .ensures)
     (c .before .then3 .ensures
     ∙ ap₂ _then_ (t .then .ensures ∙ ap₂ _then_ (t .before .before .time-below .ensures) (t .before .time-below2 .ensures))
     (o .then2 .ensures ∙ ap₂ _then_ (o .before .before .orbital-below .ensures) (o .before .orbital-below2 .ensures)))
@@ -26,7 +26,7 @@ stored-entry-spec =
     own.Tie.close (own.Tie.spec
     (λ c κs. search needs) (λ c κs. search needs) (λ c κs. search needs)  -- time-below-requires, time-below-requires-2, then-requires
     (λ c κs. search needs) (λ c κs. search needs) (λ c κs. search needs)  -- orbital-below-requires, orbital-below-requires-2, then-requires-2
-    (λ c κs. search needs) (λ c κs. search needs) (λ c κs. search needs)  -- check-lesser-requires, then-requires-3, then-requires-4
+    (λ c κs. search needs) (λ c κs. search needs) (λ c κs. search needs)  -- check-requires, then-requires-3, then-requires-4
     (λ c. search needs)  -- enum-known-verdict
     (λ c. let found = c .before in entry-refused _ _ _ _ _ _ _ (asked (found .before .before)) (found .verdict .given .1))  -- returns
     (λ c. search needs) (λ c κs. search needs) (λ c. search needs) (λ c. search needs)  -- enum-told, read-requires, enum-known-z, enum-told-2

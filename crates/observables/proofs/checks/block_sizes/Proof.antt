@@ -9,5 +9,10 @@ block-sizes-spec =
     (tie.spec
     (λ c κs. search needs) (λ c κs. search needs) (λ c κs. search needs)  -- large-enough-requires, not-empty-requires, then-requires
     (λ c κs. search needs) (λ c κs. search needs) (λ c κs. search needs)  -- within-limits-requires, within-block-requires, then-requires-2
-    (λ c κs. search needs) (λ c κs. search needs) (λ c κs. search needs)  -- fitting-requires, then-requires-3, then-requires-4
-    (λ c. let f = c .before .before in let m = f .before in let s = m .before .before .before in c .then4 .ensures ∙ rw (c .before .then3 .ensures, f .fitting .ensures, m .then2 .ensures, m .before .within-block .ensures, m .before .before .within-limits .ensures, s .then .ensures, s .before .not-empty .ensures, s .before .before .large-enough .ensures)))  -- returns
+    (λ c κs. search needs) (λ c κs. search needs) (λ c κs. search needs)  -- fitting-requires, within-capacity-requires, then-requires-3
+    (λ c κs. search needs) (λ c κs. search needs)  -- then-requires-4, then-requires-5
+    (λ c.
+    let room = c .before .before in
+    let most = room .before .before .before in
+    let some = most .before .before .before in
+    c .then5 .ensures ∙ rw (c .before .then4 .ensures, room .then3 .ensures, room .before .within-capacity .ensures, room .before .before .fitting .ensures, most .then2 .ensures, most .before .within-block .ensures, most .before .before .within-limits .ensures, some .then .ensures, some .before .not-empty .ensures, some .before .before .large-enough .ensures)))  -- returns

@@ -17,11 +17,11 @@ use Rattle.observables.proofs.density.block.Statement.{statement}
 use Rattle.observables.proofs.density.block.Tie as tie
 
 abbrev Inv-loop : tie.InvT-loop
-Inv-loop lesser points orbitals time values₀ width a₀ values a =
-    (a ≤ orbitals) × (length values ≡ 512) × (values ≡ over values₀ (join a (λ i. cells orbitals (densityOf points orbitals lesser time i))))
+Inv-loop lesser capacity orbitals time values₀ width a₀ values a =
+    (a ≤ orbitals) × (length values ≡ 512) × (values ≡ over values₀ (join a (λ i. cells orbitals (densityOf capacity orbitals lesser time i))))
 
 abbrev μ-loop : tie.MeasureT-loop
-μ-loop lesser points orbitals time values₀ width a₀ values a = orbitals - a
+μ-loop lesser capacity orbitals time values₀ width a₀ values a = orbitals - a
 
 abbrev start : tie.At-loop Inv-loop μ-loop → tie.Start Inv-loop μ-loop
 start c = c .before .before
@@ -42,7 +42,7 @@ loop-again c =
     let n = x .orbitals in
     let first = l .loop .a * (2 * n) in
     let width = first + 2 * n - first in
-    let row : ℕ → List Float = λ i. cells n (density (readAs (x .points) n (now (x .lesser))) (x .time) i) in
+    let row : ℕ → List Float = λ i. cells n (density (readAs (x .capacity) n (now (x .lesser))) (x .time) i) in
     let h = within t in (
       omega arith,
       same-len-mid {X = Float} first width (l .loop .values) (r .row .last .1 .1 .1 .1 .1 .0) (c .values2 .given) ∙ l .loop .inv .1,
@@ -56,7 +56,7 @@ returns c =
     let l = c .before in
     let x = start l .args in
     let n = x .orbitals in
-    let rho = density (readAs (x .points) n (now (x .lesser))) (x .time) in
+    let rho = density (readAs (x .capacity) n (now (x .lesser))) (x .time) in
     block-made n n rho _ (l .loop .inv .2 ∙ ap (λ (k : ℕ). over (replicate 512 plusZero) (join k (λ i. cells n (rho i)))) (le-antisymm (l .loop .inv .0) (c .loop-test .left)))
 
 pub block-spec : {M : Type 1} → statement M

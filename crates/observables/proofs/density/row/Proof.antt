@@ -9,11 +9,11 @@ use Rattle.observables.proofs.density.row.Statement.{statement}
 use Rattle.observables.proofs.density.row.Tie as tie
 
 abbrev Inv-loop : tie.InvT-loop
-Inv-loop lesser points orbitals time a out₀ b₀ out b =
-    (b ≤ orbitals) × (length out ≡ length out₀) × (out ≡ over out₀ (cells b (densityOf points orbitals lesser time a)))
+Inv-loop lesser capacity orbitals time a out₀ b₀ out b =
+    (b ≤ orbitals) × (length out ≡ length out₀) × (out ≡ over out₀ (cells b (densityOf capacity orbitals lesser time a)))
 
 abbrev μ-loop : tie.MeasureT-loop
-μ-loop lesser points orbitals time a out₀ b₀ out b = orbitals - b
+μ-loop lesser capacity orbitals time a out₀ b₀ out b = orbitals - b
 
 abbrev start : tie.At-loop Inv-loop μ-loop → tie.Start Inv-loop μ-loop
 start c = c .before .before .before
@@ -32,7 +32,7 @@ returns : tie.Need-returns Inv-loop μ-loop
 returns c =
     let l = c .before in
     let x = start l .args in
-    let f = density (readAs (x .points) (x .orbitals) (now (x .lesser))) (x .time) (x .a) in
+    let f = density (readAs (x .capacity) (x .orbitals) (now (x .lesser))) (x .time) (x .a) in
     l .loop .inv .2 ∙ ap (λ (k : ℕ). over (now (x .out)) (cells k f)) (le-antisymm (l .loop .inv .0) (c .loop-test .left))
     ∙ over-all (now (x .out)) (cells (x .orbitals) f) (length-cells (x .orbitals) f ∙ sym (start l .pre .1 .1))
 

@@ -9,10 +9,10 @@ use Rattle.observables.proofs.density.trace.Statement.{statement}
 use Rattle.observables.proofs.density.trace.Tie as tie
 
 abbrev Inv-loop : tie.InvT-loop
-Inv-loop lesser points orbitals time sum₀ a₀ sum a = (a ≤ orbitals) × (sum ≡ sumFrom czero (λ k. densityOf points orbitals lesser time k k) 0 a)
+Inv-loop lesser capacity orbitals time sum₀ a₀ sum a = (a ≤ orbitals) × (sum ≡ sumFrom czero (λ k. densityOf capacity orbitals lesser time k k) 0 a)
 
 abbrev μ-loop : tie.MeasureT-loop
-μ-loop lesser points orbitals time sum₀ a₀ sum a = orbitals - a
+μ-loop lesser capacity orbitals time sum₀ a₀ sum a = orbitals - a
 
 pub trace-spec : {M : Type 1} → statement M
 unfolding trace

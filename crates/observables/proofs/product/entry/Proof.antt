@@ -12,13 +12,13 @@ use Rattle.observables.proofs.product.entry.Tie as tie
 
 -- term k
 abbrev term : List Float → List Float → ℕ → ℕ → ℕ → ℕ → ℕ → ℕ → Complex
-term values lesser points orbitals time a b k = cmul (entriesIn orbitals values a k) (densityOf points orbitals lesser time k b)
+term values lesser capacity orbitals time a b k = cmul (entriesIn orbitals values a k) (densityOf capacity orbitals lesser time k b)
 
 abbrev Inv-loop : tie.InvT-loop
-Inv-loop values lesser points orbitals time a b sum₀ k₀ sum k = (k ≤ orbitals) × (sum ≡ sumFrom czero (term values lesser points orbitals time a b) 0 k)
+Inv-loop values lesser capacity orbitals time a b sum₀ k₀ sum k = (k ≤ orbitals) × (sum ≡ sumFrom czero (term values lesser capacity orbitals time a b) 0 k)
 
 abbrev μ-loop : tie.MeasureT-loop
-μ-loop values lesser points orbitals time a b sum₀ k₀ sum k = orbitals - k
+μ-loop values lesser capacity orbitals time a b sum₀ k₀ sum k = orbitals - k
 
 pub entry-spec : {M : Type 1} → statement M
 unfolding product

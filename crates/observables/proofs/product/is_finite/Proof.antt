@@ -9,11 +9,11 @@ use Rattle.observables.proofs.product.is_finite.Statement.{statement}
 use Rattle.observables.proofs.product.is_finite.Tie as tie
 
 abbrev Inv-loop : tie.InvT-loop
-Inv-loop values lesser points orbitals time all₀ a₀ all a =
-    (a ≤ orbitals) × (all ≡ allIn a orbitals (λ i j. cfinite (productOf points orbitals values lesser time i j)))
+Inv-loop values lesser capacity orbitals time all₀ a₀ all a =
+    (a ≤ orbitals) × (all ≡ allIn a orbitals (λ i j. cfinite (productOf capacity orbitals values lesser time i j)))
 
 abbrev μ-loop : tie.MeasureT-loop
-μ-loop values lesser points orbitals time all₀ a₀ all a = orbitals - a
+μ-loop values lesser capacity orbitals time all₀ a₀ all a = orbitals - a
 
 pub is-finite-spec : {M : Type 1} → statement M
 unfolding allFinite

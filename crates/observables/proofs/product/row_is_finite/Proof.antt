@@ -9,11 +9,11 @@ use Rattle.observables.proofs.product.row_is_finite.Statement.{statemen
 use Rattle.observables.proofs.product.row_is_finite.Tie as tie
 
 abbrev Inv-loop : tie.InvT-loop
-Inv-loop values lesser points orbitals time a all₀ b₀ all b =
-    (b ≤ orbitals) × (all ≡ allBelow b (λ j. cfinite (productOf points orbitals values lesser time a j)))
+Inv-loop values lesser capacity orbitals time a all₀ b₀ all b =
+    (b ≤ orbitals) × (all ≡ allBelow b (λ j. cfinite (productOf capacity orbitals values lesser time a j)))
 
 abbrev μ-loop : tie.MeasureT-loop
-μ-loop values lesser points orbitals time a all₀ b₀ all b = orbitals - b
+μ-loop values lesser capacity orbitals time a all₀ b₀ all b = orbitals - b
 
 pub row-is-finite-spec : {M : Type 1} → statement M
 row-is-finite-spec =

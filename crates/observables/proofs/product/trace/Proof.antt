@@ -9,11 +9,11 @@ use Rattle.observables.proofs.product.trace.Statement.{statement}
 use Rattle.observables.proofs.product.trace.Tie as tie
 
 abbrev Inv-loop : tie.InvT-loop
-Inv-loop values lesser points orbitals time sum₀ a₀ sum a =
-    (a ≤ orbitals) × (sum ≡ sumFrom czero (λ k. productOf points orbitals values lesser time k k) 0 a)
+Inv-loop values lesser capacity orbitals time sum₀ a₀ sum a =
+    (a ≤ orbitals) × (sum ≡ sumFrom czero (λ k. productOf capacity orbitals values lesser time k k) 0 a)
 
 abbrev μ-loop : tie.MeasureT-loop
-μ-loop values lesser points orbitals time sum₀ a₀ sum a = orbitals - a
+μ-loop values lesser capacity orbitals time sum₀ a₀ sum a = orbitals - a
 
 pub trace-spec : {M : Type 1} → statement M
 unfolding trace
