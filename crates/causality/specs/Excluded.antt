@@ -3,32 +3,32 @@ use Rattle.lists.specs.Prelude.{_≡_, refl, sym, ap, _∙_, cond, _&&_, ℕ, _
 use lib.Ieee as Ieee
 use Rattle.complex.specs.declared.Complex.{Complex}
 use Rattle.refusal.specs.declared.Verdict.the-variants.{Pass}
+use Rattle.refusal.specs.Verdict.{zeroed}
 use Rattle.block.specs.Agreement.{Agree}
 use Rattle.two_time.specs.Layout.{TwoTime}
-use Rattle.two_time.specs.ReadBack.{read-back}
 use Rattle.transient_run.specs.declared.Solved.the-variants.{Accepted}
-use Rattle.transient_run.specs.Calls.{Run, solved, kernelOfRun, lesserAdvancedOfRun, runVerdict}
+use Rattle.transient_run.specs.Calls.{Run, solved, kernelMade, lesserAdvancedMade, verdictOf}
 use Rattle.causality.specs.Statement.{Solver, of, SameTo, Demand3}
 use Rattle.causality.specs.Stages.{SquareTo}
-use Rattle.causality.specs.Solvers.{left-made, solverOf}
-use Rattle.causality.specs.Theorem.{retarded, lesser}
+use Rattle.causality.specs.Solvers.{left-made, sizes, solverOf, read-left}
+use Rattle.causality.specs.Made.{callRetarded, callLesser}
 use Rattle.causality.specs.Prefix.{run, passes, short, two, short-passes, to-zero, one-entry}
 
 abbrev last : Run → ℕ
 last r = r .points - 1
 
 abbrev lateRetarded : Run → TwoTime
-lateRetarded r t u a b = cond (eqb t 0 && eqb u 0) (of r (r .free) (last r) (last r) a b) (retarded r t u a b)
+lateRetarded r t u a b = cond (eqb t 0 && eqb u 0) (of r (r .free) (last r) (last r) a b) (callRetarded 0 (r .points) r t u a b)
 
 abbrev pub lateStart : Solver
-lateStart = solverOf lateRetarded lesser kernelOfRun lesserAdvancedOfRun
+lateStart = solverOf lateRetarded (λ r. callLesser 0 (r .points) r) (λ r. kernelMade 0 (r .points) r) (λ r. lesserAdvancedMade 0 (r .points) r)
 
 -- what it leaves at G(0,0)
-starts-late : (r : Run) → runVerdict r ≡ Pass → 0 < r .points → 0 < r .orbitals → of r (lateStart r .retarded) 0 0 0 0 ≡ of r (r .free) (last r) (last r) 0 0
+starts-late : (r : Run) → verdictOf 0 (r .points) r ≡ Pass → 0 < r .points → 0 < r .orbitals → of r (lateStart r .retarded) 0 0 0 0 ≡ of r (r .free) (last r) (last r) 0 0
 unfolding solverOf
-starts-late r v hp ho = rw (left-made (runVerdict r) _ (r .retarded) v) (read-back (r .orbitals) (r .points) (lateRetarded r) 0 0 0 0 hp hp ho ho)
+starts-late r v hp ho = rw (left-made zeroed (verdictOf 0 (r .points) r) _ (r .retarded) v) (read-left r (lateRetarded r) (r .retarded) (sizes 0 (r .points) r v .1) 0 0 hp hp 0 0 ho ho)
 
-accepted : (r : Run) → runVerdict r ≡ Pass → lateStart r .answer ≡ Accepted
+accepted : (r : Run) → verdictOf 0 (r .points) r ≡ Pass → lateStart r .answer ≡ Accepted
 unfolding solverOf solved
 accepted r v = ap solved v
 

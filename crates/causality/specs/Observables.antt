@@ -1,7 +1,7 @@
 -- Observables asked of the lesser functions that two runs left: where the functions agree at the index, the answers are the same.
 -- Assumes nothing.
-use Rattle.lists.specs.Prelude.{_≡_, refl, sym, ap, ap₂, _∙_, true, _&&_, List, ℕ, zero, suc, _+_, _*_, _/_, _%_, _<_, div-add-mod', mod-lt, div-lt-iff-lt-mul, mul-zero}
-use Rattle.lists.specs.Prelude.{decLt, arith, ltb, eqb, length, getD, Float, nan, binary64, ofBits, lt-ltb, ltb-true, eq-eqb, eqb-true}
+use Rattle.lists.specs.Prelude.{_≡_, refl, sym, ap, ap₂, _∙_, true, _&&_, List, [], _∷_, ℕ, zero, suc, _+_, _*_, _/_, _%_, _≤_, _<_, div-add-mod', mod-lt, div-lt-iff-lt-mul, mul-zero}
+use Rattle.lists.specs.Prelude.{decLt, arith, ltb, eqb, length, getD, Float, nan, binary64, ofBits, lt-ltb, ltb-true, eq-eqb, eqb-true, le-leb}
 use Rattle.lists.specs.Agreement.{both, all-agree}
 use Rattle.complex.specs.declared.Complex.{Complex}
 use Rattle.complex.specs.Arithmetic.{plusZero, mul, finite, cfinite, cmul, minusI}
@@ -9,41 +9,53 @@ use Rattle.refusal.specs.declared.Refusal.{Refusal}
 use Rattle.refusal.specs.declared.Verdict.{Verdict}
 use Rattle.refusal.specs.declared.Verdict.the-variants.{Pass, Refused}
 use Rattle.refusal.specs.Verdict.{by, ask, _then_, askAll}
-use Rattle.refusal.specs.Agreement.{ask-pass, ask-yes, then-pass, then-agree, all-asked, asked-agree}
-use Rattle.refusal.specs.Checks.{largeEnough, withinLimits, fitting, finiteEntries, timeBelow, orbitalBelow, finiteFactors}
+use Rattle.refusal.specs.Agreement.{ask-pass, ask-yes, then-pass, then-agree, asked-agree}
+use Rattle.refusal.specs.Checks.{largeEnough, withinLimits, fitting, finiteEntries, timeBelow, orbitalBelow, finiteFactors, withinCapacity}
 use Rattle.matrix.specs.declared.DenseMatrix.{DenseMatrix}
 use Rattle.block.specs.Block.{Entries}
 use Rattle.matrix.specs.Dense.{entriesOf, countOf}
 use Rattle.block.specs.Operations.{product, trace, allFinite}
 use Rattle.block.specs.Agreement.{Agree, product-agree, trace-agree}
-use Rattle.two_time.specs.Layout.{TwoTime, readAs, lengthOf, layOutAll}
-use Rattle.two_time.specs.ReadBack.{length-all, read-back}
-use Rattle.two_time.specs.Finite.{numbers-finite}
-use Rattle.two_time.specs.Calls.{allLong, sizeChecks, operandChecks}
+use Rattle.two_time.specs.Layout.{readAs, lengthOf}
+use Rattle.two_time.specs.Calls.{pointEntries, pointChecks}
+use Rattle.two_time.specs.SizeChecks.{SizesPassed}
+use Rattle.two_time.specs.Lengths.{lengths}
+use Rattle.two_time.specs.CapacityChecks.{capacity-pass}
+use Rattle.two_time.specs.PointsFinite.{points-finite}
 use Rattle.observables.specs.Density.{density}
 use Rattle.observables.specs.Calls.{observed, lesserChecks, lesserBlockChecks, particleNumber, oneBodyExpectation, bondFlowInto}
 use Rattle.causality.specs.Statement.{SameBlock}
 
--- a lesser function that an accepted run left: its sizes passed checks 1 and 2, and it is finite
-pub record Left (points n : ℕ) (f : TwoTime) : Type 0 where
-  pub large : largeEnough points n ≡ Pass
-  pub small : withinLimits points n ≡ Pass
-  pub numbers : (t u a b : ℕ) → t < points → u < points → a < n → b < n → cfinite (f t u a b) ≡ true
+-- a lesser function that an accepted run left: its sizes passed checks 1, 2, 3 and 16, and its entries at the points are finite
+pub record Left (capacity points n : ℕ) (xs : List Float) : Type 0 where
+  pub least : 2 ≤ points
+  pub within : points ≤ capacity
+  pub sizes : SizesPassed capacity n true (xs ∷ [])
+  pub numbers : (t u a b : ℕ) → t < points → u < points → a < n → b < n → cfinite (readAs capacity n xs t u a b) ≡ true
 
-module _ (points n : ℕ) (f : TwoTime) (left : Left points n f) where
-  abbrev list : List Float
-  list = layOutAll points n f
+module _ (capacity points n : ℕ) (xs : List Float) (left : Left capacity points n xs) where
+  entries-pass : pointEntries capacity points n 0 xs ≡ Pass
+  entries-pass = points-finite capacity points n xs (left .sizes .orbitals-least) (left .numbers) 0
 
-  entries-pass : finiteEntries 0 list (length list) ≡ Pass
-  unfolding finiteEntries
-  entries-pass = all-asked (length list) _ (λ i l. ask-yes _ _ (numbers-finite points n f (left .numbers) i l))
+  checks-pass : lesserChecks capacity points n xs ≡ Pass
+  unfolding lesserChecks pointChecks _then_
+  checks-pass = rw (capacity-pass (left .least) (left .within) (left .sizes), entries-pass)
 
-  long : eqb (length list) (lengthOf points n) ≡ true
-  long = eq-eqb (length list) (lengthOf points n) (length-all n points f)
+  -- checks 1, 2, 3 and 16, each by itself
+  large : largeEnough points n ≡ Pass
+  unfolding largeEnough
+  large = ask-yes _ _ (rw (le-leb 2 points (left .least), le-leb 1 n (left .sizes .orbitals-least)))
 
-  checks-pass : lesserChecks points n list ≡ Pass
-  unfolding lesserChecks sizeChecks operandChecks allLong fitting ask _then_
-  checks-pass = rw (left .large, left .small, long, entries-pass)
+  small : withinLimits capacity n ≡ Pass
+  unfolding withinLimits
+  small = ask-yes _ _ (rw (le-leb capacity 256 (left .sizes .points-most), le-leb n 16 (left .sizes .orbitals-most)))
+
+  long : eqb (length xs) (lengthOf capacity n) ≡ true
+  long = eq-eqb (length xs) (lengthOf capacity n) (lengths (left .sizes) .0)
+
+  room : withinCapacity points capacity ≡ Pass
+  unfolding withinCapacity
+  room = ask-yes _ _ (le-leb points capacity (left .within))
 
 below-pass : (t points : ℕ) → t < points → timeBelow t points ≡ Pass
 unfolding timeBelow
@@ -97,63 +109,61 @@ block-asked x x' s =
 
 -- ---- two functions that two runs left, which agree at (t,t)
 
-module _ (n points points' : ℕ) (f f' : TwoTime) (left : Left points n f) (left' : Left points' n f') (t : ℕ) (ht : t < points) (ht' : t < points')
-    (same : Agree n (f t t) (f' t t)) where
+module _ (n capacity capacity' points points' : ℕ) (xs xs' : List Float) (left : Left capacity points n xs) (left' : Left capacity' points' n xs') (t : ℕ) (ht : t < points) (ht' : t < points')
+    (same : Agree n (readAs capacity n xs t t) (readAs capacity' n xs' t t)) where
   abbrev rho : Entries
-  rho = density (readAs points n (layOutAll points n f)) t
+  rho = density (readAs capacity n xs) t
 
   abbrev rho' : Entries
-  rho' = density (readAs points' n (layOutAll points' n f')) t
+  rho' = density (readAs capacity' n xs') t
 
   density-agree : Agree n rho rho'
   unfolding density
-  density-agree a b ha hb =
-      let e : readAs points n (layOutAll points n f) t t a b ≡ readAs points' n (layOutAll points' n f') t t a b =
-      read-back n points f t t a b ht ht ha hb ∙ same a b ha hb ∙ sym (read-back n points' f' t t a b ht' ht' ha hb) in
-      ap (λ (z : Complex). cmul minusI z) e
+  density-agree a b ha hb = ap (λ (z : Complex). cmul minusI z) (same a b ha hb)
 
-  pub particles-agree : (tolerance : Float) → particleNumber points n (layOutAll points n f) t tolerance ≡ particleNumber points' n (layOutAll points' n f') t tolerance
+  pub particles-agree : (tolerance : Float) → particleNumber capacity points n xs t tolerance ≡ particleNumber capacity' points' n xs' t tolerance
   unfolding particleNumber
   particles-agree tolerance =
-      rw (checks-pass points n f left, checks-pass points' n f' left', below-pass t points ht, below-pass t points' ht', trace-agree n rho rho' density-agree)
+      rw (checks-pass capacity points n xs left, checks-pass capacity' points' n xs' left', below-pass t points ht, below-pass t points' ht', trace-agree n rho rho' density-agree)
 
-  pub flows-agree : (a b : ℕ) (hopping : Complex) (charge : Float)
-      → bondFlowInto points n (layOutAll points n f) t a b hopping charge ≡ bondFlowInto points' n (layOutAll points' n f') t a b hopping charge
+  pub flows-agree : (a b : ℕ) (hopping : Complex) (charge : Float) → bondFlowInto capacity points n xs t a b hopping charge ≡ bondFlowInto capacity' points' n xs' t a b hopping charge
   unfolding bondFlowInto
   flows-agree a b hopping charge =
       observed-agree _ _ _ _
-      (rw (checks-pass points n f left, checks-pass points' n f' left', below-pass t points ht, below-pass t points' ht'))
+      (rw (checks-pass capacity points n xs left, checks-pass capacity' points' n xs' left', below-pass t points ht, below-pass t points' ht'))
       (λ passed.
-      let factors = then-pass (lesserChecks points n (layOutAll points n f)) _ passed .1 in
+      let factors = then-pass (lesserChecks capacity points n xs) _ passed .1 in
       let orbitals = then-pass (orbitalBelow a n) (orbitalBelow b n) (then-pass _ _ (then-pass (finiteFactors hopping charge) _ factors .1) .0) in
       ap (λ (z : Complex). mul (mul (ofBits binary64 0x4000_0000_0000_0000) charge) (cmul hopping z .im))
       (density-agree b a (orbital-below b n (orbitals .1)) (orbital-below a n (orbitals .0))))
 
   -- the block's checks: all but the block's own shape and numbers pass
-  block-checks-agree : (x x' : DenseMatrix) → SameBlock x x' → lesserBlockChecks points n (layOutAll points n f) x ≡ lesserBlockChecks points' n (layOutAll points' n f') x'
+  block-checks-agree : (x x' : DenseMatrix) → SameBlock x x' → lesserBlockChecks capacity points n xs x ≡ lesserBlockChecks capacity' points' n xs' x'
   unfolding lesserBlockChecks
   block-checks-agree x x' s =
       rw (
-        left .large,
-        left' .large,
-        left .small,
-        left' .small,
-        long points n f left,
-        long points' n f' left',
-        entries-pass points n f left,
-        entries-pass points' n f' left',
+        large capacity points n xs left,
+        large capacity' points' n xs' left',
+        small capacity points n xs left,
+        small capacity' points' n xs' left',
+        long capacity points n xs left,
+        long capacity' points' n xs' left',
+        room capacity points n xs left,
+        room capacity' points' n xs' left',
+        entries-pass capacity points n xs left,
+        entries-pass capacity' points' n xs' left',
         block-asked x x' s,
         s .rows,
         s .columns,
       )
 
-  module _ (x x' : DenseMatrix) (s : SameBlock x x') (passed : lesserBlockChecks points n (layOutAll points n f) x ≡ Pass) where
+  module _ (x x' : DenseMatrix) (s : SameBlock x x') (passed : lesserBlockChecks capacity points n xs x ≡ Pass) where
     -- past check 3 the block is n by n
     shape : (x .rows ≡ n) × (x .columns ≡ n)
     unfolding lesserBlockChecks fitting
     shape =
         let fits = ask-pass _ (by 3) (then-pass _ _ (then-pass _ _ (then-pass _ _ passed .1) .1) .0) in
-        let square = both (eqb (x .rows) n) (eqb (x .columns) n) (both (eqb (length (layOutAll points n f)) (lengthOf points n)) (eqb (x .rows) n && eqb (x .columns) n) fits .1) in
+        let square = both (eqb (x .rows) n) (eqb (x .columns) n) (both (eqb (length xs) (lengthOf capacity n)) (eqb (x .rows) n && eqb (x .columns) n) fits .1) in
         (eqb-true (x .rows) n (square .0), eqb-true (x .columns) n (square .1))
 
     made-agree : Agree n (product n (entriesOf x) rho) (product n (entriesOf x') rho')
@@ -166,11 +176,10 @@ module _ (n points points' : ℕ) (f f' : TwoTime) (left : Left points n f) (lef
     traced : trace n (product n (entriesOf x) rho) ≡ trace n (product n (entriesOf x') rho')
     traced = trace-agree n (product n (entriesOf x) rho) (product n (entriesOf x') rho') made-agree
 
-  pub expectations-agree : (x x' : DenseMatrix) (tolerance : Float) → SameBlock x x'
-      → oneBodyExpectation points n (layOutAll points n f) t x tolerance ≡ oneBodyExpectation points' n (layOutAll points' n f') t x' tolerance
+  pub expectations-agree : (x x' : DenseMatrix) (tolerance : Float) → SameBlock x x' → oneBodyExpectation capacity points n xs t x tolerance ≡ oneBodyExpectation capacity' points' n xs' t x' tolerance
   unfolding oneBodyExpectation
   expectations-agree x x' tolerance s =
       observed-agree _ _ _ _
       (then-agree _ _ _ _ (block-checks-agree x x' s)
       (λ passed. rw (below-pass t points ht, below-pass t points' ht', finite-agree x x' s passed, traced x x' s passed)))
-      (λ passed. ap (λ (z : Complex). z .re) (traced x x' s (then-pass (lesserBlockChecks points n (layOutAll points n f) x) _ passed .0)))
+      (λ passed. ap (λ (z : Complex). z .re) (traced x x' s (then-pass (lesserBlockChecks capacity points n xs x) _ passed .0)))

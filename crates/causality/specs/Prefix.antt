@@ -1,5 +1,5 @@
 -- P12's run and the run of its first two points: both are accepted and agree up to 1, so what demand 3 supposes can be met, by runs of different
--- N too. Assumes nothing.
+-- N and capacity too. Assumes nothing.
 use Rattle.lists.specs.Prelude.{_≡_, refl, ap, [], _∷_, ℕ, zero, suc, _≤_, arith, getD, replicate, Float, nan, binary64}
 use lib.Ieee as Ieee
 use Rattle.complex.specs.Arithmetic.{plusZero, one}
@@ -10,7 +10,7 @@ use Rattle.two_time.specs.Layout.{TwoTime, readAs}
 use Rattle.dyson.specs.Calls.{supportChecks}
 use Rattle.dyson.specs.Cases.{dysonComputation}
 use Rattle.transient_run.specs.declared.Solved.the-variants.{Accepted}
-use Rattle.transient_run.specs.Calls.{Run, runOf, solved, runVerdict, transientRun}
+use Rattle.transient_run.specs.Calls.{Run, runOf, solved, verdictOf, worked, transientRun}
 use Rattle.transient_run.specs.Cases.{runComputation}
 use Rattle.transient_run.specs.P12 as P12
 use Rattle.causality.specs.Statement.{of, SameTo, Comparable}
@@ -24,30 +24,30 @@ pub inputs-pass : supportChecks 3 1 one (readAs 3 1 P12.lower) (readAs 3 1 P12.l
 unfolding dysonComputation
 inputs-pass = refl
 
-pub passes : runVerdict run ≡ Pass
+pub passes : verdictOf 0 3 run ≡ Pass
 passes = P12.verdict one (replicate 18 one) refl inputs-pass
 
 -- the run of its first two points, with x for free's last entry
 abbrev pub short : Float → Run
 short x =
     let before = replicate 8 one in
-    runOf 2 1 one (plusZero ∷ one ∷ []) (one ∷ plusZero ∷ plusZero ∷ plusZero ∷ one ∷ plusZero ∷ x ∷ plusZero ∷ [])
+    runOf (record { points = 2; capacity = 2; orbitals = 1 }) one (plusZero ∷ one ∷ []) (one ∷ plusZero ∷ plusZero ∷ plusZero ∷ one ∷ plusZero ∷ x ∷ plusZero ∷ [])
     (one ∷ plusZero ∷ plusZero ∷ plusZero ∷ one ∷ plusZero ∷ one ∷ plusZero ∷ []) (plusZero ∷ one ∷ plusZero ∷ one ∷ plusZero ∷ one ∷ plusZero ∷ one ∷ []) before before before before
 
 abbrev pub two : Float
 two = Ieee.ofBits binary64 0x4000_0000_0000_0000
 
-pub short-passes : (runVerdict (short one) ≡ Pass) × (runVerdict (short two) ≡ Pass)
+pub short-passes : (verdictOf 0 2 (short one) ≡ Pass) × (verdictOf 0 2 (short two) ≡ Pass)
 unfolding runComputation
 short-passes = (refl, refl)
 
-answered : (r : Run) → runVerdict r ≡ Pass → transientRun r .answer ≡ Accepted
-unfolding transientRun solved
+answered : (r : Run) → verdictOf 0 (r .points) r ≡ Pass → transientRun r .answer ≡ Accepted
+unfolding transientRun worked solved
 answered r e = ap solved e
 
 -- ---- what holds at 0 and 1, and what holds at 0
 
-to-one : (P : ℕ → Type 0) → P 0 → P 1 → (i : ℕ) → i ≤ 1 → P i
+pub to-one : (P : ℕ → Type 0) → P 0 → P 1 → (i : ℕ) → i ≤ 1 → P i
 to-one P p q zero h = p
 to-one P p q (suc zero) h = q
 to-one P p q (suc (suc i)) h = absurd (omega arith)
@@ -60,7 +60,7 @@ to-zero P p (suc i) h = absurd (omega arith)
 pub one-entry : (x y : Entries) → x 0 0 ≡ y 0 0 → Agree 1 x y
 one-entry x y h a b ha hb = to-zero (λ i. x i b ≡ y i b) (to-zero (λ j. x 0 j ≡ y 0 j) h b (omega arith)) a (omega arith)
 
-square : (x y : TwoTime) → x 0 0 0 0 ≡ y 0 0 0 0 → x 0 1 0 0 ≡ y 0 1 0 0 → x 1 0 0 0 ≡ y 1 0 0 0 → x 1 1 0 0 ≡ y 1 1 0 0 → SquareTo 1 1 x y
+pub square : (x y : TwoTime) → x 0 0 0 0 ≡ y 0 0 0 0 → x 0 1 0 0 ≡ y 0 1 0 0 → x 1 0 0 0 ≡ y 1 0 0 0 → x 1 1 0 0 ≡ y 1 1 0 0 → SquareTo 1 1 x y
 square x y p q r s t u ht hu =
     to-one (λ i. Agree 1 (x i u) (y i u))
     (to-one (λ j. Agree 1 (x 0 j) (y 0 j)) (one-entry (x 0 0) (y 0 0) p) (one-entry (x 0 1) (y 0 1) q) u hu)

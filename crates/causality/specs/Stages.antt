@@ -1,7 +1,6 @@
--- Each stage of a run reads only what stands on and below the diagonal in rows to k, or with both indices to k: the four sums, by one lemma.
--- Assumes nothing.
-use Rattle.lists.specs.Prelude.{_≡_, refl, List, ℕ, zero, suc, _≤_, le-trans, arith, ltb, Float, ltb-false}
-use Rattle.lists.specs.Agreement.{cond-agree}
+-- Each stage of a run reads only what stands on and below the diagonal in rows to k, or with both indices to k: the terms of the four sums at a place
+-- agree. Assumes nothing.
+use Rattle.lists.specs.Prelude.{_≡_, refl, sym, _∙_, List, ℕ, zero, suc, _≤_, _<_, le-trans, decLt, arith, Float}
 use Rattle.block.specs.Block.{Entries}
 use Rattle.block.specs.Operations.{adjoint}
 use Rattle.block.specs.Agreement.{Agree, adjoint-agree}
@@ -9,11 +8,11 @@ use Rattle.grid.specs.Weights.{intervalWeight}
 use Rattle.grid.specs.Agreement.{AgreeTo, weight-agree}
 use Rattle.two_time.specs.declared.sums.Sums.the-variants.{Causal, LesserAdvanced, Lesser}
 use Rattle.two_time.specs.Layout.{TwoTime}
-use Rattle.two_time.specs.WeightedSum.{weightedSum}
-use Rattle.two_time.specs.Agreement.{weighted-agree}
-use Rattle.two_time.specs.Sums.{interval, dysonTerms, termsAt, sumsOf}
+use Rattle.two_time.specs.Agreement.{AgreeTerms, weighted-agree}
+use Rattle.two_time.specs.Sums.{interval, dysonTerms, termsAt}
 use Rattle.two_time.specs.Intervals.{interval-count}
-use Rattle.dyson.specs.Retarded.{solve, retardedRetarded}
+use Rattle.dyson.specs.Retarded.{retardedOnward}
+use Rattle.dyson.specs.Recursion.{recursion, held-is, above}
 
 -- two functions agree on and below the diagonal in rows to k; in rows to k; with both indices to k
 abbrev pub LowerTo : ℕ → ℕ → TwoTime → TwoTime → Type 0
@@ -30,56 +29,76 @@ module _ (n k : ℕ) (times times' : List Float) (ht : AgreeTo k times times') w
   weights : (s e p : ℕ) → e ≤ k → s ≤ p → p ≤ e → intervalWeight times p s e ≡ intervalWeight times' p s e
   weights s e p he lo hi = weight-agree times times' p s e (λ i hi'. ht i (le-trans hi' he)) lo hi
 
-  -- a sum over it
-  interval-agree : (s e : ℕ) → e ≤ k → (x x' y y' : ℕ → Entries) → ((p : ℕ) → s ≤ p → p ≤ e → Agree n (x p) (x' p)) → ((p : ℕ) → s ≤ p → p ≤ e → Agree n (y p) (y' p))
-      → Agree n (weightedSum n (interval times s e x y)) (weightedSum n (interval times' s e x' y'))
-  interval-agree s e he x x' y y' hx hy =
-      weighted-agree n (interval times s e x y) (interval times' s e x' y')
-      (record {
+  -- the terms of a sum over it
+  interval-terms : (s e : ℕ) → e ≤ k → (x x' y y' : ℕ → Entries) → ((p : ℕ) → s ≤ p → p ≤ e → Agree n (x p) (x' p)) → ((p : ℕ) → s ≤ p → p ≤ e → Agree n (y p) (y' p))
+      → AgreeTerms n (interval times s e x y) (interval times' s e x' y')
+  interval-terms s e he x x' y y' hx hy =
+      record {
         from = refl;
         count = refl;
         start = λ c d hc hd. refl;
         weight = λ p lo hi. weights s e p he lo (omega (arith, interval-count s e));
         left = λ p lo hi. hx p lo (omega (arith, interval-count s e));
         right = λ p lo hi. hy p lo (omega (arith, interval-count s e));
-      })
+      }
 
-  module _ (points points' : ℕ) where
+  module _ (points points' : ℕ) (t u : ℕ) (hk : t ≤ k) where
     -- K(t,u) sums over u ≤ s ≤ t
-    pub causal-stage : (x x' y y' : TwoTime) → LowerTo n k x x' → LowerTo n k y y' → LowerTo n k (sumsOf Causal points n times x y) (sumsOf Causal points' n times' x' y')
-    unfolding sumsOf termsAt
-    causal-stage x x' y y' hx hy t u hk hu =
-        interval-agree u t hk (λ s. x t s) (λ s. x' t s) (λ s. y s u) (λ s. y' s u) (λ s lo hi. hx t s hk hi) (λ s lo hi. hy s u (le-trans hi hk) lo)
+    pub causal-stage : (x x' y y' : TwoTime) → LowerTo n k x x' → LowerTo n k y y' → AgreeTerms n (termsAt Causal points times x y t u) (termsAt Causal points' times' x' y' t u)
+    unfolding termsAt
+    causal-stage x x' y y' hx hy =
+        interval-terms u t hk (λ s. x t s) (λ s. x' t s) (λ s. y s u) (λ s. y' s u) (λ s lo hi. hx t s hk hi) (λ s lo hi. hy s u (le-trans hi hk) lo)
 
     -- X(t,u) sums over s ≤ u
-    pub lesser-advanced-stage : (x x' g g' : TwoTime) → SquareTo n k x x' → SquareTo n k g g' → SquareTo n k (sumsOf LesserAdvanced points n times x g) (sumsOf LesserAdvanced points' n times' x' g')
-    unfolding sumsOf termsAt
-    lesser-advanced-stage x x' g g' hx hg t u hk hu =
-        interval-agree 0 u hu (λ s. x t s) (λ s. x' t s) (λ s. adjoint (g u s)) (λ s. adjoint (g' u s))
+    pub lesser-advanced-stage : (x x' g g' : TwoTime) → SquareTo n k x x' → SquareTo n k g g' → u ≤ k
+        → AgreeTerms n (termsAt LesserAdvanced points times x g t u) (termsAt LesserAdvanced points' times' x' g' t u)
+    unfolding termsAt
+    lesser-advanced-stage x x' g g' hx hg hu =
+        interval-terms 0 u hu (λ s. x t s) (λ s. x' t s) (λ s. adjoint (g u s)) (λ s. adjoint (g' u s))
         (λ s lo hi. hx t s hk (le-trans hi hu)) (λ s lo hi. adjoint-agree n (g u s) (g' u s) (hg u s hu (le-trans hi hu)))
 
     -- G^<(t,u) sums over s ≤ t
-    pub lesser-stage : (g g' x x' : TwoTime) → SquareTo n k g g' → SquareTo n k x x' → SquareTo n k (sumsOf Lesser points n times g x) (sumsOf Lesser points' n times' g' x')
-    unfolding sumsOf termsAt
-    lesser-stage g g' x x' hg hx t u hk hu =
-        interval-agree 0 t hk (λ s. g t s) (λ s. g' t s) (λ s. x s u) (λ s. x' s u) (λ s lo hi. hg t s hk (le-trans hi hk)) (λ s lo hi. hx s u (le-trans hi hk) hu)
+    pub lesser-stage : (g g' x x' : TwoTime) → SquareTo n k g g' → SquareTo n k x x' → u ≤ k → AgreeTerms n (termsAt Lesser points times g x t u) (termsAt Lesser points' times' g' x' t u)
+    unfolding termsAt
+    lesser-stage g g' x x' hg hx hu =
+        interval-terms 0 t hk (λ s. g t s) (λ s. g' t s) (λ s. x s u) (λ s. x' s u) (λ s lo hi. hg t s hk (le-trans hi hk)) (λ s lo hi. hx s u (le-trans hi hk) hu)
 
-  -- G(t,u) sums over u ≤ s < t, and above the diagonal is +0
+  -- G(t,u) starts at free and sums over u ≤ s < t
   module _ (f f' m m' : TwoTime) (hf : LowerTo n k f f') (hm : LowerTo n k m m') where
-    solve-stage : (d : ℕ) → LowerTo n k (solve n times f m d) (solve n times' f' m' d)
-    unfolding solve
-    solve-stage zero t u hk hu = λ a b ha hb. refl
-    solve-stage (suc d) t u hk hu =
-        weighted-agree n (dysonTerms times f m (solve n times f m d) t u) (dysonTerms times' f' m' (solve n times' f' m' d) t u)
-        (record {
+    pub dyson-stage : (g g' : TwoTime) (t u : ℕ) → t ≤ k → u ≤ t → ((s : ℕ) → u ≤ s → s < t → Agree n (g s u) (g' s u)) → AgreeTerms n (dysonTerms times f m g t u) (dysonTerms times' f' m' g' t u)
+    dyson-stage g g' t u hk hu h =
+        record {
           from = refl;
           count = refl;
           start = hf t u hk hu;
           weight = λ s lo hi. weights u t s hk lo (omega arith);
           left = λ s lo hi. hm t s hk (omega arith);
-          right = λ s lo hi. solve-stage d s u (omega arith) lo;
-        })
+          right = λ s lo hi. h s lo (omega arith);
+        }
 
-    pub retarded-stage : RowsTo n k (retardedRetarded n times f m) (retardedRetarded n times' f' m')
-    unfolding retardedRetarded
-    retarded-stage t u hk a b ha hb = cond-agree (ltb t u) _ _ _ _ (λ _. refl) (λ below. solve-stage (suc t) t u hk (ltb-false t u below) a b ha hb)
+    -- above the diagonal it is +0; of one of the two functions the rows before `old` may be held, where what is held agrees with the other
+    module _ (old : ℕ) (held held' : TwoTime)
+        (same : (t u : ℕ) → t ≤ k → u ≤ t → t < old → Agree n (held t u) (retardedOnward n times' f' m' 0 held' t u)) where
+      abbrev g : TwoTime
+      g = retardedOnward n times f m old held
+
+      abbrev g' : TwoTime
+      g' = retardedOnward n times' f' m' 0 held'
+
+      below : (d t u : ℕ) → t < d → t ≤ k → u ≤ t → Agree n (g t u) (g' t u)
+      below zero t u hd hk hu = absurd (omega arith)
+      below (suc d) t u hd hk hu = λ a b ha hb.
+          elim (decLt t old) [
+            | yes before ↦ held-is n times f m old held t u a b before hu ∙ same t u hk hu before a b ha hb
+            | no onward ↦
+                recursion n times f m old held t u (omega arith) hu a b ha hb
+                ∙ weighted-agree n _ _ (dyson-stage g g' t u hk hu (λ s lo hi. below d s u (omega arith) (omega arith) lo)) a b ha hb
+                ∙ sym (recursion n times' f' m' 0 held' t u (omega arith) hu a b ha hb)
+          ]
+
+      pub retarded-stage : RowsTo n k g g'
+      retarded-stage t u hk a b ha hb =
+          elim (decLt t u) [
+            | yes less ↦ above n times f m old held t u a b less ∙ sym (above n times' f' m' 0 held' t u a b less)
+            | no not-less ↦ below (suc t) t u (omega arith) hk (omega arith) a b ha hb
+          ]

@@ -17,13 +17,14 @@ use Rattle.observables.specs.Calls.{particleNumber, oneBodyExpectation, bondFlo
 abbrev pub Solver : Type 0
 Solver = Run → Outcome
 
--- a list that a run was given or left, as a function of places with that run's N and n
+-- A list that a run was given or left, as a function of places. Document 02, L1: "in the words of demand 3 a run's capacity goes with its N, so that two
+-- runs may differ in it".
 abbrev pub of : Run → List Float → TwoTime
-of r xs = readAs (r .points) (r .orbitals) xs
+of r xs = readAs (r .capacity) (r .orbitals) xs
 
 -- Two runs of equal n agree in bits up to index k: in times to k, in both retarded inputs on and below the diagonal in rows to k, and in the
--- lesser self-energy with both indices to k. All else is free: the tolerance, the point counts, numbers past k or above the diagonal, and
--- what outputs and scratch held.
+-- lesser self-energy with both indices to k. All else is free: the tolerance, the point counts and capacities, numbers past k or above the diagonal, the
+-- room beyond the points, and what outputs and scratch held.
 pub record SameTo (k : ℕ) (r r' : Run) : Type 0 where
   pub orbitals : r .orbitals ≡ r' .orbitals
   pub times : AgreeTo k (r .times) (r' .times)
@@ -47,15 +48,15 @@ pub record SameRows (k : ℕ) (r r' : Run) (o o' : Outcome) : Type 0 where
   pub retarded : SameRetarded k r r' (o .retarded) (o' .retarded)
   pub lesser : (t u : ℕ) → t ≤ k → u ≤ k → Agree (r .orbitals) (of r (o .lesser) t u) (of r' (o' .lesser) t u)
   pub particles : (t : ℕ) (tolerance : Float) → t ≤ k
-      → particleNumber (r .points) (r .orbitals) (o .lesser) t tolerance ≡ particleNumber (r' .points) (r' .orbitals) (o' .lesser) t tolerance
+      → particleNumber (r .capacity) (r .points) (r .orbitals) (o .lesser) t tolerance ≡ particleNumber (r' .capacity) (r' .points) (r' .orbitals) (o' .lesser) t tolerance
   pub expectations : (t : ℕ) (x x' : DenseMatrix) (tolerance : Float) → t ≤ k → SameBlock x x'
-      → oneBodyExpectation (r .points) (r .orbitals) (o .lesser) t x tolerance ≡ oneBodyExpectation (r' .points) (r' .orbitals) (o' .lesser) t x' tolerance
+      → oneBodyExpectation (r .capacity) (r .points) (r .orbitals) (o .lesser) t x tolerance ≡ oneBodyExpectation (r' .capacity) (r' .points) (r' .orbitals) (o' .lesser) t x' tolerance
   pub flows : (t a b : ℕ) (hopping : Complex) (charge : Float) → t ≤ k
-      → bondFlowInto (r .points) (r .orbitals) (o .lesser) t a b hopping charge ≡ bondFlowInto (r' .points) (r' .orbitals) (o' .lesser) t a b hopping charge
+      → bondFlowInto (r .capacity) (r .points) (r .orbitals) (o .lesser) t a b hopping charge ≡ bondFlowInto (r' .capacity) (r' .points) (r' .orbitals) (o' .lesser) t a b hopping charge
 
--- every entry above the diagonal of a retarded function is +0
-abbrev pub ZeroAbove : ℕ → ℕ → List Float → Type 0
-ZeroAbove points orbitals xs = (t u a b : ℕ) → t < u → u < points → a < orbitals → b < orbitals → readAs points orbitals xs t u a b ≡ czero
+-- every entry above the diagonal of what a run left as xs in its retarded output is +0
+abbrev pub ZeroAbove : Run → List Float → Type 0
+ZeroAbove r xs = (t u a b : ℕ) → t < u → u < r .points → a < r .orbitals → b < r .orbitals → of r xs t u a b ≡ czero
 
 -- two calls, given r and r', that are both accepted and agree up to k, an index of both; `yes` and `yes'` say that each is accepted
 pub record Comparable (k : ℕ) (r r' : Run) (yes yes' : Type 0) : Type 0 where
@@ -68,8 +69,8 @@ pub record Comparable (k : ℕ) (r r' : Run) (yes yes' : Type 0) : Type 0 where
 -- demand 3 of two runs, given as r and r', that answered and left o and o'
 pub record Demanded (r r' : Run) (o o' : Outcome) : Type 0 where
   pub blind : (k : ℕ) → Comparable k r r' (o .answer ≡ Accepted) (o' .answer ≡ Accepted) → SameRows k r r' o o'
-  pub above : o .answer ≡ Accepted → ZeroAbove (r .points) (r .orbitals) (o .retarded)
-  pub above' : o' .answer ≡ Accepted → ZeroAbove (r' .points) (r' .orbitals) (o' .retarded)
+  pub above : o .answer ≡ Accepted → ZeroAbove r (o .retarded)
+  pub above' : o' .answer ≡ Accepted → ZeroAbove r' (o' .retarded)
 
 -- demand 3 of a solver: of any two of its runs
 abbrev pub Demand3 : Solver → Type 0
@@ -78,5 +79,5 @@ Demand3 solver = (r r' : Run) → Demanded r r' (solver r) (solver r')
 -- demand 3 of two Dyson calls, given r and r', that answered and left s and s'
 pub record DysonDemanded (r r' : Run) (s s' : Solved) : Type 0 where
   pub blind : (k : ℕ) → Comparable k r r' (s .answer ≡ Pass) (s' .answer ≡ Pass) → SameRetarded k r r' (s .retarded) (s' .retarded)
-  pub above : s .answer ≡ Pass → ZeroAbove (r .points) (r .orbitals) (s .retarded)
-  pub above' : s' .answer ≡ Pass → ZeroAbove (r' .points) (r' .orbitals) (s' .retarded)
+  pub above : s .answer ≡ Pass → ZeroAbove r (s .retarded)
+  pub above' : s' .answer ≡ Pass → ZeroAbove r' (s' .retarded)

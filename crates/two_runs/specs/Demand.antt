@@ -40,5 +40,5 @@ definition r r' q x x' =
 pub blind : {r r' : Run} {q : Question} {x x' : DenseMatrix} {a a' : Answered} → a ≡ runAnswers r q x → a' ≡ runAnswers r' q x' → Blind r r' q x x' a a'
 blind {r} {r'} {q} {x} {x'} e e' = rw (e, e') (definition r r' q x x')
 
-pub dyson-blind : {r r' : Run} {s s' : Solved} → s ≡ dysonOf r → s' ≡ dysonOf r' → DysonDemanded r r' s s'
-dyson-blind {r} {r'} e e' = rw (e, e') (dyson-demand r r')
+pub dyson-blind : {r r' : Run} {s s' : Solved} → r .points ≡ r .capacity → r' .points ≡ r' .capacity → s ≡ dysonOf r → s' ≡ dysonOf r' → DysonDemanded r r' s s'
+dyson-blind {r} {r'} c c' e e' = rw (e, e') (dyson-demand r r' c c')

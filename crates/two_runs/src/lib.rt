@@ -1,9 +1,12 @@
-// Demand 3 of the running code: what two calls of the solver leave, and what each observable answers of two runs, whatever data come later.
+// Demand 3 of the running code: what two calls of the solver leave, and what each observable answers of two runs, whatever data come later. And the law of
+// appends: what a run leaves with appends after it.
 ghost use Rattle.lists.specs.Prelude.{_≡_};
-ghost use Rattle.transient_run.specs.Calls.{runOf};
+ghost use Rattle.transient_run.specs.declared.Solved.the-variants.{Accepted};
+ghost use Rattle.transient_run.specs.Calls.{runOf, transientRun};
 ghost use Rattle.causality.specs.Statement.{DysonDemanded};
 ghost use Rattle.causality.specs.Dyson.{callOf, dysonOf};
-ghost use Rattle.two_runs.specs.Contracts.{runAnswers, answersIn, solvedIn, Blind};
+ghost use Rattle.two_runs.specs.Contracts.{outcomeIn, runAnswers, answersIn, solvedIn, Blind};
+ghost use Rattle.two_runs.specs.Appending.{runThenAppend};
 use complex::Complex;
 use dyson::retarded_dyson_with_tolerance;
 use matrix::DenseMatrix;
@@ -12,8 +15,11 @@ use observables::bond_flow_into;
 use observables::one_body_expectation;
 use observables::particle_number;
 use refusal::Verdict;
+use refusal::checks::least;
 use transient_run::Solved;
+use transient_run::append_point;
 use transient_run::transient_run;
+use two_time::capacity::Shape;
 
 // What is asked of a run beside a block: the time, the tolerance of the imaginary part, and the bond.
 pub struct Question {
@@ -51,8 +57,7 @@ pub fn run_and_ask(
     free: &[f64],
     self_energy: &[f64],
     lesser_self_energy: &[f64],
-    points: usize,
-    orbitals: usize,
+    shape: Shape,
     tolerance: f64,
     retarded: &mut [f64],
     lesser: &mut [f64],
@@ -62,15 +67,14 @@ pub fn run_and_ask(
     block: DenseMatrix,
 ) -> Answers
     ensures { λ r. ⌜ answersIn r (now (retarded .exit)) (now (lesser .exit)) (now (kernel .exit)) (now («lesser_advanced» .exit))
-        ≡ runAnswers (runOf points orbitals tolerance (now (times .entry)) (now (free .entry)) (now («self_energy» .entry)) (now («lesser_self_energy» .entry)) (now (retarded .entry)) (now (lesser .entry)) (now (kernel .entry)) (now («lesser_advanced» .entry))) question block ⌝ }
+        ≡ runAnswers (runOf shape tolerance (now (times .entry)) (now (free .entry)) (now («self_energy» .entry)) (now («lesser_self_energy» .entry)) (now (retarded .entry)) (now (lesser .entry)) (now (kernel .entry)) (now («lesser_advanced» .entry))) question block ⌝ }
 {
     let run = transient_run(
         times,
         free,
         self_energy,
         lesser_self_energy,
-        points,
-        orbitals,
+        shape,
         tolerance,
         retarded,
         lesser,
@@ -80,12 +84,11 @@ pub fn run_and_ask(
     let time = question.time;
     let real = question.tolerance;
     let hopping = question.hopping;
-    let number = particle_number(lesser, points, orbitals, time, real);
-    let expectation = one_body_expectation(lesser, points, orbitals, time, block, real);
+    let number = particle_number(lesser, shape, time, real);
+    let expectation = one_body_expectation(lesser, shape, time, block, real);
     let flow = bond_flow_into(
         lesser,
-        points,
-        orbitals,
+        shape,
         time,
         question.a,
         question.b,
@@ -107,8 +110,7 @@ pub fn two_runs(
     free: &[f64],
     self_energy: &[f64],
     lesser_self_energy: &[f64],
-    points: usize,
-    orbitals: usize,
+    shape: Shape,
     tolerance: f64,
     retarded: &mut [f64],
     lesser: &mut [f64],
@@ -119,8 +121,7 @@ pub fn two_runs(
     free2: &[f64],
     self_energy2: &[f64],
     lesser_self_energy2: &[f64],
-    points2: usize,
-    orbitals2: usize,
+    shape2: Shape,
     tolerance2: f64,
     retarded2: &mut [f64],
     lesser2: &mut [f64],
@@ -129,8 +130,8 @@ pub fn two_runs(
     block2: DenseMatrix,
     question: Question,
 ) -> BothRuns
-    ensures { λ r. ⌜ (let a = runOf points orbitals tolerance (now (times .entry)) (now (free .entry)) (now («self_energy» .entry)) (now («lesser_self_energy» .entry)) (now (retarded .entry)) (now (lesser .entry)) (now (kernel .entry)) (now («lesser_advanced» .entry)) in
-        let b = runOf points2 orbitals2 tolerance2 (now (times2 .entry)) (now (free2 .entry)) (now («self_energy2» .entry)) (now («lesser_self_energy2» .entry)) (now (retarded2 .entry)) (now (lesser2 .entry)) (now (kernel2 .entry)) (now («lesser_advanced2» .entry)) in
+    ensures { λ r. ⌜ (let a = runOf shape tolerance (now (times .entry)) (now (free .entry)) (now («self_energy» .entry)) (now («lesser_self_energy» .entry)) (now (retarded .entry)) (now (lesser .entry)) (now (kernel .entry)) (now («lesser_advanced» .entry)) in
+        let b = runOf shape2 tolerance2 (now (times2 .entry)) (now (free2 .entry)) (now («self_energy2» .entry)) (now («lesser_self_energy2» .entry)) (now (retarded2 .entry)) (now (lesser2 .entry)) (now (kernel2 .entry)) (now («lesser_advanced2» .entry)) in
         let x = answersIn (r .first) (now (retarded .exit)) (now (lesser .exit)) (now (kernel .exit)) (now («lesser_advanced» .exit)) in
         let y = answersIn (r .second) (now (retarded2 .exit)) (now (lesser2 .exit)) (now (kernel2 .exit)) (now («lesser_advanced2» .exit)) in
         (x ≡ runAnswers a question block) × (y ≡ runAnswers b question block2) × Blind a b question block block2 x y) ⌝ }
@@ -140,8 +141,7 @@ pub fn two_runs(
         free,
         self_energy,
         lesser_self_energy,
-        points,
-        orbitals,
+        shape,
         tolerance,
         retarded,
         lesser,
@@ -155,8 +155,7 @@ pub fn two_runs(
         free2,
         self_energy2,
         lesser_self_energy2,
-        points2,
-        orbitals2,
+        shape2,
         tolerance2,
         retarded2,
         lesser2,
@@ -166,6 +165,67 @@ pub fn two_runs(
         block2,
     );
     BothRuns { first, second }
+}
+
+// A run over the first points, or over all where there are no more, then one append after another up to all points, each lent the same operands; the first
+// refusal ends it and is the answer. Where every call is accepted, the slices hold what the run over all points leaves, for as many products.
+pub fn run_then_append(
+    times: &[f64],
+    free: &[f64],
+    self_energy: &[f64],
+    lesser_self_energy: &[f64],
+    shape: Shape,
+    first: usize,
+    tolerance: f64,
+    retarded: &mut [f64],
+    lesser: &mut [f64],
+    kernel: &mut [f64],
+    lesser_advanced: &mut [f64],
+) -> Solved
+    ensures { λ r. ⌜ (let run = runOf shape tolerance (now (times .entry)) (now (free .entry)) (now («self_energy» .entry)) (now («lesser_self_energy» .entry)) (now (retarded .entry)) (now (lesser .entry)) (now (kernel .entry)) (now («lesser_advanced» .entry)) in
+        let made = outcomeIn r (now (retarded .exit)) (now (lesser .exit)) (now (kernel .exit)) (now («lesser_advanced» .exit)) in
+        (made ≡ runThenAppend first run) × (r ≡ Accepted → made ≡ transientRun run)) ⌝ }
+{
+    let mut points = least(first, shape.points);
+    let mut solved = transient_run(
+        times,
+        free,
+        self_energy,
+        lesser_self_energy,
+        Shape {
+            points,
+            capacity: shape.capacity,
+            orbitals: shape.orbitals,
+        },
+        tolerance,
+        retarded,
+        lesser,
+        kernel,
+        lesser_advanced,
+    );
+    while points < shape.points {
+        let Solved::Accepted = solved else {
+            return solved;
+        };
+        solved = append_point(
+            times,
+            free,
+            self_energy,
+            lesser_self_energy,
+            Shape {
+                points,
+                capacity: shape.capacity,
+                orbitals: shape.orbitals,
+            },
+            tolerance,
+            retarded,
+            lesser,
+            kernel,
+            lesser_advanced,
+        );
+        points += 1;
+    }
+    solved
 }
 
 // Two Dyson calls; the second call's names end in 2. Where both are accepted and agree up to k, they leave the same rows to k.

@@ -20,8 +20,8 @@ run-and-ask-spec =
     (λ c κs. search needs)  -- particle-number-requires
     (λ c κs. search needs)  -- one-body-expectation-requires
     (λ c κs. search needs)  -- bond-flow-into-requires
-    (λ c. ran c .transient-run .kept .1 .1 .1 .1 .1 .1 .1 .0)  -- same-length
-    (λ c. ran c .transient-run .kept .1 .1 .1 .1 .1 .1 .1 .1 .0)  -- same-length-2
-    (λ c. ran c .transient-run .kept .1 .1 .1 .1 .1 .1 .1 .1 .1 .0)  -- same-length-3
-    (λ c. ran c .transient-run .kept .1 .1 .1 .1 .1 .1 .1 .1 .1 .1 .0)  -- same-length-4
+    (λ c. ran c .transient-run .kept .1 .1 .1 .1 .1 .1 .0)  -- same-length
+    (λ c. ran c .transient-run .kept .1 .1 .1 .1 .1 .1 .1 .0)  -- same-length-2
+    (λ c. ran c .transient-run .kept .1 .1 .1 .1 .1 .1 .1 .1 .0)  -- same-length-3
+    (λ c. ran c .transient-run .kept .1 .1 .1 .1 .1 .1 .1 .1 .1 .0)  -- same-length-4
     returns)

@@ -1,5 +1,5 @@
 -- `two_runs::two_dysons`: demand 3 of the contracts of two Dyson calls. Assumes nothing.
-use Rattle.lists.specs.Prelude.{needs}
+use Rattle.lists.specs.Prelude.{refl, needs}
 use Rattle.two_runs.specs.Demand.{one-solved, dyson-blind}
 use Rattle.two_runs.proofs.two_dysons.Statement.{statement}
 use Rattle.two_runs.proofs.two_dysons.Tie as tie
@@ -14,7 +14,7 @@ returns : tie.Need-returns
 returns c =
     let e = one-solved (first c .retarded-dyson-with-tolerance .ensures) in
     let e' = one-solved (second c .retarded-dyson-with-tolerance2 .ensures) in
-    (e, e', dyson-blind e e')
+    (e, e', dyson-blind refl refl e e')
 
 pub two-dysons-spec : {M : Type 1} → statement M
 two-dysons-spec =

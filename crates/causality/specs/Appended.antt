@@ -1,0 +1,55 @@
+-- P12's first two points in a capacity of 3, and its third appended: what the law of appends supposes can be met. The run's own inputs hold NaN past its
+-- points, and its tolerance is another. Assumes nothing.
+use Rattle.lists.specs.Prelude.{_≡_, refl, sym, _∙_, List, [], _∷_, ℕ, _<_, arith, getD, replicate, Float, nan}
+use Rattle.complex.specs.Arithmetic.{plusZero, one}
+use Rattle.two_time.specs.Example.{floats}
+use Rattle.transient_run.specs.declared.Solved.the-variants.{Accepted}
+use Rattle.transient_run.specs.Calls.{Run, runOf, transientRun, appendPoint}
+use Rattle.transient_run.specs.Cases.{runComputation}
+use Rattle.transient_run.specs.P12 as P12
+use Rattle.causality.specs.Statement.{of, SameTo}
+use Rattle.causality.specs.History.{History}
+use Rattle.causality.specs.History.History.{ran, appended}
+use Rattle.causality.specs.Appends.{append-law}
+use Rattle.causality.specs.Prefix.{run, inputs-pass, two, to-one, square}
+
+-- two rows of two points in a capacity of 3
+abbrev inRoom : Float → Float → Float → Float → Float → Float → Float → Float → List Float
+inRoom a b c d e f g h = a ∷ b ∷ c ∷ d ∷ nan ∷ nan ∷ e ∷ f ∷ g ∷ h ∷ nan ∷ nan ∷ replicate 6 nan
+
+abbrev first : Run
+first =
+    let lower = inRoom one plusZero plusZero plusZero one plusZero one plusZero in
+    let before = replicate 18 one in
+    runOf (record { points = 2; capacity = 3; orbitals = 1 }) two (plusZero ∷ one ∷ nan ∷ []) lower lower (inRoom plusZero one plusZero one plusZero one plusZero one) before before before before
+
+abbrev next : Run
+next =
+    let o = transientRun first in
+    runOf (record { points = 2; capacity = 3; orbitals = 1 }) one P12.times P12.lower P12.lower P12.imaginary (o .retarded) (o .lesser) (o .kernel) (o .lesserAdvanced)
+
+accepted : (transientRun first .answer ≡ Accepted) × (appendPoint next .answer ≡ Accepted)
+unfolding runComputation
+accepted = (refl, refl)
+
+inputs : (k : ℕ) → k < 2 → SameTo k first next
+inputs k hk =
+    record {
+      orbitals = refl;
+      times = λ i hi. to-one (λ j. getD (first .times) j nan ≡ getD (next .times) j nan) refl refl i (omega arith);
+      free = λ t u ht hu. square (of first (first .free)) (of next (next .free)) refl refl refl refl t u (omega arith) (omega arith);
+      selfEnergy = λ t u ht hu. square (of first (first .selfEnergy)) (of next (next .selfEnergy)) refl refl refl refl t u (omega arith) (omega arith);
+      lesserSelfEnergy = λ t u ht hu. square (of first (first .lesserSelfEnergy)) (of next (next .lesserSelfEnergy)) refl refl refl refl t u (omega arith) (omega arith);
+    }
+
+-- they are the calls of P12's run
+pub history : History run (appendPoint next)
+history =
+    appended (ran first (accepted .0)) next
+    (record { points = refl; capacity = refl; inputs = inputs; retarded = refl; lesser = refl; kernel = refl; lesserAdvanced = refl })
+    (accepted .1)
+
+-- and leave what it leaves
+pub appended-p12 : appendPoint next
+    ≡ record { answer = Accepted; retarded = floats P12.retardedBits; lesser = floats P12.lesserBits; kernel = floats P12.kernelBits; lesserAdvanced = floats P12.lesserAdvancedBits }
+appended-p12 = sym (append-law history .1) ∙ P12.outcome one (replicate 18 one) refl inputs-pass

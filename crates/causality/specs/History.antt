@@ -1,0 +1,30 @@
+-- Document 02, L1: "After an accepted run and any list of accepted appends, each told the n and capacity of the call before and the points it left, with
+-- inputs at old points, outputs and scratch untouched between calls, the buffers hold the run over all points, and demand 3 holds of them as of that run."
+use Rattle.lists.specs.Prelude.{_≡_, ℕ, suc, _<_}
+use Rattle.transient_run.specs.declared.Solved.the-variants.{Accepted}
+use Rattle.transient_run.specs.Calls.{Run, runOf, Outcome, transientRun, appendPoint}
+use Rattle.causality.specs.Statement.{SameTo}
+
+-- An append, given as c, after calls that were those of the run r and left o: it is told the points and the capacity that they left; its n is theirs, and
+-- its inputs agree with theirs up to every old index, as demand 3 supposes it; its outputs and scratch are what they left. The tolerance is free, and so
+-- are inputs at new points and in the room beyond.
+pub record Onto (r : Run) (o : Outcome) (c : Run) : Type 0 where
+  pub points : r .points ≡ c .points
+  pub capacity : r .capacity ≡ c .capacity
+  pub inputs : (k : ℕ) → k < r .points → SameTo k r c
+  pub retarded : o .retarded ≡ c .retarded
+  pub lesser : o .lesser ≡ c .lesser
+  pub kernel : o .kernel ≡ c .kernel
+  pub lesserAdvanced : o .lesserAdvanced ≡ c .lesserAdvanced
+
+-- the run over one point more: the append's inputs and tolerance, on what r's outputs and scratch held
+abbrev pub longer : Run → Run → Run
+longer r c =
+    runOf (record { points = suc (r .points); capacity = c .capacity; orbitals = c .orbitals }) (c .tolerance) (c .times) (c .free) (c .selfEnergy) (c .lesserSelfEnergy) (r .retarded) (r .lesser)
+    (r .kernel) (r .lesserAdvanced)
+
+-- An accepted run and any list of accepted appends, which left o. They are the calls of the run r: over all points, with the last call's inputs and
+-- tolerance, on what the outputs and the scratch held before the first call.
+pub data History : Run → Outcome → Type 0 where
+  ran : (r : Run) → transientRun r .answer ≡ Accepted → History r (transientRun r)
+  appended : {r : Run} {o : Outcome} → History r o → (c : Run) → Onto r o c → appendPoint c .answer ≡ Accepted → History (longer r c) (appendPoint c)
