@@ -4,8 +4,10 @@ Every number is given by a formula in t, u (indices of times), a, b (orbitals),
 worked out in binary64 from left to right.
 """
 
+import math
 import os
 
+import document02
 from bits import from_bits, hex_of
 from document01 import (
     ACCEPTED, LARGEST, Refusal, Report, bond_flow_into, block_of, causal_volterra_convolution, consistency_report,
@@ -309,6 +311,59 @@ def case_s(times, clock):
     return lines
 
 
+# In a capacity: t's appends come to the run over all points, u's old entries are those of no run, v's are not all finite.
+
+
+def case_t(times, clock):
+    """P12 to two points in a capacity of four, then two appends."""
+    ones = function(clock, 1, lower(lambda t, u, a, b: (1.0, 0.0)))
+    inputs = (4, 1, times, ones, ones, function(clock, 1, lambda t, u, a, b: (0.0, 1.0)), 1e-12)
+    outcome = document02.transient_run(2, *inputs, *lent(4, 1, 4))
+    lines = outcome_lines("t) run to 2 points in a capacity of 4, room 7, tolerance 1e-12", 4, 1, outcome)
+    for points in (2, 3):
+        outcome = document02.append_point(points, *inputs, *outcome.lent.values())
+        lines += outcome_lines("t) append onto %d points" % points, 4, 1, outcome)
+    return lines
+
+
+def append_inputs(clock):
+    """Inputs of three points, and old entries of two, in a capacity of three."""
+    inputs = {
+        "free": lower(lambda t, u, a, b: (1 + 0.5 * t, 0.25 - u)),
+        "self_energy": lower(lambda t, u, a, b: (0.5 * u - t, 1 + t * u)),
+        "lesser_self_energy": lambda t, u, a, b: (0.25 * (t + u), 1 - 0.5 * u),
+    }
+    old = lambda formula: lambda t, u, a, b: formula(t, u) if t < 2 and u < 2 else (7.0, 7.0)
+    before = {
+        "retarded": old(lambda t, u: (1 - t, 0.5 + u) if u <= t else (9.0, 9.0)),
+        "lesser": old(lambda t, u: (8.0, 8.0)),
+        "kernel": old(lambda t, u: (9.0, 9.0)),
+        "sums": old(lambda t, u: (0.5 * t + u, 2 - t)),
+    }
+    return [{name: function(clock, 1, formula) for name, formula in formulas.items()} for formulas in (inputs, before)]
+
+
+def case_u(times, clock):
+    inputs, before = append_inputs(clock)
+    lines = []
+    for name, numbers in (inputs | {"old %s" % name: numbers for name, numbers in before.items()}).items():
+        lines += entry_lines("input of u, %s" % name, 3, 1, numbers)
+    outcome = document02.append_point(2, 3, 1, times, *inputs.values(), 0.5, *before.values())
+    return lines + outcome_lines("u) append onto 2 points in a capacity of 3, tolerance 0.5", 3, 1, outcome)
+
+
+def case_v(times, clock):
+    """u's append with one old real part a NaN: read or not."""
+    inputs, before = append_inputs(clock)
+    lines = []
+    for name, t, u in [("retarded", 1, 0), ("sums", 0, 1), ("retarded", 0, 1), ("kernel", 1, 0), ("lesser", 1, 1)]:
+        changed = list(before[name])
+        changed[place(3, 1, t, u, 0, 0)] = math.nan
+        outcome = document02.append_point(2, 3, 1, times, *inputs.values(), 0.5, *(before | {name: changed}).values())
+        lines.append("v) u with a NaN at old %s (%d,%d): %s" % (name, t, u, answer_text(outcome.answer)))
+    return lines
+
+
 def text():
     rule = equal_times(1, (0.0, -1.0))
     sections = [
@@ -332,6 +387,9 @@ def text():
         ("N=2 n=1", case_q, [0.0, 1.0]),
         ("blocks", case_r, []),
         ("N=2, n the length of the diagonal", case_s, [0.0, 1.0]),
+        ("capacity 4 n=1 times 0, 1, 2, 3", case_t, [0.0, 1.0, 2.0, 3.0]),
+        ("capacity 3 n=1 times 0, 0.5, 2", case_u, [0.0, 0.5, 2.0]),
+        ("capacity 3 n=1 times 0, 0.5, 2", case_v, [0.0, 0.5, 2.0]),
     ]
     lines = []
     for heading, case, times in sections:

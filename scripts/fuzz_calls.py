@@ -18,7 +18,9 @@ sys.path.insert(0, str(ROOT / "reference"))
 
 from document01 import DEFAULT_TOLERANCE, LARGEST, function_length  # noqa: E402
 from replay_calls.answers import line, refusal  # noqa: E402
-from replay_calls.calls import CAUSAL, DYSON, DYSON_DEFAULT, FULL, LANGRETH, NAMES, NAN, RUN, SMALLEST, subnormal, words  # noqa: E402
+from replay_calls.calls import (  # noqa: E402
+    CAUSAL, DYSON, DYSON_DEFAULT, FULL, LANGRETH, MOST_STORED, NAMES, NAN, RUN, SMALLEST, subnormal, words,
+)  # fmt: skip
 from replay_calls.convolutions import convolution  # noqa: E402
 from replay_calls.one_point import unformed  # noqa: E402
 from replay_calls.products import product  # noqa: E402
@@ -96,9 +98,9 @@ def drawn(choose):
     return solve(asked, times, draw(above=above), draw(above=above), draw() if asked == RUN else None, orbitals, tolerance)
 
 
-def printed(program, calls):
-    """The lines that the program prints for the calls."""
-    done = subprocess.run([program], input="".join(map(words, calls)).encode(), capture_output=True)
+def printed(program, calls, most=MOST_STORED):
+    """The lines that the program prints for the calls, whose slices have at most so many numbers."""
+    done = subprocess.run([program], input="".join(words(call, most) for call in calls).encode(), capture_output=True)
     found = done.stdout.decode().splitlines()
     if done.returncode != 0 or done.stderr or len(found) != len(calls):
         sys.exit(f"status {done.returncode}, {len(found)} lines for {len(calls)} calls, standard error: {done.stderr[:400]}")

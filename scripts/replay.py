@@ -16,11 +16,16 @@ ROOT = pathlib.Path(__file__).resolve().parent.parent
 FOLDER = ROOT / "crates" / "replay"
 sys.path.insert(0, str(ROOT / "reference"))
 
-from replay_calls import blocks, compositions, convolutions, grids, limits, made, norms, observables, one_point, products, reports, solves
+from replay_calls import (
+    appends, blocks, capacities, compositions, convolutions, grids, limits, made, norms, observables, one_point, products, reports, solves,
+)
 from replay_calls.answers import LEFT_OUT, line, refusal
+from replay_calls.appends import QUESTIONS_IN_CAPACITY
 from replay_calls.calls import MADE, NAMES, QUESTIONS, words
 
-THEMES = [convolutions, solves, observables, reports, products, norms, blocks, grids, limits, made, compositions, one_point]
+THEMES = [
+    convolutions, solves, observables, reports, products, norms, blocks, grids, limits, made, compositions, one_point, appends, capacities,
+]  # fmt: skip
 
 
 def calls_of(theme):
@@ -52,7 +57,7 @@ def table_of(themes, counts):
 
 def uncovered(counts):
     """Questions that no call of a function answers by no, and numbers that none of its questions has."""
-    for function, questions in QUESTIONS.items():
+    for function, questions in (QUESTIONS | QUESTIONS_IN_CAPACITY).items():
         for number in sorted((set(counts[function]) - {None}) ^ set(questions)):
             yield f"{NAMES[function]}: {counts[function][number]} calls refused by {number}"
 

@@ -1,7 +1,8 @@
-"""What a call answers by the reference's plain reading of document 01, as the program replay prints it."""
+"""What a call answers by the reference's plain reading of documents 01 and 02, as the program replay prints it."""
 
 import functools
 
+import document02
 from bits import from_bits, to_bits
 from document01 import (
     ACCEPTED, Block, Refusal, Report, add, adjoint, bond_flow_into, causal_volterra_convolution, consistency_report,
@@ -11,10 +12,10 @@ from document01 import (
     time_convolution, trace, transient_run, weights_of, zero,
 )
 from replay_calls.calls import (
-    ADD, ADJOINT, ADJOINT_PLUS, CAUSAL, CHECK_TIMES, CONSISTENT, DENSITY, DIFFERENCE, DYSON, DYSON_DEFAULT, EXPECTATION, FLOW,
-    FROM_NUMBERS, FROM_SCALAR, FULL, FULL_WEIGHT, GET, HALF, HERMITIAN, IDENTITY, IDENTITY_TIMES, INTERVAL, LANGRETH, MADE,
-    MOST_IN_BLOCK, MOST_STORED, MULTIPLY, NAN, NORM, NUMBER, REPORT, RUN, SCALE, SUBTRACT, SUPPORT, TIME_LINES, TRACE, TRAPEZOID,
-    WEIGHTS, ZERO_OF, held, inputs, outputs,
+    ADD, ADJOINT, ADJOINT_PLUS, APPEND, CAUSAL, CHECK_TIMES, CONSISTENT, DENSITY, DENSITY_IN, DIFFERENCE, DYSON, DYSON_DEFAULT,
+    EXPECTATION, EXPECTATION_IN, FLOW, FLOW_IN, FROM_NUMBERS, FROM_SCALAR, FULL, FULL_WEIGHT, GET, HALF, HERMITIAN, IDENTITY,
+    IDENTITY_TIMES, INTERVAL, LANGRETH, MADE, MOST_IN_BLOCK, MOST_STORED, MULTIPLY, NAN, NORM, NUMBER, NUMBER_IN, REPORT, RUN,
+    RUN_IN, SCALE, SUBTRACT, SUPPORT, TIME_LINES, TRACE, TRAPEZOID, WEIGHTS, ZERO_OF, held, inputs, outputs,
 )
 
 # What stands for an answer that is not worked out here.
@@ -88,9 +89,15 @@ def weighed(call):
     return full_weights(call.points, *inputs(call), *lent(call))
 
 
+def in_capacity(solve):
+    """A run or an append, whose call has what the lent slices hold before."""
+    return lambda call: solve(call.points, *call.more, call.orbitals, *call.slices[:4], call.tolerance, *call.slices[4:])
+
+
 OUTCOME = {
     FULL: convolved(time_convolution), CAUSAL: convolved(causal_volterra_convolution), DYSON: solved,
     DYSON_DEFAULT: solved_by_default, RUN: ran, LANGRETH: multiplied, WEIGHTS: weighed,
+    RUN_IN: in_capacity(document02.transient_run), APPEND: in_capacity(document02.append_point),
 }
 
 # ---- Other calls ---------------------------------------------------------------
@@ -119,6 +126,29 @@ def flowed(call):
     time, a, b, *factors = call.more
     re, im, charge = map(from_bits, factors)
     return [answer(bond_flow_into(call.points, call.orbitals, *call.slices, time, a, b, (re, im), charge))]
+
+
+def dense_in(call):
+    capacity, time = call.more
+    return with_block(*document02.density_matrix(call.points, capacity, call.orbitals, *call.slices, time))
+
+
+def counted_in(call):
+    capacity, time = call.more
+    return [answer(document02.particle_number(call.points, capacity, call.orbitals, *call.slices, time, call.tolerance))]
+
+
+def expected_in(call):
+    lesser, numbers = call.slices
+    capacity, time, rows, columns = call.more
+    block = lent_block(Block(rows, columns, numbers))
+    return [answer(document02.one_body_expectation(call.points, capacity, call.orbitals, lesser, time, block, call.tolerance))]
+
+
+def flowed_in(call):
+    capacity, time, a, b, *factors = call.more
+    re, im, charge = map(from_bits, factors)
+    return [answer(document02.bond_flow_into(call.points, capacity, call.orbitals, *call.slices, time, a, b, (re, im), charge))]
 
 
 def reported(call):
@@ -225,7 +255,8 @@ ANSWER = {function: (lambda call, outcome=outcome: with_slices(outcome(call))) f
     SCALE: scaled, MULTIPLY: made_block(product), ADD: made_block(add), SUBTRACT: made_block(subtract), TRACE: measured(trace),
     GET: measured(entry), DIFFERENCE: measured(max_difference), HERMITIAN: hermitian, INTERVAL: weighed_within,
     IDENTITY_TIMES: identity_times, ADJOINT_PLUS: adjoint_plus, FROM_SCALAR: one_number, ZERO_OF: zeros, CHECK_TIMES: times_checked,
-    TIME_LINES: times_asked, HALF: halved, FULL_WEIGHT: weighed_at, TRAPEZOID: weighed_unasked,
+    TIME_LINES: times_asked, HALF: halved, FULL_WEIGHT: weighed_at, TRAPEZOID: weighed_unasked, DENSITY_IN: dense_in,
+    NUMBER_IN: counted_in, EXPECTATION_IN: expected_in, FLOW_IN: flowed_in,
 }
 
 # ---- Calls whose numbers are made ----------------------------------------------

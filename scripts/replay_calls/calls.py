@@ -27,7 +27,8 @@ NAMES = [
     "consistency_report", "is_consistent", "langreth_product", "norm", "from_numbers", "identity", "adjoint", "scale",
     "multiply", "add", "subtract", "trace", "get", "max_difference", "is_hermitian", "full_weights", "checked_interval_weight",
     "identity_times", "adjoint_plus_is_hermitian", "from_scalar", "zero", "check_times", "check_grid", "half_step", "full_weight",
-    "interval_weight",
+    "interval_weight", "transient_run_in_capacity", "append_point", "density_matrix_in_capacity", "particle_number_in_capacity",
+    "one_body_expectation_in_capacity", "bond_flow_into_in_capacity",
 ]
 FULL, CAUSAL, SUPPORT, DYSON, DYSON_DEFAULT, RUN, DENSITY, NUMBER, EXPECTATION, FLOW = range(10)
 REPORT, CONSISTENT, LANGRETH, NORM, FROM_NUMBERS, IDENTITY, ADJOINT, SCALE = range(10, 18)
@@ -35,6 +36,8 @@ MULTIPLY, ADD, SUBTRACT, TRACE, GET, DIFFERENCE, HERMITIAN, WEIGHTS, INTERVAL = 
 # Two compositions: the identity times a block, and whether the sum of a block and its adjoint is Hermitian.
 IDENTITY_TIMES, ADJOINT_PLUS = range(27, 29)
 FROM_SCALAR, ZERO_OF, CHECK_TIMES, TIME_LINES, HALF, FULL_WEIGHT, TRAPEZOID = range(29, 36)
+# Slices laid out for a capacity of points: appends.py says how these stand in the list.
+RUN_IN, APPEND, DENSITY_IN, NUMBER_IN, EXPECTATION_IN, FLOW_IN = range(36, 42)
 # The questions of each function by their numbers, in their order; those of a report are followed by that of its decision.
 OF_FUNCTIONS = (1, 2, 3, 4, 5, 6, 7)
 OF_PAIRS = (1, 2, 3, 7)
@@ -52,7 +55,10 @@ QUESTIONS = {
 # How many slices a function is lent to be written. The list has their lengths, for functions of times and operands always four.
 OUTPUTS = {FULL: 1, CAUSAL: 1, DYSON: 2, DYSON_DEFAULT: 2, RUN: 4, LANGRETH: 4, WEIGHTS: 1}
 # The functions that have times.
-TIMED = (FULL, CAUSAL, DYSON, DYSON_DEFAULT, RUN, LANGRETH, WEIGHTS, INTERVAL, CHECK_TIMES, TIME_LINES, HALF, FULL_WEIGHT, TRAPEZOID)
+TIMED = (
+    FULL, CAUSAL, DYSON, DYSON_DEFAULT, RUN, LANGRETH, WEIGHTS, INTERVAL, CHECK_TIMES, TIME_LINES, HALF, FULL_WEIGHT, TRAPEZOID,
+    RUN_IN, APPEND,
+)
 # Function k at a size that is too large to be stored has the number MADE + k: its numbers are made from a seed.
 MADE = 64
 # How many numbers a slice of the list has at most, and a block.
@@ -106,14 +112,14 @@ def other_words(call):
     return (*more, *shapes, *call.last)
 
 
-def words(call):
+def words(call, most=MOST_STORED):
     """The call as it stands in the list: its head, how many slices follow or the seed of those that are made, the slices, other words."""
     lent = [] if call.function == CONSISTENT or call.function >= MADE else inputs(call)
     begun = call.more[0] if call.function >= MADE else len(lent)
     rows = [[call.function, call.points, call.orbitals, to_bits(call.tolerance), begun]]
     for numbers in lent:
         numbers = numbers.numbers if isinstance(numbers, Block) else numbers
-        assert len(numbers) <= MOST_STORED
+        assert len(numbers) <= most
         rows.append([len(numbers), *map(to_bits, numbers)])
     rows.append(other_words(call))
     return "".join(" ".join(format(word, "016x") for word in row) + "\n" for row in rows if row)

@@ -1,0 +1,234 @@
+"""A plain reading of document 02's L1, appending a time point, over that of document 01.
+
+Slices are "laid out for a capacity of points (row t begins at t times capacity
+blocks)": entry (a, b) of block (t, u) begins at `place(capacity, n, t, u, a, b)`,
+and there are as many times as the capacity. The points come first; what has an
+index that is not below them is room, and no entry. Calls take and return what
+those of document01.py do. A run is told its points; an append is told the points
+before it, and its new point has that index.
+"""
+
+import math
+
+import document01
+from document01 import (
+    ACCEPTED, REFUSED_BLOCK, Outcome, Overflow, Refusal, adjoint_of, block_at, function_length, grid_lines, held,
+    interval_sum, lay_out, line_1, line_2, place, step_weight, support_lines, table, weighted_sum, zeros,
+)
+
+# ---- The layout -------------------------------------------------------------------
+
+
+def within(numbers, points, capacity, n):
+    """The points' entries, laid out as document 01 has it: room is left out."""
+    return lay_out(table(points, lambda t, u: block_at(numbers, capacity, n, t, u)))
+
+
+def places(points):
+    return [(t, u) for t in range(points) for u in range(points)]
+
+
+def new_places(new):
+    """The row and the column of the new point: its index is the larger one of the place."""
+    return [(t, u) for t, u in places(new + 1) if max(t, u) == new]
+
+
+def written(numbers, capacity, n, blocks):
+    """The numbers, with these blocks at their places; the rest stays."""
+    after = list(numbers)
+    for (t, u), block in blocks.items():
+        begin = place(capacity, n, t, u, 0, 0)
+        after[begin : begin + 2 * n * n] = [part for value in block for part in value]
+    return after
+
+
+# ---- Questions in order -----------------------------------------------------------
+
+
+def line_7(points, capacity, n, functions, block):
+    """Document 02: "line 7's position is that in the lent slice"; room is not asked."""
+    for operand, numbers in enumerate(functions):
+        for t, u in places(points):
+            begin = place(capacity, n, t, u, 0, 0)
+            for position in range(begin, begin + 2 * n * n):
+                if not math.isfinite(numbers[position]):
+                    return Refusal(7, operand=operand, first=position)
+    refusal = None if block is None else document01.line_7([held(block)])
+    return refusal and refusal._replace(operand=len(functions))
+
+
+def line_16(points, capacity):
+    """Document 02: "16 if the points would pass the capacity, after line 3"."""
+    if points > capacity:
+        return Refusal(16)
+
+
+def capacity_lines(points, capacity, orbitals, functions, lent=(), times=None, block=None):
+    """Lines 1, 2, 3, 16, then 4 to 7 over the points, an append's new one among them.
+
+    Document 02: "Line 1 counts the new point too, lines 2 and 3 read the capacity as N".
+    """
+    shapes = [] if block is None else [(block.rows, block.columns)]
+    sizes = line_1(points, orbitals, shapes) or line_2(capacity, orbitals, shapes)
+    if sizes:
+        return sizes
+    length = function_length(capacity, orbitals)
+    lengths_fit = all(len(numbers) == length for numbers in [*functions, *lent])
+    times_fit = times is None or len(times) == capacity
+    block_fits = block is None or (block.rows, block.columns) == (orbitals, orbitals)
+    if not (lengths_fit and times_fit and block_fits):
+        return Refusal(3)
+    refusal = line_16(points, capacity) or (None if times is None else grid_lines(times[:points]))
+    return refusal or line_7(points, capacity, orbitals, functions, block)
+
+
+def unchanged(lent):
+    return {name: list(numbers) for name, numbers in lent.items()}
+
+
+# ---- The run ----------------------------------------------------------------------
+
+
+def transient_run(
+    points, capacity, orbitals, times, free, self_energy, lesser_self_energy, tolerance, retarded, lesser, kernel, sums
+):
+    """Document 01's run over the points' entries. Accepted, it leaves room; its 10 clears room too."""
+    lent = {"retarded": retarded, "lesser": lesser, "kernel": kernel, "sums": sums}
+    operands = [free, self_energy, lesser_self_energy]
+    refusal = capacity_lines(points, capacity, orbitals, operands, lent.values(), times)
+    if refusal:
+        return Outcome(refusal, unchanged(lent))
+    entries = lambda numbers: within(numbers, points, capacity, orbitals)
+    slices = [entries(numbers) for numbers in lent.values()]
+    run = document01.transient_run(points, orbitals, times[:points], *map(entries, operands), tolerance, *slices)
+    if run.answer == Refusal(10):
+        return Outcome(run.answer, {name: [0.0] * len(numbers) for name, numbers in lent.items()})
+    made = {
+        name: {at: block_at(numbers, points, orbitals, *at) for at in places(points)}
+        for name, numbers in run.lent.items()
+    }
+    return Outcome(run.answer, {name: written(lent[name], capacity, orbitals, made[name]) for name in lent})
+
+
+# ---- The append -------------------------------------------------------------------
+# "Only the new row and column of K, G^R, X and G^< are worked out"; old entries "are
+# read as the buffers hold them, whatever that is, and stay". A function that is read
+# gives the block of a place (t, u); blocks that are made stand by their places.
+
+
+def with_new(old, made):
+    """A function whose new row and column were made, and whose old entries the buffer holds."""
+    return lambda t, u: made[t, u] if (t, u) in made else old(t, u)
+
+
+def new_kernel(new, n, times, free, self_energy):
+    """K(t, u) is the causal convolution of both, +0 above the diagonal."""
+
+    def block(t, u):
+        if t < u:
+            return zeros(n)
+        return interval_sum(n, times, u, t, lambda s: free(t, s), lambda s: self_energy(s, u))
+
+    return {at: block(*at) for at in new_places(new)}
+
+
+def new_retarded(new, n, times, free, kernel, retarded):
+    """G(t, u) starts as free(t, u) and adds K(t, s)·G(s, u), s from u to t - 1, +0 above the diagonal.
+
+    Every K is of the new row, every G of an old one.
+    """
+
+    def block(t, u):
+        if t < u:
+            return zeros(n)
+        terms = ((step_weight(times, s, u, t), kernel[t, s], retarded(s, u)) for s in range(u, t))
+        return weighted_sum(n, free(t, u), terms)
+
+    return {at: block(*at) for at in new_places(new)}
+
+
+def new_sums(new, n, times, lesser_self_energy, retarded):
+    """X(t, u) sums s from 0 to u over the lesser self-energy and G^A(s, u)."""
+
+    def block(t, u):
+        advanced = lambda s: adjoint_of(retarded(u, s), n, n)
+        return interval_sum(n, times, 0, u, lambda s: lesser_self_energy(t, s), advanced)
+
+    return {at: block(*at) for at in new_places(new)}
+
+
+def new_lesser(new, n, times, retarded, sums):
+    """G^<(t, u) sums s from 0 to t over G^R(t, s) and X(s, u)."""
+
+    def block(t, u):
+        return interval_sum(n, times, 0, t, lambda s: retarded(t, s), lambda s: sums(s, u))
+
+    return {at: block(*at) for at in new_places(new)}
+
+
+def new_blocks(new, n, times, free, self_energy, lesser_self_energy, retarded, sums):
+    """The new row and column of all four; `retarded` and `sums` are what the buffers hold."""
+    made_kernel = new_kernel(new, n, times, free, self_energy)
+    made_retarded = new_retarded(new, n, times, free, made_kernel, retarded)
+    all_retarded = with_new(retarded, made_retarded)
+    made_sums = new_sums(new, n, times, lesser_self_energy, all_retarded)
+    made_lesser = new_lesser(new, n, times, all_retarded, with_new(sums, made_sums))
+    return {"retarded": made_retarded, "lesser": made_lesser, "kernel": made_kernel, "sums": made_sums}
+
+
+def append_lines(points, capacity, orbitals, times, operands, lent, tolerance):
+    """Lines 1, 2, 3, 16 and 4 to 9, all over the points with the new one."""
+    refusal = capacity_lines(points, capacity, orbitals, operands, lent, times)
+    if refusal:
+        return refusal
+    free, self_energy = (within(numbers, points, capacity, orbitals) for numbers in operands[:2])
+    return support_lines(points, orbitals, free, self_energy, tolerance)
+
+
+def append_point(
+    points, capacity, orbitals, times, free, self_energy, lesser_self_energy, tolerance, retarded, lesser, kernel, sums
+):
+    """Document 02: "On an append's 10 the new row and column hold +0 and the rest is untouched"."""
+    lent = {"retarded": retarded, "lesser": lesser, "kernel": kernel, "sums": sums}
+    operands = [free, self_energy, lesser_self_energy]
+    refusal = append_lines(points + 1, capacity, orbitals, times, operands, lent.values(), tolerance)
+    if refusal:
+        return Outcome(refusal, unchanged(lent))
+    reading = lambda numbers: lambda t, u: block_at(numbers, capacity, orbitals, t, u)
+    try:
+        made = new_blocks(points, orbitals, times, *map(reading, [*operands, retarded, sums]))
+        answer = ACCEPTED
+    except Overflow:
+        made = dict.fromkeys(lent, {at: zeros(orbitals) for at in new_places(points)})
+        answer = Refusal(10)
+    return Outcome(answer, {name: written(lent[name], capacity, orbitals, made[name]) for name in lent})
+
+
+# ---- Observables ------------------------------------------------------------------
+# "Observables read the same layout over the points": lines 1, 2, 3, 16 and 7, then
+# what document 01 asks and answers of the points' entries.
+
+
+def density_matrix(points, capacity, orbitals, lesser, time):
+    refusal = capacity_lines(points, capacity, orbitals, [lesser])
+    if refusal:
+        return refusal, REFUSED_BLOCK
+    return document01.density_matrix(points, orbitals, within(lesser, points, capacity, orbitals), time)
+
+
+def particle_number(points, capacity, orbitals, lesser, time, tolerance):
+    return capacity_lines(points, capacity, orbitals, [lesser]) or document01.particle_number(
+        points, orbitals, within(lesser, points, capacity, orbitals), time, tolerance
+    )
+
+
+def one_body_expectation(points, capacity, orbitals, lesser, time, observable, tolerance):
+    return capacity_lines(points, capacity, orbitals, [lesser], block=observable) or document01.one_body_expectation(
+        points, orbitals, within(lesser, points, capacity, orbitals), time, observable, tolerance
+    )
+
+
+def bond_flow_into(points, capacity, orbitals, lesser, time, a, b, hopping, charge):
+    return capacity_lines(points, capacity, orbitals, [lesser]) or document01.bond_flow_into(
+        points, orbitals, within(lesser, points, capacity, orbitals), time, a, b, hopping, charge
+    )
