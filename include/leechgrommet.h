@@ -19,6 +19,11 @@
  * Functions. A two-time function of N times (points) and n orbitals has 2*N*N*n*n numbers: block (t, t') row by row, in a block entry
  * (a, b) row by row, real part before imaginary. Times are N numbers.
  *
+ * Capacity. The transient run, the append and the observables take slices laid out for a capacity of C points: a function has 2*C*C*n*n
+ * numbers, row t begins at t*C blocks, and times are C numbers. The first N points are the function's own; what stands beyond them is room, which no
+ * question asks and an accepted call leaves. Questions 2 and 3 read C for N; the others are about the N points, and a position is that in the slice
+ * as it is passed. With a capacity of N the layout is that of the other calls.
+ *
  * Blocks. A block crosses as its rows, its columns and the address of LEECHGROMMET_BLOCK_NUMBERS numbers, of which the first 2*rows*columns
  * are its entries, row by row, real part before imaginary. A block that is made is the answer's own: it is written as rows and columns to
  * `shape`, a slice of 2, and as LEECHGROMMET_BLOCK_NUMBERS numbers to `out`, a slice of that length, +0 past its entries; beside any refusal
@@ -33,10 +38,11 @@
  *     5   each time above the one before: first            13  hopping and charge factor finite
  *     6   all full weights finite                          14  the imaginary part's size at most the tolerance: part
  *     7   all entries finite: operand, first = position
- *     8   the tolerance finite and above 0
+ *     8   the tolerance finite and above 0                 16  N at most the capacity: asked after 3
  * Question 3 is asked, after 1 and 2, by every call that is passed a slice: also of what is passed for a value, residuals, a decision or a block.
  * Operands count from 0 in the order of the parameters, times not counted. After 10 every output and scratch slice, one for a value or
- * residuals too, holds +0 throughout; after any other number nothing passed has changed.
+ * residuals too, holds +0 throughout, room included, but for an append's, where the new row and column hold +0 and the rest is as it was; after any
+ * other number nothing passed has changed.
  *
  * Places. `places` and `part` are part of the answer: a refusal writes its operand, first and second to `places`, a slice
  * of 3, and its part to `part`, a slice of 1; a place that it does not have is 0. An accepted call leaves both. They are not asked by 3: of
@@ -67,6 +73,7 @@
 #define LEECHGROMMET_NO_SUCH_ORBITAL 12
 #define LEECHGROMMET_FACTOR_NOT_FINITE 13
 #define LEECHGROMMET_NOT_REAL 14
+#define LEECHGROMMET_NO_ROOM 16
 
 #ifdef __cplusplus
 extern "C" {
@@ -201,47 +208,65 @@ uint8_t leechgrommet_retarded_dyson_with_tolerance(
     size_t *places, size_t places_len, double *part, size_t part_len);
 
 /* The transient run of a device that starts empty, of its free propagator and the retarded and the lesser self-energy of its leads: retarded = G^R and
- * lesser = G^<; kernel = K and lesser_advanced = X, the lesser self-energy times the advanced function, are scratch. Asks 1 to 10. */
+ * lesser = G^<; kernel = K and lesser_advanced = X, the lesser self-energy times the advanced function, are scratch. Asks 1, 2, 3, 16, 4 to 10. */
 uint8_t leechgrommet_transient_run(
     const double *times, size_t times_len,
     const double *free_propagator, size_t free_propagator_len,
     const double *self_energy, size_t self_energy_len,
     const double *lesser_self_energy, size_t lesser_self_energy_len,
-    size_t points, size_t orbitals, double tolerance,
+    size_t points, size_t capacity, size_t orbitals, double tolerance,
     double *retarded, size_t retarded_len,
     double *lesser, size_t lesser_len,
     double *kernel, size_t kernel_len,
     double *lesser_advanced, size_t lesser_advanced_len,
     size_t *places, size_t places_len, double *part, size_t part_len);
 
-/* The density -i G^<(t,t) at a time, an n by n block. Asks 1, 2, 3, 7, 11. */
+/* Appends one time point. `points` are those before the append, one or more, and the new point's index; times and the three inputs have it too. The new
+ * row and column of all four are worked out, of what retarded and lesser_advanced hold at old places, whatever that is: an old number of theirs that is
+ * read and not finite gives 10. What the four hold at old places stays. After a run and appends, each with the points that the call before it left, the
+ * same capacity and inputs that are the same at old points, the four hold what the run over all points leaves. Asks 1, 2, 3, 16, 4 to 10, all
+ * of points + 1. */
+uint8_t leechgrommet_append_point(
+    const double *times, size_t times_len,
+    const double *free_propagator, size_t free_propagator_len,
+    const double *self_energy, size_t self_energy_len,
+    const double *lesser_self_energy, size_t lesser_self_energy_len,
+    size_t points, size_t capacity, size_t orbitals, double tolerance,
+    double *retarded, size_t retarded_len,
+    double *lesser, size_t lesser_len,
+    double *kernel, size_t kernel_len,
+    double *lesser_advanced, size_t lesser_advanced_len,
+    size_t *places, size_t places_len, double *part, size_t part_len);
+
+/* The density -i G^<(t,t) at a time, an n by n block. Asks 1, 2, 3, 16, 7, 11. */
 uint8_t leechgrommet_density_matrix(
     const double *lesser, size_t lesser_len,
-    size_t points, size_t orbitals, size_t time_index,
+    size_t points, size_t capacity, size_t orbitals, size_t time_index,
     size_t *shape, size_t shape_len, double *out, size_t out_len,
     size_t *places, size_t places_len, double *part, size_t part_len);
 
-/* The trace of the density -i G^<(t,t) at a time, written to `value`, a slice of 1. Asks 1, 2, 3, 7, then 8, 11, 10 (the trace), 14. */
+/* The trace of the density -i G^<(t,t) at a time, written to `value`, a slice of 1. Asks 1, 2, 3, 16, 7, then 8, 11, 10 (the trace),
+ * 14. */
 uint8_t leechgrommet_particle_number(
     const double *lesser, size_t lesser_len,
-    size_t points, size_t orbitals, size_t time_index, double tolerance,
+    size_t points, size_t capacity, size_t orbitals, size_t time_index, double tolerance,
     double *value, size_t value_len,
     size_t *places, size_t places_len, double *part, size_t part_len);
 
 /* The trace of the product of a one-body matrix, passed as an n by n block (of another shape 3; operand 1), with the density, written to `value`.
- * Asks 1, 2, 3, 7, then 8, 11, 10 (the product, then the trace), 14. */
+ * Asks 1, 2, 3, 16, 7, then 8, 11, 10 (the product, then the trace), 14. */
 uint8_t leechgrommet_one_body_expectation(
     const double *lesser, size_t lesser_len,
-    size_t points, size_t orbitals, size_t time_index,
+    size_t points, size_t capacity, size_t orbitals, size_t time_index,
     size_t rows, size_t columns, const double *values, double tolerance,
     double *value, size_t value_len,
     size_t *places, size_t places_len, double *part, size_t part_len);
 
-/* (2*charge_over_hbar) * Im(hopping_ab * rho_ba), the flow into orbital a from b, written to `value`; it may be infinite or a NaN. Asks 1, 2, 3, 7, then
- * 13, 12, 11. */
+/* (2*charge_over_hbar) * Im(hopping_ab * rho_ba), the flow into orbital a from b, written to `value`; it may be infinite or a NaN. Asks 1, 2, 3, 16,
+ * 7, then 13, 12, 11. */
 uint8_t leechgrommet_bond_flow_into(
     const double *lesser, size_t lesser_len,
-    size_t points, size_t orbitals, size_t time_index, size_t a, size_t b,
+    size_t points, size_t capacity, size_t orbitals, size_t time_index, size_t a, size_t b,
     double real, double imaginary, double charge_over_hbar,
     double *value, size_t value_len,
     size_t *places, size_t places_len, double *part, size_t part_len);

@@ -1,6 +1,7 @@
 // What a call is lent: slices that stand in the list or are made, and what its outputs hold before.
 use crate::made;
 use crate::words;
+use two_time::capacity::Shape;
 
 // What every call begins with: the function, whether its slices are made, points, orbitals and the tolerance.
 pub(crate) struct Head {
@@ -21,6 +22,24 @@ pub(crate) fn begin(word: u64) -> Head {
         points: words::whole(),
         orbitals: words::whole(),
         tolerance: words::number(),
+    }
+}
+
+// Whether a function has a capacity of its own, the next word after its slices.
+fn in_capacity(function: u64) -> bool {
+    (function >= 36) & (function <= 41)
+}
+
+// The points and orbitals of a call; a function without a capacity is laid out for its points.
+pub(crate) fn shape(head: Head) -> Shape {
+    Shape {
+        points: head.points,
+        capacity: if in_capacity(head.function) {
+            words::whole()
+        } else {
+            head.points
+        },
+        orbitals: head.orbitals,
     }
 }
 
@@ -84,4 +103,28 @@ pub(crate) fn output(numbers: &mut [f64]) -> &mut [f64] {
         numbers[i] = held(i);
     }
     &mut numbers[..count]
+}
+
+// An output that holds the numbers before the call, empty where there is no room for them.
+fn copied<'a>(before: &[f64], numbers: &'a mut [f64]) -> &'a mut [f64] {
+    let count = before.len();
+    if count > numbers.len() {
+        return &mut numbers[..0];
+    }
+    for i in 0..count {
+        numbers[i] = before[i];
+    }
+    &mut numbers[..count]
+}
+
+// An output of a call: in a capacity it holds what is given in the list.
+pub(crate) fn output_of<'a>(
+    function: u64,
+    before: &[f64],
+    numbers: &'a mut [f64],
+) -> &'a mut [f64] {
+    if in_capacity(function) {
+        return copied(before, numbers);
+    }
+    output(numbers)
 }

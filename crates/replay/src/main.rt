@@ -6,6 +6,7 @@ mod made;
 mod observe;
 mod show;
 mod solve;
+mod transient;
 mod weights;
 mod words;
 mod xorshift;
@@ -19,8 +20,8 @@ use words::Word;
 fn call(head: Head, numbers: &[f64], at: &Places) -> bool {
     let function = head.function;
     match function {
-        0 | 1 | 3 | 4 | 5 | 12 => solve::call(head, numbers, at),
-        2 | 6 | 7 | 8 | 9 | 10 | 11 => observe::call(head, numbers, at),
+        0 | 1 | 3 | 4 | 5 | 12 | 36 | 37 => solve::call(head, numbers, at),
+        2 | 6..=11 | 38..=41 => observe::call(head, numbers, at),
         13 => show::number(norm(words::number(), words::number())),
         25 => weights::full(head, lent::part(numbers, at, 0)),
         26 | 31 | 32 | 33 | 34 | 35 => weights::call(head, lent::part(numbers, at, 0)),

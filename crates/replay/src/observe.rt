@@ -1,8 +1,9 @@
-// Functions 2 and 6 to 11: questions to functions, and to a report's residuals.
+// Functions 2, 6 to 11 and 38 to 41: questions to functions, and to a report's residuals.
 use crate::blocks::block;
 use crate::lent::Head;
 use crate::lent::Places;
 use crate::lent::part;
+use crate::lent::shape;
 use crate::show;
 use crate::words;
 use complex::Complex;
@@ -14,6 +15,7 @@ use report::ConsistencyReport;
 use report::Reported;
 use report::consistency_report;
 use support::check_retarded_support;
+use two_time::capacity::Shape;
 
 fn reported(answer: Reported, tolerance: f64) {
     match answer {
@@ -59,48 +61,43 @@ fn consistent(tolerance: f64) {
 }
 
 // The time's index, a, b, the hopping's parts, the charge.
-fn flow(head: Head, lesser: &[f64]) {
+fn flow(shape: Shape, lesser: &[f64]) {
     let time = words::whole();
     let a = words::whole();
     let b = words::whole();
     let hopping = Complex::new(words::number(), words::number());
     let charge = words::number();
-    show::observed(bond_flow_into(
-        lesser,
-        head.points,
-        head.orbitals,
-        time,
-        a,
-        b,
-        hopping,
-        charge,
-    ));
+    show::observed(bond_flow_into(lesser, shape, time, a, b, hopping, charge));
 }
 
-// Of one function. The observables have the time's index first; the expectation has its block's shape, and its numbers in a slice.
-fn of_one(head: Head, xs: &[f64], block_numbers: &[f64]) {
+// Of one lesser function: its capacity first where it has one, then the time's index; the expectation has its block's shape, and its numbers in a slice.
+fn of_lesser(head: Head, xs: &[f64], block_numbers: &[f64]) {
     let function = head.function;
-    let points = head.points;
-    let orbitals = head.orbitals;
+    let shape = shape(head);
     let tolerance = head.tolerance;
     match function {
-        2 => show::verdict(check_retarded_support(xs, points, orbitals, tolerance)),
-        6 => show::block(density_matrix(xs, points, orbitals, words::whole())),
-        7 => show::observed(particle_number(xs, points, orbitals, words::whole(), tolerance)),
-        8 => {
+        6 | 38 => show::block(density_matrix(xs, shape, words::whole())),
+        7 | 39 => show::observed(particle_number(xs, shape, words::whole(), tolerance)),
+        8 | 40 => {
             let time = words::whole();
             let observable = block(block_numbers);
-            show::observed(one_body_expectation(xs, points, orbitals, time, observable, tolerance));
+            show::observed(one_body_expectation(xs, shape, time, observable, tolerance));
         }
-        _ => flow(head, xs),
+        _ => flow(shape, xs),
     }
 }
 
 pub(crate) fn call(head: Head, numbers: &[f64], at: &Places) {
     let function = head.function;
     match function {
+        2 => show::verdict(check_retarded_support(
+            part(numbers, at, 1),
+            head.points,
+            head.orbitals,
+            head.tolerance,
+        )),
         10 => report(head, numbers, at),
         11 => consistent(head.tolerance),
-        _ => of_one(head, part(numbers, at, 1), part(numbers, at, 2)),
+        _ => of_lesser(head, part(numbers, at, 1), part(numbers, at, 2)),
     }
 }

@@ -1,18 +1,20 @@
-// Functions 0, 1, 3 to 5 and 12, which leave functions: the convolutions, the Dyson equation, the transient run and the Langreth
-// product. Times, the operands; then the length of each of four outputs, 0 for those that the function has not.
+// Functions 0, 1, 3 to 5, 12, 36 and 37, which leave functions: the convolutions, the Dyson equation, the transient run, the Langreth product and, in a
+// capacity, the run and the append. Times, the operands; then the length of each of four outputs, 0 for those that the function has not. 36 and 37 have
+// their capacity there, and what their outputs hold before in four more slices.
 use crate::lent::Head;
 use crate::lent::Places;
-use crate::lent::output;
+use crate::lent::output_of;
 use crate::lent::part;
+use crate::lent::shape;
 use crate::show;
+use crate::transient;
 use convolution::causal_volterra_convolution;
 use convolution::time_convolution;
 use dyson::retarded_dyson;
 use dyson::retarded_dyson_with_tolerance;
 use langreth::langreth_product;
 use refusal::Verdict;
-use transient_run::Solved;
-use transient_run::transient_run;
+use two_time::capacity::Shape;
 
 // Of two operands: both convolutions, and Dyson with the default tolerance or the one that is given, which leaves G and K.
 fn of_two(head: Head, numbers: &[f64], at: &Places, a: &mut [f64], b: &mut [f64]) -> Verdict {
@@ -28,38 +30,6 @@ fn of_two(head: Head, numbers: &[f64], at: &Places, a: &mut [f64], b: &mut [f64]
         3 => retarded_dyson_with_tolerance(times, x, y, points, orbitals, head.tolerance, a, b),
         _ => retarded_dyson(times, x, y, points, orbitals, a, b),
     }
-}
-
-fn solved(answer: Solved) -> Verdict {
-    match answer {
-        Solved::Accepted => Verdict::Pass,
-        Solved::Refused(r) => Verdict::Refused(r),
-    }
-}
-
-// Free, both self-energies; G^R, G^<, K and X.
-fn transient(
-    head: Head,
-    numbers: &[f64],
-    at: &Places,
-    a: &mut [f64],
-    b: &mut [f64],
-    c: &mut [f64],
-    d: &mut [f64],
-) -> Verdict {
-    solved(transient_run(
-        part(numbers, at, 0),
-        part(numbers, at, 1),
-        part(numbers, at, 2),
-        part(numbers, at, 3),
-        head.points,
-        head.orbitals,
-        head.tolerance,
-        a,
-        b,
-        c,
-        d,
-    ))
 }
 
 // Retarded, advanced, lesser and greater of the left, of the right, and of the product.
@@ -93,6 +63,7 @@ fn product(
 
 fn with_outputs(
     head: Head,
+    shape: Shape,
     numbers: &[f64],
     at: &Places,
     a: &mut [f64],
@@ -102,7 +73,7 @@ fn with_outputs(
 ) -> Verdict {
     let function = head.function;
     match function {
-        5 => transient(head, numbers, at, a, b, c, d),
+        5 | 36 | 37 => transient::call(head, shape, numbers, at, a, b, c, d),
         12 => product(head, numbers, at, a, b, c, d),
         _ => of_two(head, numbers, at, a, b),
     }
@@ -121,10 +92,12 @@ pub(crate) fn call(head: Head, numbers: &[f64], at: &Places) {
     let mut second = [0.0; 131072];
     let mut third = [0.0; 131072];
     let mut fourth = [0.0; 131072];
-    let a = output(&mut first);
-    let b = output(&mut second);
-    let c = output(&mut third);
-    let d = output(&mut fourth);
-    show::verdict(with_outputs(head, numbers, at, a, b, c, d));
+    let function = head.function;
+    let shape = shape(head);
+    let a = output_of(function, part(numbers, at, 4), &mut first);
+    let b = output_of(function, part(numbers, at, 5), &mut second);
+    let c = output_of(function, part(numbers, at, 6), &mut third);
+    let d = output_of(function, part(numbers, at, 7), &mut fourth);
+    show::verdict(with_outputs(head, shape, numbers, at, a, b, c, d));
     print_outputs(head.made, a, b, c, d);
 }

@@ -11,6 +11,7 @@ use complex::Complex;
 use observables::Observed;
 use refusal::Refusal;
 use refusal::Verdict;
+use two_time::capacity::Shape;
 
 // An observable's number; 14 carries the imaginary part.
 fn numbers_of(observed: Observed) -> Numbers
@@ -49,6 +50,7 @@ fn numbers_of(observed: Observed) -> Numbers
 pub extern "C" fn leechgrommet_density_matrix(
     lesser: &[f64],
     points: usize,
+    capacity: usize,
     orbitals: usize,
     time: usize,
     shape: &mut [usize],
@@ -56,9 +58,14 @@ pub extern "C" fn leechgrommet_density_matrix(
     places: &mut [usize],
     part: &mut [f64],
 ) -> u8
-    ensures { λ r. ⌜ afterBlock r shape out places part ≡ answersBlock (densityMatrix points orbitals (now (lesser .entry)) time) shape out places part ⌝ }
+    ensures { λ r. ⌜ afterBlock r shape out places part ≡ answersBlock (densityMatrix capacity points orbitals (now (lesser .entry)) time) shape out places part ⌝ }
 {
-    let made = observables::density_matrix(lesser, points, orbitals, time);
+    let layout = Shape {
+        points,
+        capacity,
+        orbitals,
+    };
+    let made = observables::density_matrix(lesser, layout, time);
     write_block(made, shape, out, places, part)
 }
 
@@ -67,6 +74,7 @@ pub extern "C" fn leechgrommet_density_matrix(
 pub extern "C" fn leechgrommet_particle_number(
     lesser: &[f64],
     points: usize,
+    capacity: usize,
     orbitals: usize,
     time: usize,
     tolerance: f64,
@@ -74,10 +82,15 @@ pub extern "C" fn leechgrommet_particle_number(
     places: &mut [usize],
     part: &mut [f64],
 ) -> u8
-    ensures { λ r. ⌜ (let observed = particleNumber points orbitals (now (lesser .entry)) time tolerance in
+    ensures { λ r. ⌜ (let observed = particleNumber capacity points orbitals (now (lesser .entry)) time tolerance in
         afterWith r value places part ≡ answersNumbers (observedNumbers observed) value places part) ⌝ }
 {
-    let observed = observables::particle_number(lesser, points, orbitals, time, tolerance);
+    let layout = Shape {
+        points,
+        capacity,
+        orbitals,
+    };
+    let observed = observables::particle_number(lesser, layout, time, tolerance);
     write_numbers(numbers_of(observed), value, places, part)
 }
 
@@ -86,6 +99,7 @@ pub extern "C" fn leechgrommet_particle_number(
 pub extern "C" fn leechgrommet_one_body_expectation(
     lesser: &[f64],
     points: usize,
+    capacity: usize,
     orbitals: usize,
     time: usize,
     rows: usize,
@@ -96,18 +110,16 @@ pub extern "C" fn leechgrommet_one_body_expectation(
     places: &mut [usize],
     part: &mut [f64],
 ) -> u8
-    ensures { λ r. ⌜ (let observed = oneBodyExpectation points orbitals (now (lesser .entry)) time (block rows columns (now (values .entry))) tolerance in
+    ensures { λ r. ⌜ (let observed = oneBodyExpectation capacity points orbitals (now (lesser .entry)) time (block rows columns (now (values .entry))) tolerance in
         afterWith r value places part ≡ answersNumbers (observedNumbers observed) value places part) ⌝ }
 {
-    let observable = block(rows, columns, values);
-    let observed = observables::one_body_expectation(
-        lesser,
+    let layout = Shape {
         points,
+        capacity,
         orbitals,
-        time,
-        observable,
-        tolerance,
-    );
+    };
+    let observable = block(rows, columns, values);
+    let observed = observables::one_body_expectation(lesser, layout, time, observable, tolerance);
     write_numbers(numbers_of(observed), value, places, part)
 }
 
@@ -116,6 +128,7 @@ pub extern "C" fn leechgrommet_one_body_expectation(
 pub extern "C" fn leechgrommet_bond_flow_into(
     lesser: &[f64],
     points: usize,
+    capacity: usize,
     orbitals: usize,
     time: usize,
     a: usize,
@@ -127,19 +140,15 @@ pub extern "C" fn leechgrommet_bond_flow_into(
     places: &mut [usize],
     part: &mut [f64],
 ) -> u8
-    ensures { λ r. ⌜ (let observed = bondFlowInto points orbitals (now (lesser .entry)) time a b (record { re = real; im = imaginary }) charge in
+    ensures { λ r. ⌜ (let observed = bondFlowInto capacity points orbitals (now (lesser .entry)) time a b (record { re = real; im = imaginary }) charge in
         afterWith r value places part ≡ answersNumbers (observedNumbers observed) value places part) ⌝ }
 {
-    let hopping = Complex::new(real, imaginary);
-    let observed = observables::bond_flow_into(
-        lesser,
+    let layout = Shape {
         points,
+        capacity,
         orbitals,
-        time,
-        a,
-        b,
-        hopping,
-        charge,
-    );
+    };
+    let hopping = Complex::new(real, imaginary);
+    let observed = observables::bond_flow_into(lesser, layout, time, a, b, hopping, charge);
     write_numbers(numbers_of(observed), value, places, part)
 }

@@ -12,9 +12,9 @@ ran c = wrote c .before .before .before .before .before .before .before .before 
 
 pub leechgrommet-transient-run-spec : {M : Type 1} → statement M
 leechgrommet-transient-run-spec =
-    tie.close (tie.spec (search needs) (search needs) (search needs) (λ c. ran c .transient-run .kept .1 .1 .1 .1 .1 .1 .1 .0)
-    (λ c. ran c .transient-run .kept .1 .1 .1 .1 .1 .1 .1 .1 .0) (λ c. ran c .transient-run .kept .1 .1 .1 .1 .1 .1 .1 .1 .1 .0)
-    (λ c. ran c .transient-run .kept .1 .1 .1 .1 .1 .1 .1 .1 .1 .1 .0) (λ c. wrote c .write-answer .kept .1 .0) (λ c. wrote c .write-answer .kept .1 .1 .0)
+    tie.close (tie.spec (search needs) (search needs) (search needs) (λ c. ran c .transient-run .kept .1 .1 .1 .1 .1 .1 .0)
+    (λ c. ran c .transient-run .kept .1 .1 .1 .1 .1 .1 .1 .0) (λ c. ran c .transient-run .kept .1 .1 .1 .1 .1 .1 .1 .1 .0)
+    (λ c. ran c .transient-run .kept .1 .1 .1 .1 .1 .1 .1 .1 .1 .0) (λ c. wrote c .write-answer .kept .1 .0) (λ c. wrote c .write-answer .kept .1 .1 .0)
     (λ c. let t = c .before .before .before .before in
     let v = t .before .before .before .before .before .before .before .before .before .before .before .before .transient-run .ensures in
     let e = rw (t .before .before .before .solved-verdict .ensures ∙ ap solvedVerdict (v .0)) at (t .write-answer .ensures) in
