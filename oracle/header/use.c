@@ -1,4 +1,4 @@
-/* A program of the header, in C and in C++ alike: P12's run, then answers that refuse and what they leave. */
+/* A program of the header, in C and in C++ alike: P12's run, the same by appends, then answers that refuse and what they leave. */
 #include "leechgrommet.h"
 
 #include <float.h>
@@ -8,6 +8,8 @@
 
 #define POINTS 3
 #define NUMBERS (2 * POINTS * POINTS)
+#define CAPACITY 4
+#define WITH_ROOM (2 * CAPACITY * CAPACITY)
 #define LENT (-7.25)
 
 static size_t places[3];
@@ -38,7 +40,42 @@ static void print_answer(const char *call, uint8_t answer, const double *passed,
 static void particle_number(const char *call, const double *lesser, size_t points, size_t time, double *value, size_t value_len)
 {
     value[0] = LENT;
-    print_answer(call, leechgrommet_particle_number(lesser, NUMBERS, points, 1, time, 1e-12, value, value_len, places, 3, part, 1), value, 1);
+    print_answer(call, leechgrommet_particle_number(lesser, NUMBERS, points, POINTS, 1, time, 1e-12, value, value_len, places, 3, part, 1), value, 1);
+}
+
+/* P12 to two points in a capacity of four, then by appends to three, to four and beyond: what is in room stays as it was passed. */
+static void appends(void)
+{
+    double times[CAPACITY] = {0, 1, 2, 3}, step[WITH_ROOM] = {0}, lesser_self_energy[WITH_ROOM] = {0}, value[1];
+    double retarded[WITH_ROOM], lesser[WITH_ROOM], kernel[WITH_ROOM], lesser_advanced[WITH_ROOM];
+    size_t t, u, points;
+    uint8_t answer;
+
+    for (t = 0; t < WITH_ROOM; t++)
+        retarded[t] = lesser[t] = kernel[t] = lesser_advanced[t] = LENT;
+    for (t = 0; t < CAPACITY; t++)
+        for (u = 0; u < CAPACITY; u++) {
+            step[2 * (t * CAPACITY + u)] = u <= t;
+            lesser_self_energy[2 * (t * CAPACITY + u) + 1] = 1;
+        }
+    answer = leechgrommet_transient_run(times, CAPACITY, step, WITH_ROOM, step, WITH_ROOM, lesser_self_energy, WITH_ROOM, 2, CAPACITY, 1, 1e-12,
+        retarded, WITH_ROOM, lesser, WITH_ROOM, kernel, WITH_ROOM, lesser_advanced, WITH_ROOM, places, 3, part, 1);
+    print_answer("transient_run in a capacity", answer, lesser, WITH_ROOM);
+    for (points = 2; points <= CAPACITY; points++) {
+        /* The last of these is one too many. */
+        answer = leechgrommet_append_point(times, CAPACITY, step, WITH_ROOM, step, WITH_ROOM, lesser_self_energy, WITH_ROOM, points, CAPACITY, 1,
+            1e-12, retarded, WITH_ROOM, lesser, WITH_ROOM, kernel, WITH_ROOM, lesser_advanced, WITH_ROOM, places, 3, part, 1);
+        print_answer("append_point", answer, lesser, WITH_ROOM);
+        answer = leechgrommet_particle_number(lesser, WITH_ROOM, points + 1, CAPACITY, 1, points, 1e-12, value, 1, places, 3, part, 1);
+        print_answer("particle_number in a capacity", answer, value, answer == LEECHGROMMET_ACCEPTED);
+    }
+
+    /* The new point again, with a free propagator that overflows: its row and column are +0. */
+    for (u = 0; u < CAPACITY; u++)
+        step[2 * ((CAPACITY - 1) * CAPACITY + u)] = DBL_MAX;
+    answer = leechgrommet_append_point(times, CAPACITY, step, WITH_ROOM, step, WITH_ROOM, lesser_self_energy, WITH_ROOM, CAPACITY - 1, CAPACITY, 1,
+        1e-12, retarded, WITH_ROOM, lesser, WITH_ROOM, kernel, WITH_ROOM, lesser_advanced, WITH_ROOM, places, 3, part, 1);
+    print_answer("append_point that overflows", answer, lesser, WITH_ROOM);
 }
 
 int main(void)
@@ -65,17 +102,19 @@ int main(void)
     number(leechgrommet_norm(3, 4));
     printf("\n");
 
-    answer = leechgrommet_transient_run(times, POINTS, step, NUMBERS, step, NUMBERS, lesser_self_energy, NUMBERS, POINTS, 1, 1e-12,
+    answer = leechgrommet_transient_run(times, POINTS, step, NUMBERS, step, NUMBERS, lesser_self_energy, NUMBERS, POINTS, POINTS, 1, 1e-12,
         retarded, NUMBERS, lesser, NUMBERS, kernel, NUMBERS, lesser_advanced, NUMBERS, places, 3, part, 1);
     print_answer("transient_run", answer, lesser, NUMBERS);
     for (t = 0; t <= POINTS; t++)
         particle_number("particle_number", lesser, POINTS, t, value, 1);
     particle_number("particle_number of a longer slice", lesser, POINTS, POINTS, value, 2);
     particle_number("particle_number of one time and a longer slice", lesser, 1, 0, value, 2);
-    answer = leechgrommet_particle_number(lesser, NUMBERS, POINTS, 1, POINTS, 0, value, 1, places, 3, part, 1);
+    answer = leechgrommet_particle_number(lesser, NUMBERS, POINTS, POINTS, 1, POINTS, 0, value, 1, places, 3, part, 1);
     print_answer("particle_number without a tolerance", answer, value, 1);
-    answer = leechgrommet_particle_number(two_orbitals, 32, 2, 2, 0, 1e-12, value, 1, places, 3, part, 1);
+    answer = leechgrommet_particle_number(two_orbitals, 32, 2, 2, 2, 0, 1e-12, value, 1, places, 3, part, 1);
     print_answer("particle_number that is infinite", answer, value, 1);
+
+    appends();
 
     times[2] = 1;
     answer = leechgrommet_causal_volterra_convolution(times, POINTS, step, NUMBERS, step, NUMBERS, POINTS, 1, retarded, NUMBERS,

@@ -1,6 +1,7 @@
 //! What the export crates export beside the port's source, on the same inputs in one run, and the norm beside hypot. `bench/run` builds and
 //! runs it: `bench [NAME]..` writes the tables of docs/BENCHMARKS.md, of these functions alone where some are named. The environment's ROUNDS
 //! is the count of rounds (default 5).
+mod appends;
 mod blocks;
 mod inputs;
 mod keldysh;
@@ -49,6 +50,8 @@ const OPERATIONS: [(&str, Operation); 10] = [
     ("block_from_numbers", blocks::from_numbers),
 ];
 
+const APPEND: &str = "append_point";
+
 const MILLISECONDS: Unit = ("milliseconds", 1e6);
 const NANOSECONDS: Unit = ("nanoseconds", 1.0);
 
@@ -62,6 +65,7 @@ fn main() -> ExitCode {
     let mut bench = Bench::new(rounds);
     let functions = rows(&FUNCTIONS, |function, (points, orbitals)| function(&mut bench, points, orbitals));
     let operations = rows(&OPERATIONS, |operation, (_, orbitals)| operation(&mut bench, orbitals));
+    let appends = if named(APPEND) { appended(&mut bench) } else { vec![] };
     let kinds = if named("norm") { norm::kinds(&bench) } else { vec![] };
 
     let Bench { same, residuals, differ, .. } = bench;
@@ -69,9 +73,16 @@ fn main() -> ExitCode {
     println!("Of {residuals} residuals and largest differences, which are norms, {differ} differ in bits, by hypot.\n");
     table::functions("Functions of two times, by (N, n)", SIZES.map(|size| format!("{size:?}")), MILLISECONDS, &functions);
     table::terms(SIZES.map(|size| format!("{size:?}")), &functions, multiply_adds);
+    table::appends(SIZES, &appends);
     table::functions("Operations on n by n blocks", SIZES.map(|(_, orbitals)| format!("n = {orbitals}")), NANOSECONDS, &operations);
     table::norms(&kinds);
     ExitCode::SUCCESS
+}
+
+/// An append at each size.
+fn appended(bench: &mut Bench) -> Vec<appends::Append> {
+    eprintln!("{APPEND}");
+    SIZES.iter().map(|&(points, orbitals)| appends::append(bench, points, orbitals)).collect()
 }
 
 /// How many complex multiply-adds the sums of a function make at each size: products of blocks by n³, with those over one point,
@@ -89,7 +100,7 @@ fn multiply_adds(name: &str) -> Option<[f64; 5]> {
 
 /// Whether something of this name can be measured.
 fn known(name: &str) -> bool {
-    name == "norm" || FUNCTIONS.iter().any(|(known, _)| *known == name) || OPERATIONS.iter().any(|(known, _)| *known == name)
+    name == "norm" || name == APPEND || FUNCTIONS.iter().any(|(known, _)| *known == name) || OPERATIONS.iter().any(|(known, _)| *known == name)
 }
 
 /// Whether the arguments name it, or none.

@@ -1,11 +1,12 @@
 //! The convolutions, the support test, Dyson and the transient run.
 use crate::inputs::Inputs;
 use crate::measure::{Bench, Times};
+use here::Shape;
 use keldysh_green::{RealTimeGrid, TwoTimeMatrix};
 use shared::numbers;
 use std::hint::black_box;
 
-const TOLERANCE: f64 = 1e-12;
+pub const TOLERANCE: f64 = 1e-12;
 
 type Ours = fn(&[f64], &[f64], &[f64], usize, usize, &mut [f64]) -> here::Answer;
 type Theirs = fn(&RealTimeGrid, &TwoTimeMatrix, &TwoTimeMatrix) -> keldysh_green::Result<TwoTimeMatrix>;
@@ -71,9 +72,9 @@ pub fn retarded_dyson_with_tolerance(bench: &mut Bench, points: usize, orbitals:
 pub fn transient_run(bench: &mut Bench, points: usize, orbitals: usize) -> Times {
     let inputs = Inputs::new(points, orbitals, [true, true, false]);
     let (grid, [free, self_energy, lesser_self_energy]) = (inputs.grid(), inputs.built());
-    let here = |[retarded, lesser, kernel, lesser_advanced]: &mut [Vec<f64>; 4]| {
-        let [free, self_energy, lesser_self_energy] = black_box(&inputs.functions);
-        here::transient_run(&inputs.times, free, self_energy, lesser_self_energy, points, orbitals, TOLERANCE, retarded, lesser, kernel, lesser_advanced)
+    let here = |out: &mut [Vec<f64>; 4]| {
+        let ([free, self_energy, lesser_self_energy], out) = (black_box(&inputs.functions), out.each_mut().map(|xs| &mut xs[..]));
+        here::transient_run(&inputs.times, free, self_energy, lesser_self_energy, Shape::of(points, orbitals), TOLERANCE, out)
     };
     let port = || shared::transient_run(&grid, black_box(&free), &self_energy, &lesser_self_energy, TOLERANCE);
     let mut out = [(); 4].map(|()| inputs.room());

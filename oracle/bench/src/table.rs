@@ -1,4 +1,5 @@
 //! The tables, in Markdown.
+use crate::appends::{products, Append};
 use crate::measure::Times;
 use crate::norm::{Kind, COUNT};
 
@@ -47,6 +48,33 @@ fn table(sizes: &[String; 5], rows: &[Row], cell: impl Fn(&Times) -> Option<Stri
             line(&format!("`{}`", row.name), &cells);
         }
     }
+    println!();
+}
+
+/// An append beside the run over all points: times in milliseconds, and of the append's work, its time and its products, that part of the run's.
+pub fn appends(sizes: [(usize, usize); 5], appends: &[Append]) {
+    if appends.is_empty() {
+        return;
+    }
+    println!("### An append of the last point, beside the run over all points, by (N, n)\n");
+    println!("Milliseconds of a call; its questions are those of a call that the last of them refuses, and its work is the rest:\n");
+    head("call", &sizes.map(|size| format!("{size:?}")));
+    let milliseconds = |name: &str, time: fn(&Append) -> f64| {
+        line(name, &appends.iter().map(|x| significant(time(x) / 1e6)).collect::<Vec<_>>());
+    };
+    milliseconds("`transient_run`", |x| x.run);
+    milliseconds("its questions", |x| x.run_asked);
+    milliseconds("`append_point`", |x| x.append);
+    milliseconds("its questions", |x| x.append_asked);
+    let parts = |name: &str, part: &dyn Fn(usize, &Append) -> f64| {
+        line(name, &appends.iter().enumerate().map(|(at, x)| format!("1/{}", significant(part(at, x)))).collect::<Vec<_>>());
+    };
+    parts("the append, of the run", &|_, x| x.run / x.append);
+    parts("the append's work, of the run's", &|_, x| (x.run - x.run_asked) / (x.append - x.append_asked));
+    parts("its products, of the run's", &|at, _| {
+        let points = sizes[at].0 as f64;
+        products(points) / (products(points) - products(points - 1.0))
+    });
     println!();
 }
 

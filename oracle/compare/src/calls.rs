@@ -3,6 +3,7 @@ use crate::inputs::{Call, Takes};
 use crate::mirrored;
 use crate::sides::{block_outcome, filled, judged, ours, outcome, Outcome, LENT};
 use crate::source::Source;
+use here::Shape;
 
 /// A function that is compared.
 pub struct Function {
@@ -170,47 +171,35 @@ fn retarded_dyson_with_tolerance(call: &Call) -> Outcome {
 
 fn transient_run(call: &Call) -> Outcome {
     let (points, orbitals, times, operands, tolerance) = (call.points, call.orbitals, &call.times, call.operands(), call.tolerance);
-    let [mut retarded, mut lesser, mut kernel, mut lesser_advanced] = lent(call.made());
+    let mut made: [Vec<f64>; 4] = lent(call.made());
     let [free, self_energy, lesser_self_energy] = operands;
-    let answer = here::transient_run(
-        times,
-        free,
-        self_energy,
-        lesser_self_energy,
-        points,
-        orbitals,
-        tolerance,
-        &mut retarded,
-        &mut lesser,
-        &mut kernel,
-        &mut lesser_advanced,
-    );
-    let theirs = judge::transient_run(points, orbitals, times, operands, tolerance, call.made());
-    filled(answer, [retarded, lesser, kernel, lesser_advanced], theirs)
+    let (shape, out) = (Shape::of(points, orbitals), made.each_mut().map(|xs| &mut xs[..]));
+    let answer = here::transient_run(times, free, self_energy, lesser_self_energy, shape, tolerance, out);
+    filled(answer, made, judge::transient_run(points, orbitals, times, operands, tolerance, call.made()))
 }
 
 fn particle_number(call: &Call) -> Outcome {
     let (points, orbitals, [lesser]) = (call.points, call.orbitals, call.operands());
-    let ours = here::particle_number(lesser, points, orbitals, call.time, call.tolerance);
+    let ours = here::particle_number(lesser, Shape::of(points, orbitals), call.time, call.tolerance);
     judged(ours, judge::particle_number(points, orbitals, lesser, call.time, call.tolerance), |x| vec![x])
 }
 
 fn density_matrix(call: &Call) -> Outcome {
     let (points, orbitals, [lesser]) = (call.points, call.orbitals, call.operands());
-    let ours = |out: &mut here::Block| here::density_matrix(lesser, points, orbitals, call.time, out);
+    let ours = |out: &mut here::Block| here::density_matrix(lesser, Shape::of(points, orbitals), call.time, out);
     block_outcome(ours, judge::density_matrix(points, orbitals, lesser, call.time))
 }
 
 fn one_body_expectation(call: &Call) -> Outcome {
     let (points, orbitals, [lesser], observable) = (call.points, call.orbitals, call.operands(), call.observable.lent());
-    let here = here::one_body_expectation(lesser, points, orbitals, call.time, &ours(&observable), call.tolerance);
+    let here = here::one_body_expectation(lesser, Shape::of(points, orbitals), call.time, &ours(&observable), call.tolerance);
     let theirs = judge::one_body_expectation(points, orbitals, lesser, call.time, &observable, call.tolerance);
     judged(here, theirs, |x| vec![x])
 }
 
 fn bond_flow_into(call: &Call) -> Outcome {
     let (points, orbitals, [lesser], [a, b]) = (call.points, call.orbitals, call.operands(), call.bond);
-    let ours = here::bond_flow_into(lesser, points, orbitals, call.time, a, b, call.hopping, call.charge);
+    let ours = here::bond_flow_into(lesser, Shape::of(points, orbitals), call.time, a, b, call.hopping, call.charge);
     let theirs = judge::bond_flow_into(points, orbitals, lesser, call.time, call.bond, call.hopping, call.charge);
     outcome(ours, theirs, |x| vec![x])
 }

@@ -86,6 +86,7 @@ enum Fault {
     Length,
 }
 
+/// Faults, and what a function takes that can have them. The last three are of sizes and lengths.
 const FAULTS: [(Fault, Option<Takes>); 10] = [
     (Fault::Times, Some(Takes::Times)),
     (Fault::Entry, None),
@@ -105,7 +106,7 @@ pub fn faults(count: usize) -> &'static str {
 }
 
 /// Sizes above every limit, whose products wrap.
-const VAST: [usize; 4] = [1 << 31, 1 << 32, 1 << 63, usize::MAX];
+pub const VAST: [usize; 4] = [1 << 31, 1 << 32, 1 << 63, usize::MAX];
 
 /// Tolerances that are refused.
 pub const NO_TOLERANCE: [f64; 6] = [0.0, -0.0, -1.0, f64::INFINITY, f64::NEG_INFINITY, f64::NAN];
@@ -180,17 +181,26 @@ impl Source {
     /// Half of the calls may have faults, and how many it has.
     pub fn faulty_call(&mut self, f: &Function) -> (Call, usize) {
         let mut call = self.small_call(f);
+        let count = if self.one_in(2) { 0 } else { self.damages(f, &mut call, &FAULTS) };
+        (call, count)
+    }
+
+    /// The same, with faults of contents alone.
+    pub fn faulty_contents(&mut self, f: &Function) -> (Call, usize) {
+        let mut call = self.small_call(f);
+        let count = if self.one_in(2) { 0 } else { self.damages(f, &mut call, &FAULTS[..FAULTS.len() - 3]) };
+        (call, count)
+    }
+
+    fn damages(&mut self, f: &Function, call: &mut Call, faults: &[(Fault, Option<Takes>)]) -> usize {
         let mut count = 0;
-        if self.one_in(2) {
-            return (call, count);
-        }
-        for (fault, of) in FAULTS {
+        for (fault, of) in faults {
             if of.is_none_or(|what| f.takes(what)) && self.one_in(5) {
-                self.damage(f, &mut call, fault);
+                self.damage(f, call, *fault);
                 count += 1;
             }
         }
-        (call, count)
+        count
     }
 
     fn damage(&mut self, f: &Function, call: &mut Call, fault: Fault) {

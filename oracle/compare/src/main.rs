@@ -4,8 +4,11 @@ mod block_inputs;
 mod blocks;
 mod boundaries;
 mod calls;
+mod capacities;
 mod exhaustive;
+mod histories;
 mod inputs;
+mod laid;
 mod limits;
 mod mirrored;
 mod observed;
@@ -46,6 +49,7 @@ impl Job {
 /// All jobs, those with long calls first.
 fn jobs(calls: u64, seed: u64) -> Vec<Job> {
     let parts = [
+        histories::long(seed),
         limits::jobs(seed),
         boundaries::jobs(seed),
         stages::jobs(calls / 2, seed),
@@ -55,6 +59,8 @@ fn jobs(calls: u64, seed: u64) -> Vec<Job> {
         tolerances::jobs(calls / 4, seed),
         exhaustive::jobs(),
         written::jobs(seed),
+        histories::jobs(calls / 2, seed),
+        capacities::jobs(calls, seed),
         random::jobs(calls, seed),
     ];
     parts.into_iter().flatten().collect()

@@ -1,6 +1,7 @@
 //! Products on one point that overflow, which the port forms and document 02 leaves out, and products on two points whose half step is 0, which
 //! both form. In each sum, with numbers that are drawn.
 use crate::calls::{self, Function};
+use crate::inputs::Call;
 use crate::sides::Outcome;
 use crate::source::Source;
 use crate::stages::{grown, STEPS};
@@ -59,9 +60,8 @@ const fn below([left, right]: [usize; 2]) -> [Place; 3] {
 /// Exponents of the first block; that of the second makes their product overflow, or just not.
 const EXPONENTS: [i32; 5] = [64, 200, 512, 800, 960];
 
-fn call(seed: u64, f: &Function, sum: &Sum, index: u64) -> Outcome {
-    let label = format!("{}, {}", f.name, sum.name);
-    let source = &mut Source::of(seed, [PART, &label], index);
+/// A call in which such products overflow, and whether they are on two points.
+fn drawn(source: &mut Source, f: &Function, sum: &Sum) -> (Call, bool) {
     let (two, (points, orbitals)) = (source.one_in(4), source.small_sizes());
     let points = if two { points.max(3) } else { points };
     let times = if two {
@@ -89,12 +89,28 @@ fn call(seed: u64, f: &Function, sum: &Sum, index: u64) -> Outcome {
         let block = &mut call.operands[*operand][at..at + size];
         block.copy_from_slice(&grown(block, STEPS * exponent));
     }
+    (call, two)
+}
+
+fn call(seed: u64, f: &Function, sum: &Sum, index: u64) -> Outcome {
+    let label = format!("{}, {}", f.name, sum.name);
+    let (call, two) = drawn(&mut Source::of(seed, [PART, &label], index), f, sum);
     (f.compare)(&call).under(format!("{label}, {}", if two { "two points, half step 0" } else { "one point" }))
+}
+
+fn sums_of(name: &str) -> Vec<&'static Sum> {
+    const { &SUMS }.iter().filter(|sum| sum.function == name).collect()
+}
+
+/// A run's call in which such products overflow.
+pub fn run(source: &mut Source) -> Call {
+    let sum = source.pick(&sums_of("transient_run"));
+    drawn(source, calls::function("transient_run"), sum).0
 }
 
 pub fn jobs(calls: u64, seed: u64) -> Vec<Job> {
     let jobs = FUNCTIONS.map(|name| {
-        let (f, sums): (_, Vec<_>) = (calls::function(name), const { &SUMS }.iter().filter(|sum| sum.function == name).collect());
+        let (f, sums) = (calls::function(name), sums_of(name));
         let count = sums.len() as u64;
         Job::of(PART, name, calls * count, move |index| call(seed, f, sums[(index % count) as usize], index / count))
     });

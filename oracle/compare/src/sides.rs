@@ -1,5 +1,5 @@
 //! What is compared of the two sides of a call.
-use judge::{Judged, Listed, Refused, Slices};
+use judge::{Held, Judged, Listed, Refused, Slices};
 
 /// What lent slices hold before a call.
 pub const LENT: f64 = -7.25;
@@ -79,6 +79,15 @@ pub fn filled<const COUNT: usize>(answer: here::Answer, lent: Slices<COUNT>, por
     let held: f64 = if answer.number == 10 { 0.0 } else { LENT };
     let left = lent.iter().flatten().filter(|x| !same(**x, held)).count();
     judged(Err(answer), port, made).and(&Outcome::of(Refused::by(0), lent.iter().flatten().count(), left))
+}
+
+/// The same of a call whose slices are to hold what the judge has them hold, in all bits: what is not made is left, a NaN's bits too.
+pub fn held(answer: here::Answer, slices: &Slices<4>, judged_by: &Held) -> Outcome {
+    let here = if answer.number == 0 { Ok(()) } else { Err(answer) };
+    let (ours, theirs) = (slices.iter().flatten(), judged_by.slices.iter().flatten());
+    assert_eq!(ours.clone().count(), theirs.clone().count());
+    let unequal = ours.clone().zip(theirs).filter(|(x, y)| x.to_bits() != y.to_bits()).count();
+    judged(here, judged_by.judged.clone(), |()| vec![]).and(&Outcome::of(Refused::by(0), ours.count(), unequal))
 }
 
 /// A decision as a number.

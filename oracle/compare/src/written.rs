@@ -5,6 +5,7 @@ use crate::calls;
 use crate::sides::{self, ours, same, Outcome, LENT};
 use crate::source::Source;
 use crate::Job;
+use here::Shape;
 use judge::{Judged, Refused};
 
 const PART: &str = "written";
@@ -85,23 +86,24 @@ fn particle_number(seed: u64, index: u64) -> Outcome {
     let (mut value, (mut places, mut part)) = (vec![LENT; lengths.next(1)], lengths.places_and_part());
     let (call, _) = Source::of(seed, [PART, f.name], index).faulty_call(f);
     let [xs] = call.operands();
-    let number =
-        here::particle_number_written(xs, call.points, call.orbitals, call.time, call.tolerance, &mut value, &mut places, &mut part);
+    let shape = Shape::of(call.points, call.orbitals);
+    let number = here::particle_number_written(xs, shape, call.time, call.tolerance, &mut value, &mut places, &mut part);
     let theirs = judge::particle_number(call.points, call.orbitals, xs, call.time, call.tolerance);
     outcome(number, vec![value, numbers(&places), part], vec![(LENT, afterwards(theirs.answer.map(|x| [x])))], theirs)
 }
 
 fn density_matrix(seed: u64, index: u64) -> Outcome {
     let (mut lengths, f) = (Lengths(index), calls::function("density_matrix"));
-    let (mut shape, mut out) = (vec![PLACE; lengths.next(2)], vec![LENT; lengths.next(512)]);
+    let (mut sides, mut out) = (vec![PLACE; lengths.next(2)], vec![LENT; lengths.next(512)]);
     let (mut places, mut part) = lengths.places_and_part();
     let (call, _) = Source::of(seed, [PART, f.name], index).faulty_call(f);
     let [xs] = call.operands();
-    let number = here::density_matrix_written(xs, call.points, call.orbitals, call.time, &mut shape, &mut out, &mut places, &mut part);
+    let shape = Shape::of(call.points, call.orbitals);
+    let number = here::density_matrix_written(xs, shape, call.time, &mut sides, &mut out, &mut places, &mut part);
     let theirs = judge::density_matrix(call.points, call.orbitals, xs, call.time);
     let block = theirs.clone().unwrap_or_else(|_| judge::Block::empty());
     let made = vec![(PLACE as f64, numbers(&[block.rows, block.columns])), (LENT, block.values.to_vec())];
-    outcome(number, vec![numbers(&shape), out, numbers(&places), part], made, theirs)
+    outcome(number, vec![numbers(&sides), out, numbers(&places), part], made, theirs)
 }
 
 fn consistency_report(seed: u64, index: u64) -> Outcome {

@@ -45,6 +45,21 @@ fn answer(call: impl FnOnce(&mut [usize; 3], &mut [f64; 1]) -> u8) -> Answer {
     }
 }
 
+/// Functions of so many points and orbitals, in slices laid out for a capacity of points.
+#[derive(Debug, Clone, Copy, PartialEq)]
+pub struct Shape {
+    pub points: usize,
+    pub capacity: usize,
+    pub orbitals: usize,
+}
+
+impl Shape {
+    /// Slices without room beyond the points.
+    pub fn of(points: usize, orbitals: usize) -> Self {
+        Self { points, capacity: points, orbitals }
+    }
+}
+
 /// A slice crosses as its address and its length.
 type Convolution = unsafe extern "C" fn(
     times: *const f64,
@@ -57,6 +72,33 @@ type Convolution = unsafe extern "C" fn(
     orbitals: usize,
     out: *mut f64,
     out_len: usize,
+    places: *mut usize,
+    places_len: usize,
+    part: *mut f64,
+    part_len: usize,
+) -> u8;
+
+type Solve = unsafe extern "C" fn(
+    times: *const f64,
+    times_len: usize,
+    free: *const f64,
+    free_len: usize,
+    self_energy: *const f64,
+    self_energy_len: usize,
+    lesser_self_energy: *const f64,
+    lesser_self_energy_len: usize,
+    points: usize,
+    capacity: usize,
+    orbitals: usize,
+    tolerance: f64,
+    retarded: *mut f64,
+    retarded_len: usize,
+    lesser: *mut f64,
+    lesser_len: usize,
+    kernel: *mut f64,
+    kernel_len: usize,
+    lesser_advanced: *mut f64,
+    lesser_advanced_len: usize,
     places: *mut usize,
     places_len: usize,
     part: *mut f64,
@@ -142,6 +184,34 @@ mod exported {
             lesser_self_energy: *const f64,
             lesser_self_energy_len: usize,
             points: usize,
+            capacity: usize,
+            orbitals: usize,
+            tolerance: f64,
+            retarded: *mut f64,
+            retarded_len: usize,
+            lesser: *mut f64,
+            lesser_len: usize,
+            kernel: *mut f64,
+            kernel_len: usize,
+            lesser_advanced: *mut f64,
+            lesser_advanced_len: usize,
+            places: *mut usize,
+            places_len: usize,
+            part: *mut f64,
+            part_len: usize,
+        ) -> u8;
+
+        pub fn leechgrommet_append_point(
+            times: *const f64,
+            times_len: usize,
+            free: *const f64,
+            free_len: usize,
+            self_energy: *const f64,
+            self_energy_len: usize,
+            lesser_self_energy: *const f64,
+            lesser_self_energy_len: usize,
+            points: usize,
+            capacity: usize,
             orbitals: usize,
             tolerance: f64,
             retarded: *mut f64,
@@ -240,23 +310,19 @@ pub fn retarded_dyson_with_tolerance(
     })
 }
 
-/// G^R and G^<, and K and X in the scratch.
 #[allow(clippy::too_many_arguments)]
-pub fn transient_run(
+fn solve(
+    call: Solve,
     times: &[f64],
     free: &[f64],
     self_energy: &[f64],
     lesser_self_energy: &[f64],
-    points: usize,
-    orbitals: usize,
+    shape: Shape,
     tolerance: f64,
-    retarded: &mut [f64],
-    lesser: &mut [f64],
-    kernel: &mut [f64],
-    lesser_advanced: &mut [f64],
+    [retarded, lesser, kernel, lesser_advanced]: [&mut [f64]; 4],
 ) -> Answer {
     answer(|places, part| unsafe {
-        exported::leechgrommet_transient_run(
+        call(
             times.as_ptr(),
             times.len(),
             free.as_ptr(),
@@ -265,8 +331,9 @@ pub fn transient_run(
             self_energy.len(),
             lesser_self_energy.as_ptr(),
             lesser_self_energy.len(),
-            points,
-            orbitals,
+            shape.points,
+            shape.capacity,
+            shape.orbitals,
             tolerance,
             retarded.as_mut_ptr(),
             retarded.len(),
@@ -282,6 +349,32 @@ pub fn transient_run(
             part.len(),
         )
     })
+}
+
+/// G^R and G^<, and K and X in the scratch.
+pub fn transient_run(
+    times: &[f64],
+    free: &[f64],
+    self_energy: &[f64],
+    lesser_self_energy: &[f64],
+    shape: Shape,
+    tolerance: f64,
+    made: [&mut [f64]; 4],
+) -> Answer {
+    solve(exported::leechgrommet_transient_run, times, free, self_energy, lesser_self_energy, shape, tolerance, made)
+}
+
+/// The same four, with the new row and column of one point more than the shape tells.
+pub fn append_point(
+    times: &[f64],
+    free: &[f64],
+    self_energy: &[f64],
+    lesser_self_energy: &[f64],
+    shape: Shape,
+    tolerance: f64,
+    made: [&mut [f64]; 4],
+) -> Answer {
+    solve(exported::leechgrommet_append_point, times, free, self_energy, lesser_self_energy, shape, tolerance, made)
 }
 
 /// The numbers that the call writes, or the refusal: after 10 they are +0, after another number as they were.
@@ -310,8 +403,8 @@ fn decided(call: impl FnOnce(&mut [u8; 1], &mut [usize; 3], &mut [f64; 1]) -> u8
 
 #[cfg(test)]
 mod tests {
-    use super::{causal_volterra_convolution, check_retarded_support, particle_number};
-    use super::{retarded_dyson_with_tolerance, transient_run, Answer};
+    use super::{append_point, causal_volterra_convolution, check_retarded_support, particle_number};
+    use super::{retarded_dyson_with_tolerance, transient_run, Answer, Shape};
 
     const ACCEPTED: Answer = Answer::ACCEPTED;
 
@@ -358,20 +451,41 @@ mod tests {
 
     #[test]
     fn transient() {
-        let (times, step) = ([0.0, 1.0], [1.0, 0.0, 0.0, 0.0, 1.0, 0.0, 1.0, 0.0]);
-        let (mut retarded, mut lesser, mut kernel, mut lesser_advanced) = ([5.0; 8], [6.0; 8], [7.0; 8], [8.0; 8]);
+        let (times, step, shape) = ([0.0, 1.0], [1.0, 0.0, 0.0, 0.0, 1.0, 0.0, 1.0, 0.0], Shape::of(2, 1));
+        let mut made = [[5.0; 8], [6.0; 8], [7.0; 8], [8.0; 8]];
         let mut run = |lesser_self_energy: &[f64]| {
-            transient_run(&times, &step, &step, lesser_self_energy, 2, 1, 0.5, &mut retarded, &mut lesser, &mut kernel, &mut lesser_advanced)
+            transient_run(&times, &step, &step, lesser_self_energy, shape, 0.5, made.each_mut().map(|xs| &mut xs[..]))
         };
         let mut lesser_self_energy = [0.0, 1.0, 0.0, 1.0, 0.0, 1.0, 0.0, f64::NAN];
         assert_eq!(run(&lesser_self_energy), Answer { number: 7, operand: 2, first: 7, ..ACCEPTED });
         lesser_self_energy[7] = 1.0;
         assert_eq!(run(&lesser_self_energy), ACCEPTED);
+        let [retarded, lesser, kernel, lesser_advanced] = made;
         assert_eq!(kernel, [0.0, 0.0, 0.0, 0.0, 1.0, 0.0, 0.0, 0.0]);
         assert_eq!(retarded, [1.0, 0.0, 0.0, 0.0, 1.5, 0.0, 1.0, 0.0]);
         // X(t,1) = 1/2·i·3/2 + 1/2·i·1, and G^<(1,1) = 1/2·3/2·X(0,1) + 1/2·1·X(1,1).
         assert_eq!(lesser_advanced, [0.0, 0.0, 0.0, 1.25, 0.0, 0.0, 0.0, 1.25]);
         assert_eq!(lesser, [0.0, 0.0, 0.0, 0.0, 0.0, 0.0, 0.0, 1.5625]);
-        assert_eq!(particle_number(&lesser, 2, 1, 1, 0.5), Ok(1.5625));
+        assert_eq!(particle_number(&lesser, shape, 1, 0.5), Ok(1.5625));
+    }
+
+    /// P12's run to two points in a capacity of three, then its third; room beyond the points stays.
+    #[test]
+    fn appended() {
+        let (times, shape) = ([0.0, 1.0, 2.0], Shape { points: 2, capacity: 3, orbitals: 1 });
+        let step: [f64; 18] = std::array::from_fn(|at| f64::from(u8::from(at % 2 == 0 && at / 2 % 3 <= at / 6)));
+        let lesser_self_energy: [f64; 18] = std::array::from_fn(|at| (at % 2) as f64);
+        let mut made = [[5.0; 18]; 4];
+        let mut call = |append: bool| {
+            let made = made.each_mut().map(|xs| &mut xs[..]);
+            let solve = if append { append_point } else { transient_run };
+            solve(&times, &step, &step, &lesser_self_energy, shape, 0.5, made)
+        };
+        assert_eq!(call(false), ACCEPTED);
+        assert_eq!(call(true), ACCEPTED);
+        let full = Shape { points: 3, ..shape };
+        let numbers = [0, 1, 2].map(|time| particle_number(&made[1], full, time, 0.5));
+        assert_eq!(numbers, [Ok(0.0), Ok(1.5625), Ok(14.0625)]);
+        assert_eq!(particle_number(&made[1], Shape { points: 4, ..shape }, 0, 0.5), Err(Answer { number: 16, ..ACCEPTED }));
     }
 }

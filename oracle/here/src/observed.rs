@@ -1,6 +1,6 @@
 //! The observables.
 use crate::blocks::{filled, Block};
-use crate::{measured, Answer};
+use crate::{measured, Answer, Shape};
 
 mod exported {
     #[link(name = "leechgrommet", kind = "static")]
@@ -9,6 +9,7 @@ mod exported {
             lesser: *const f64,
             lesser_len: usize,
             points: usize,
+            capacity: usize,
             orbitals: usize,
             time: usize,
             tolerance: f64,
@@ -24,6 +25,7 @@ mod exported {
             lesser: *const f64,
             lesser_len: usize,
             points: usize,
+            capacity: usize,
             orbitals: usize,
             time: usize,
             a: usize,
@@ -43,6 +45,7 @@ mod exported {
             lesser: *const f64,
             lesser_len: usize,
             points: usize,
+            capacity: usize,
             orbitals: usize,
             time: usize,
             shape: *mut usize,
@@ -59,6 +62,7 @@ mod exported {
             lesser: *const f64,
             lesser_len: usize,
             points: usize,
+            capacity: usize,
             orbitals: usize,
             time: usize,
             rows: usize,
@@ -81,18 +85,17 @@ fn observe(call: impl FnOnce(&mut [f64; 1], &mut [usize; 3], &mut [f64; 1]) -> u
 }
 
 /// The density matrix at a time.
-pub fn density_matrix(lesser: &[f64], points: usize, orbitals: usize, time: usize, out: &mut Block) -> Answer {
-    filled(out, |shape, out, places, part| density_matrix_written(lesser, points, orbitals, time, shape, out, places, part))
+pub fn density_matrix(lesser: &[f64], shape: Shape, time: usize, out: &mut Block) -> Answer {
+    filled(out, |sides, out, places, part| density_matrix_written(lesser, shape, time, sides, out, places, part))
 }
 
 /// The same with slices of any lengths for what is written.
 #[allow(clippy::too_many_arguments)]
 pub fn density_matrix_written(
     lesser: &[f64],
-    points: usize,
-    orbitals: usize,
+    shape: Shape,
     time: usize,
-    shape: &mut [usize],
+    sides: &mut [usize],
     out: &mut [f64],
     places: &mut [usize],
     part: &mut [f64],
@@ -101,11 +104,12 @@ pub fn density_matrix_written(
         exported::leechgrommet_density_matrix(
             lesser.as_ptr(),
             lesser.len(),
-            points,
-            orbitals,
+            shape.points,
+            shape.capacity,
+            shape.orbitals,
             time,
-            shape.as_mut_ptr(),
-            shape.len(),
+            sides.as_mut_ptr(),
+            sides.len(),
             out.as_mut_ptr(),
             out.len(),
             places.as_mut_ptr(),
@@ -116,16 +120,15 @@ pub fn density_matrix_written(
     }
 }
 
-pub fn particle_number(lesser: &[f64], points: usize, orbitals: usize, time: usize, tolerance: f64) -> Result<f64, Answer> {
-    observe(|value, places, part| particle_number_written(lesser, points, orbitals, time, tolerance, value, places, part))
+pub fn particle_number(lesser: &[f64], shape: Shape, time: usize, tolerance: f64) -> Result<f64, Answer> {
+    observe(|value, places, part| particle_number_written(lesser, shape, time, tolerance, value, places, part))
 }
 
 /// The same with slices of any lengths for what is written.
 #[allow(clippy::too_many_arguments)]
 pub fn particle_number_written(
     lesser: &[f64],
-    points: usize,
-    orbitals: usize,
+    shape: Shape,
     time: usize,
     tolerance: f64,
     value: &mut [f64],
@@ -136,8 +139,9 @@ pub fn particle_number_written(
         exported::leechgrommet_particle_number(
             lesser.as_ptr(),
             lesser.len(),
-            points,
-            orbitals,
+            shape.points,
+            shape.capacity,
+            shape.orbitals,
             time,
             tolerance,
             value.as_mut_ptr(),
@@ -151,20 +155,14 @@ pub fn particle_number_written(
 }
 
 /// The expectation of a one-body matrix.
-pub fn one_body_expectation(
-    lesser: &[f64],
-    points: usize,
-    orbitals: usize,
-    time: usize,
-    observable: &Block,
-    tolerance: f64,
-) -> Result<f64, Answer> {
+pub fn one_body_expectation(lesser: &[f64], shape: Shape, time: usize, observable: &Block, tolerance: f64) -> Result<f64, Answer> {
     observe(|value, places, part| unsafe {
         exported::leechgrommet_one_body_expectation(
             lesser.as_ptr(),
             lesser.len(),
-            points,
-            orbitals,
+            shape.points,
+            shape.capacity,
+            shape.orbitals,
             time,
             observable.rows,
             observable.columns,
@@ -184,8 +182,7 @@ pub fn one_body_expectation(
 #[allow(clippy::too_many_arguments)]
 pub fn bond_flow_into(
     lesser: &[f64],
-    points: usize,
-    orbitals: usize,
+    shape: Shape,
     time: usize,
     a: usize,
     b: usize,
@@ -196,8 +193,9 @@ pub fn bond_flow_into(
         exported::leechgrommet_bond_flow_into(
             lesser.as_ptr(),
             lesser.len(),
-            points,
-            orbitals,
+            shape.points,
+            shape.capacity,
+            shape.orbitals,
             time,
             a,
             b,
@@ -217,46 +215,47 @@ pub fn bond_flow_into(
 #[cfg(test)]
 mod tests {
     use super::{bond_flow_into, density_matrix, one_body_expectation, particle_number};
-    use crate::{Answer, Block};
+    use crate::{Answer, Block, Shape};
 
     const ACCEPTED: Answer = Answer::ACCEPTED;
+    const ONE: Shape = Shape { points: 2, capacity: 2, orbitals: 1 };
 
     #[test]
     fn observables() {
         let lesser = [0.0, 1.0, 0.0, 0.0, 0.0, 0.0, 2.0, 3.0];
-        assert_eq!(particle_number(&lesser, 2, 1, 0, 0.5), Ok(1.0));
-        assert_eq!(particle_number(&lesser, 2, 1, 1, 0.5), Err(Answer { number: 14, part: -2.0, ..ACCEPTED }));
-        assert_eq!(particle_number(&lesser, 2, 1, 2, 0.5), Err(Answer { number: 11, ..ACCEPTED }));
-        assert_eq!(particle_number(&lesser, 2, 1, 2, 0.0), Err(Answer { number: 8, ..ACCEPTED }));
+        assert_eq!(particle_number(&lesser, ONE, 0, 0.5), Ok(1.0));
+        assert_eq!(particle_number(&lesser, ONE, 1, 0.5), Err(Answer { number: 14, part: -2.0, ..ACCEPTED }));
+        assert_eq!(particle_number(&lesser, ONE, 2, 0.5), Err(Answer { number: 11, ..ACCEPTED }));
+        assert_eq!(particle_number(&lesser, ONE, 2, 0.0), Err(Answer { number: 8, ..ACCEPTED }));
         // The sum of two largest occupations.
         let full: [f64; 32] = std::array::from_fn(|at| if at == 1 || at == 7 { f64::MAX } else { 0.0 });
-        assert_eq!(particle_number(&full, 2, 2, 0, 0.5), Err(Answer { number: 10, ..ACCEPTED }));
+        assert_eq!(particle_number(&full, Shape::of(2, 2), 0, 0.5), Err(Answer { number: 10, ..ACCEPTED }));
         // 2·3·Im(i·(3 − 2i))
-        assert_eq!(bond_flow_into(&lesser, 2, 1, 1, 0, 0, [0.0, 1.0], 3.0), Ok(18.0));
-        assert_eq!(bond_flow_into(&lesser, 2, 1, 1, 0, 1, [0.0, 1.0], 3.0), Err(Answer { number: 12, ..ACCEPTED }));
+        assert_eq!(bond_flow_into(&lesser, ONE, 1, 0, 0, [0.0, 1.0], 3.0), Ok(18.0));
+        assert_eq!(bond_flow_into(&lesser, ONE, 1, 0, 1, [0.0, 1.0], 3.0), Err(Answer { number: 12, ..ACCEPTED }));
     }
 
     #[test]
     fn density() {
         let lesser = [0.0, 1.0, 0.0, 0.0, 0.0, 0.0, 2.0, 3.0];
         let mut out = Block::room();
-        assert_eq!(density_matrix(&lesser, 2, 1, 1, &mut out), ACCEPTED);
+        assert_eq!(density_matrix(&lesser, ONE, 1, &mut out), ACCEPTED);
         assert_eq!(out, Block::of(1, 1, &[3.0, -2.0]));
-        assert_eq!(density_matrix(&lesser, 2, 1, 2, &mut out), Answer { number: 11, ..ACCEPTED });
+        assert_eq!(density_matrix(&lesser, ONE, 2, &mut out), Answer { number: 11, ..ACCEPTED });
         assert_eq!(out, Block::of(0, 0, &[]));
     }
 
     #[test]
     fn expectation() {
         let lesser = [0.0, 1.0, 0.0, 0.0, 0.0, 0.0, 2.0, 3.0];
-        let observe = |time, observable: &Block| one_body_expectation(&lesser, 2, 1, time, observable, 0.5);
+        let observe = |time, observable: &Block| one_body_expectation(&lesser, ONE, time, observable, 0.5);
         assert_eq!(observe(0, &Block::of(1, 1, &[4.0, 0.0])), Ok(4.0));
         // 4·(3 − 2i)
         assert_eq!(observe(1, &Block::of(1, 1, &[4.0, 0.0])), Err(Answer { number: 14, part: -8.0, ..ACCEPTED }));
         assert_eq!(observe(0, &Block::of(1, 2, &[4.0; 4])), Err(Answer { number: 3, ..ACCEPTED }));
         assert_eq!(observe(0, &Block::of(1, 1, &[4.0, f64::NAN])), Err(Answer { number: 7, operand: 1, first: 1, ..ACCEPTED }));
         assert_eq!(observe(1, &Block::of(1, 1, &[f64::MAX, 0.0])), Err(Answer { number: 10, ..ACCEPTED }));
-        let refused = one_body_expectation(&lesser, 2, 1, 1, &Block::of(1, 1, &[f64::MAX, 0.0]), 0.0);
+        let refused = one_body_expectation(&lesser, ONE, 1, &Block::of(1, 1, &[f64::MAX, 0.0]), 0.0);
         assert_eq!(refused, Err(Answer { number: 8, ..ACCEPTED }));
     }
 }

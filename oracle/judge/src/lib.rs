@@ -2,6 +2,7 @@
 //! than one fault: it is refused by the first line, in document 01's order, whose answer is no. The port has the correctly rounded norm in
 //! hypot's place.
 mod blocks;
+mod capacity;
 mod functions;
 mod judged;
 mod lines;
@@ -10,6 +11,8 @@ mod sums;
 
 pub use blocks::{add, adjoint, from_numbers, from_scalar, get, identity, is_hermitian, max_difference, multiply, norm, scale, subtract};
 pub use blocks::{trace, zero, Block};
+pub use capacity::{append_point, transient_run_in_capacity, Held, Shape};
+pub use capacity::{bond_flow_into_in_capacity, density_matrix_in_capacity, one_body_expectation_in_capacity, particle_number_in_capacity};
 pub use functions::{bond_flow_into, density_matrix, one_body_expectation, particle_number};
 pub use functions::{causal_volterra_convolution, checked_interval_weight, consistency_report, full_weights, is_consistent, langreth_product};
 pub use functions::{check_retarded_support, retarded_dyson, retarded_dyson_with_tolerance, time_convolution, transient_run};

@@ -30,6 +30,11 @@ pub fn function(name: &'static str, like: &TwoTimeMatrix, block: impl FnMut(usiz
     })
 }
 
+/// A function whose new row and column are made, and whose other blocks are those of another.
+fn with_new(name: &'static str, new: usize, old: &TwoTimeMatrix, mut block: impl FnMut(usize, usize) -> Result<DenseMatrix>) -> One {
+    function(name, old, |t, u| if t.max(u) == new { block(t, u) } else { Ok(old.get(t, u)?.clone()) })
+}
+
 fn zero(size: usize) -> Result<DenseMatrix> {
     by("zero", kept::zero(size))
 }
@@ -106,6 +111,26 @@ impl Work {
         let advanced = function("G^A", free, |t, u| Ok(retarded.get(u, t)?.adjoint()))?;
         let lesser_advanced = function("X", free, |t, u| self.over(lesser_self_energy, &advanced, [t, u], [0, u]))?;
         let lesser = function("G^<", free, |t, u| self.over(&retarded, &lesser_advanced, [t, u], [0, t]))?;
+        Ok([retarded, lesser, kernel, lesser_advanced])
+    }
+
+    /// The same four, of which the row and the column of one point are made. Old blocks of G^R and X are those that are given; those of K and G^<, which
+    /// are not read, are any.
+    pub fn append_point(
+        &self,
+        new: usize,
+        [free, self_energy, lesser_self_energy]: &[TwoTimeMatrix; 3],
+        [old_retarded, old_lesser_advanced]: &[TwoTimeMatrix; 2],
+    ) -> Made<4> {
+        let kernel = with_new("K", new, free, |t, u| self.over(free, self_energy, [t, u], [u, t]))?;
+        let retarded = with_new("G", new, old_retarded, |t, u| {
+            let start = if t < u { zero(free.orbitals())? } else { free.get(t, u)?.clone() };
+            let weight = |s| kept::interval_weight(&self.grid, s, u, t);
+            (u..t).try_fold(start, |total, s| plus_term(&total, kernel.get(t, s)?, old_retarded.get(s, u)?, weight(s)))
+        })?;
+        let advanced = function("G^A", free, |t, u| Ok(retarded.get(u, t)?.adjoint()))?;
+        let lesser_advanced = with_new("X", new, old_lesser_advanced, |t, u| self.over(lesser_self_energy, &advanced, [t, u], [0, u]))?;
+        let lesser = with_new("G^<", new, free, |t, u| self.over(&retarded, &lesser_advanced, [t, u], [0, t]))?;
         Ok([retarded, lesser, kernel, lesser_advanced])
     }
 

@@ -1,7 +1,7 @@
 //! One call of the list: its inputs in the list's order, and the judge's answer.
 use crate::inputs::Inputs;
-use crate::text::{accepted, answered, block, decided, filled, number, numbers, observed};
-use judge::{Answer, Block, Judged, Slices};
+use crate::text::{accepted, answered, block, decided, filled, held, number, numbers, observed};
+use judge::{Answer, Block, Held, Judged, Shape, Slices};
 
 /// The answer to the function of this number.
 pub fn answer(function: u64, x: &mut Inputs) -> String {
@@ -42,6 +42,12 @@ pub fn answer(function: u64, x: &mut Inputs) -> String {
         33 => half_step(x),
         34 => full_weight(x),
         35 => interval_weight(x),
+        36 => solved(x, judge::transient_run_in_capacity),
+        37 => solved(x, judge::append_point),
+        38 => density_matrix_in_capacity(x),
+        39 => particle_number_in_capacity(x),
+        40 => one_body_expectation_in_capacity(x),
+        41 => bond_flow_into_in_capacity(x),
         function => panic!("no function {function}"),
     }
 }
@@ -160,4 +166,39 @@ fn full_weight(x: &mut Inputs) -> String {
 fn interval_weight(x: &mut Inputs) -> String {
     let (point, start, end) = (x.place(), x.place(), x.place());
     number(judge::interval_weight(&x.times, point, start, end))
+}
+
+/// The points and orbitals of a call, in the capacity of the next word.
+fn shape(x: &mut Inputs) -> Shape {
+    Shape { points: x.points, capacity: x.place(), orbitals: x.orbitals }
+}
+
+type Solve = fn(Shape, &[f64], [&[f64]; 3], f64, [&[f64]; 4]) -> Held;
+
+/// The operands, then what the four slices hold before.
+fn solved(x: &mut Inputs, judged: Solve) -> String {
+    let (shape, [free, self_energy, lesser_self_energy, retarded, lesser, kernel, lesser_advanced]) = (shape(x), x.operands());
+    let before = [retarded, lesser, kernel, lesser_advanced];
+    held(judged(shape, &x.times, [free, self_energy, lesser_self_energy], x.tolerance, before))
+}
+
+fn density_matrix_in_capacity(x: &mut Inputs) -> String {
+    let (shape, time, [lesser]) = (shape(x), x.place(), x.operands());
+    block(judge::density_matrix_in_capacity(shape, lesser, time))
+}
+
+fn particle_number_in_capacity(x: &mut Inputs) -> String {
+    let (shape, time, [lesser]) = (shape(x), x.place(), x.operands());
+    observed(judge::particle_number_in_capacity(shape, lesser, time, x.tolerance).agreed())
+}
+
+fn one_body_expectation_in_capacity(x: &mut Inputs) -> String {
+    let (shape, time, observable, [lesser]) = (shape(x), x.place(), x.block(1), x.operands());
+    observed(judge::one_body_expectation_in_capacity(shape, lesser, time, &observable, x.tolerance).agreed())
+}
+
+fn bond_flow_into_in_capacity(x: &mut Inputs) -> String {
+    let (shape, time, bond, hopping, charge) = (shape(x), x.place(), [x.place(), x.place()], x.numbers(), x.number());
+    let [lesser] = x.operands();
+    observed(judge::bond_flow_into_in_capacity(shape, lesser, time, bond, hopping, charge))
 }

@@ -1,5 +1,5 @@
 //! Answers as the list's text has them.
-use judge::{Answer, Block, Judged, Refused, Slices};
+use judge::{Answer, Block, Held, Judged, Refused, Slices};
 use shared::Xorshift;
 
 pub fn number(x: f64) -> String {
@@ -73,4 +73,10 @@ pub fn filled<const COUNT: usize>(judged: impl Into<Judged<Slices<COUNT>>>, held
     let told = if by_digest { digest } else { numbers };
     let slices = holds.iter().map(|xs| told(xs)).filter(|text| !text.is_empty());
     slices.fold(verdict, |text, slice| text + " " + &slice)
+}
+
+/// The verdict of a run or an append in a capacity, and what its four slices hold.
+pub fn held(x: Held) -> String {
+    let verdict = accepted(x.judged.agreed());
+    x.slices.iter().map(|xs| numbers(xs)).filter(|text| !text.is_empty()).fold(verdict, |text, slice| text + " " + &slice)
 }

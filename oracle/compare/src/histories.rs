@@ -1,0 +1,153 @@
+//! Histories: a run in a capacity, then appends, each told the points that the call before left. After each the four slices are those of the port's own
+//! run over all points, in bits, and what stood beyond the points stands there still. Then the observables, asked in the capacity.
+use crate::calls;
+use crate::inputs::{wrapped, Call};
+use crate::laid::Laid;
+use crate::one_point;
+use crate::sides::Outcome;
+use crate::source::Source;
+use crate::stages::{grown, STEPS};
+use crate::Job;
+use judge::{Refused, Shape, Slices};
+
+const PART: &str = "histories";
+const LONG_PART: &str = "long histories";
+const FUNCTION: &str = "append_point";
+
+const OBSERVABLES: [fn(&Laid) -> Outcome; 4] =
+    [Laid::density_matrix, Laid::particle_number, Laid::one_body_expectation, Laid::bond_flow_into];
+
+/// What a history is made of: its inputs over all points, the points of its run, the capacity.
+struct Plan {
+    call: Call,
+    first: usize,
+    capacity: usize,
+}
+
+impl Plan {
+    fn shape(&self, points: usize) -> Shape {
+        Shape { points, capacity: self.capacity, orbitals: self.call.orbitals }
+    }
+
+    /// What a call that is told so many points, and reads so many, is lent: other room each time, and slices that hold this.
+    fn lent(&self, source: &mut Source, told: usize, read: usize, before: &Slices<4>) -> Laid {
+        let (times, operands) = source.lent(&self.call, self.shape(read));
+        Laid { shape: self.shape(told), times, operands, before: before.clone(), call: self.call.clone() }
+    }
+
+    /// The observables of a lesser function of so many points, at a time that may be past them.
+    fn observed(&self, source: &mut Source, points: usize, lesser: &[f64]) -> Outcome {
+        let call = Call { time: source.below(points + 1), ..self.call.clone() };
+        let laid = Laid { shape: self.shape(points), times: vec![], operands: vec![lesser.to_vec()], before: Default::default(), call };
+        OBSERVABLES.iter().fold(Outcome::of(Refused::by(0), 0, 0), |all, observe| all.and(&observe(&laid)))
+    }
+
+    /// Up to the first call that is refused. The tolerance of each call is its own.
+    fn compared(mut self, source: &mut Source) -> Outcome {
+        let before = [(); 4].map(|()| source.room(wrapped(self.capacity, self.call.orbitals)));
+        let (mut all, mut slices) = self.lent(source, self.first, self.first, &before).run();
+        let (ran, mut points, mut left) = (all.number == 0, self.first, slices.clone());
+        while all.number == 0 && points < self.call.points {
+            self.call.tolerance = source.tolerance();
+            let laid = self.lent(source, points, points + 1, &slices);
+            let (appended, made, _) = laid.append();
+            let whole = laid.whole(&appended, &made, &before);
+            let listed = whole.listed.or(all.listed);
+            all = Outcome { listed, ..appended.and(&whole).and(&all) };
+            slices = made;
+            if all.number == 0 {
+                (points, left) = (points + 1, slices.clone());
+            }
+        }
+        if !ran {
+            let number = all.number;
+            return all.under(format!("the run refused {number}"));
+        }
+        let appends = ["no append", "one append", "two appends", "three appends or more"][(points - self.first).min(3)];
+        let label = if all.number == 0 { appends.into() } else { format!("refused {} after {appends}", all.number) };
+        all.and(&self.observed(source, points, &left[1])).under(label)
+    }
+
+    /// All the way, compared at the end alone.
+    fn compared_at_the_end(self, source: &mut Source) -> Outcome {
+        let before = [(); 4].map(|()| source.room(wrapped(self.capacity, self.call.orbitals)));
+        let (mut answer, mut slices) = self.lent(source, self.first, self.first, &before).solved(here::transient_run);
+        let mut last = None;
+        for points in self.first..self.call.points {
+            assert_eq!(answer.number, 0, "a history of ordinary numbers");
+            let laid = self.lent(source, points, points + 1, &slices);
+            (answer, slices) = laid.solved(here::append_point);
+            last = Some(laid);
+        }
+        let accepted = Outcome::of(Refused::by(answer.number), 0, 0);
+        let whole = last.expect("an append").whole(&accepted, &slices, &before);
+        let observed = self.observed(source, self.call.points, &slices[1]);
+        whole.and(&observed).under(format!("to {} points of {} orbitals", self.call.points, self.call.orbitals))
+    }
+}
+
+impl Source {
+    /// Inputs of ordinary numbers or of any, of which some grow at late points until an append overflows.
+    fn plan(&mut self) -> Plan {
+        let f = calls::function("transient_run");
+        let mut call = match self.below(8) {
+            0 | 1 => self.small_call(f),
+            2 => one_point::run(self),
+            _ => {
+                let (points, orbitals) = (3 + self.below(10), 1 + self.below(4));
+                let step = self.pick(&[0.1, 1.0, 1.0, 2.0, 5e-324]);
+                let times = self.times_of_step(points, step);
+                self.plain_call(f, (points, orbitals), times)
+            }
+        };
+        let first = if self.one_in(2) { 2 } else { 2 + self.below(call.points - 1) };
+        if self.one_in(3) {
+            self.grow(&mut call, first);
+        }
+        Plan { first, capacity: call.points + self.pick(&[0, 0, 1, 2, 4]), call }
+    }
+
+    /// Makes numbers large in some operands, at places whose larger index is late.
+    fn grow(&mut self, call: &mut Call, first: usize) {
+        let (block, late) = (2 * call.orbitals * call.orbitals, first + self.below(call.points - first + 1));
+        let points = call.points;
+        for xs in &mut call.operands {
+            if self.one_in(2) {
+                continue;
+            }
+            let exponent = STEPS * self.pick(&[100, 300, 500, 520, 700, 1000, 1020]);
+            for (place, xs) in xs.chunks_mut(block).enumerate() {
+                if (place / points).max(place % points) >= late {
+                    let large = grown(xs, exponent);
+                    xs.copy_from_slice(&large);
+                }
+            }
+        }
+    }
+}
+
+pub fn jobs(calls: u64, seed: u64) -> Vec<Job> {
+    let call = move |index| {
+        let source = &mut Source::of(seed, [PART, FUNCTION], index);
+        source.plan().compared(source)
+    };
+    vec![Job::of(PART, FUNCTION, calls, call)]
+}
+
+/// From two points up to each size of the benchmark.
+const LONG: [(usize, usize); 5] = [(256, 1), (128, 2), (64, 4), (32, 8), (16, 16)];
+
+pub fn long(seed: u64) -> Vec<Job> {
+    let call = move |index| {
+        let source = &mut Source::of(seed, [LONG_PART, FUNCTION], index);
+        let (points, orbitals) = LONG[index as usize];
+        let times = source.times_of_step(points, 0.1);
+        let mut call = source.plain_call(calls::function("transient_run"), (points, orbitals), times);
+        call.tolerance = 1e-12;
+        // Larger numbers overflow on so many points.
+        call.operands.iter_mut().for_each(|xs| xs.iter_mut().for_each(|x| *x /= (points * orbitals) as f64));
+        let capacity = if points < 256 { points + 3 } else { points };
+        Plan { call, first: 2, capacity }.compared_at_the_end(source)
+    };
+    vec![Job::of(LONG_PART, FUNCTION, LONG.len() as u64, call)]
+}

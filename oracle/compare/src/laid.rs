@@ -1,0 +1,129 @@
+//! What a call is lent in slices laid out for a capacity of points. What stands beyond the points is room: numbers of any kind, which no call asks, and
+//! which stay.
+use crate::inputs::{wrapped, Call};
+use crate::sides::{block_outcome, held, judged, ours, outcome, Outcome};
+use crate::source::Source;
+use judge::{Held, Shape, Slices};
+
+#[derive(Clone)]
+pub struct Laid {
+    pub shape: Shape,
+    pub times: Vec<f64>,
+    pub operands: Vec<Vec<f64>>,
+    /// What the slices for G^R, G^<, K and X hold before.
+    pub before: Slices<4>,
+    /// What the call takes besides.
+    pub call: Call,
+}
+
+impl Source {
+    /// Numbers for room: of one kind, or a NaN with other bits each time.
+    pub fn room(&mut self, count: usize) -> Vec<f64> {
+        match self.below(6) {
+            0 => (0..count).map(|at| f64::from_bits(0x7ff8_0000_0000_0000 | at as u64)).collect(),
+            1 => [f64::INFINITY, -0.0, f64::NAN, -1.25, f64::NEG_INFINITY].into_iter().cycle().take(count).collect(),
+            2 => vec![f64::INFINITY; count],
+            3 => vec![f64::MAX; count],
+            4 => vec![0.0; count],
+            _ => {
+                let palette = self.palette();
+                self.numbers(count, palette)
+            }
+        }
+    }
+
+    /// A function of so many points laid out for a capacity: its entries up to some points, and room.
+    fn laid_out(&mut self, xs: &[f64], points: usize, shape: Shape) -> Vec<f64> {
+        let block = 2 * shape.orbitals * shape.orbitals;
+        let mut laid = self.room(wrapped(shape.capacity, shape.orbitals));
+        for t in 0..shape.points {
+            let row = &xs[t * points * block..][..shape.points * block];
+            laid[t * shape.capacity * block..][..row.len()].copy_from_slice(row);
+        }
+        laid
+    }
+
+    /// The times and operands of a call, as a call of some of its points is lent them.
+    pub fn lent(&mut self, call: &Call, shape: Shape) -> (Vec<f64>, Vec<Vec<f64>>) {
+        let operands = call.operands.iter().map(|xs| self.laid_out(xs, call.points, shape)).collect();
+        let times = call.times.iter().copied().take(shape.points).chain(self.room(shape.capacity - shape.points)).collect();
+        (times, operands)
+    }
+}
+
+fn ours_of(shape: Shape) -> here::Shape {
+    here::Shape { points: shape.points, capacity: shape.capacity, orbitals: shape.orbitals }
+}
+
+pub type Ours = fn(&[f64], &[f64], &[f64], &[f64], here::Shape, f64, [&mut [f64]; 4]) -> here::Answer;
+type Theirs = fn(Shape, &[f64], [&[f64]; 3], f64, [&[f64]; 4]) -> Held;
+
+impl Laid {
+    fn operands<const COUNT: usize>(&self) -> [&[f64]; COUNT] {
+        std::array::from_fn(|operand| &self.operands[operand][..])
+    }
+
+    /// The answer of a call here, and what its slices hold afterwards.
+    pub fn solved(&self, solve: Ours) -> (here::Answer, Slices<4>) {
+        let ([free, self_energy, lesser_self_energy], mut made) = (self.operands(), self.before.clone());
+        let out = made.each_mut().map(|xs| &mut xs[..]);
+        (solve(&self.times, free, self_energy, lesser_self_energy, ours_of(self.shape), self.call.tolerance, out), made)
+    }
+
+    /// The same of the judge, begun on these slices.
+    fn judged(&self, solve: Theirs, before: &Slices<4>) -> Held {
+        solve(self.shape, &self.times, self.operands(), self.call.tolerance, before.each_ref().map(|xs| &xs[..]))
+    }
+
+    pub fn run(&self) -> (Outcome, Slices<4>) {
+        let (answer, made) = self.solved(here::transient_run);
+        (held(answer, &made, &self.judged(judge::transient_run_in_capacity, &self.before)), made)
+    }
+
+    /// An append beside the port's operations on blocks, and where its work stops.
+    pub fn append(&self) -> (Outcome, Slices<4>, Option<judge::stages::Stage>) {
+        let (answer, made) = self.solved(here::append_point);
+        let theirs = self.judged(judge::append_point, &self.before);
+        (held(answer, &made, &theirs), made, theirs.stage)
+    }
+
+    /// The slices of an append beside the port's run over all points, begun on what stood before the first call of the history. Of a refused append the
+    /// answer alone is compared.
+    pub fn whole(&self, appended: &Outcome, made: &Slices<4>, before: &Slices<4>) -> Outcome {
+        let shape = Shape { points: self.shape.points + 1, ..self.shape };
+        let theirs = Self { shape, ..self.clone() }.judged(judge::transient_run_in_capacity, before);
+        let number = theirs.judged.answer.map_or_else(|refused| refused.number, |()| 0);
+        let (listed, agrees) = (theirs.judged.listed, theirs.judged.agrees);
+        let (ours, run) = (made.iter().flatten(), theirs.slices.iter().flatten());
+        let unequal = if number == 0 { ours.zip(run).filter(|(x, y)| x.to_bits() != y.to_bits()).count() } else { 0 };
+        let compared = if number == 0 { made.iter().flatten().count() } else { 1 };
+        let differs = usize::from(number != appended.number) + usize::from(!agrees);
+        Outcome { listed, ..Outcome::of(judge::Refused::by(number), compared, unequal + differs) }
+    }
+
+    pub fn density_matrix(&self) -> Outcome {
+        let ([lesser], time) = (self.operands(), self.call.time);
+        let ours = |out: &mut here::Block| here::density_matrix(lesser, ours_of(self.shape), time, out);
+        block_outcome(ours, judge::density_matrix_in_capacity(self.shape, lesser, time))
+    }
+
+    pub fn particle_number(&self) -> Outcome {
+        let ([lesser], time, tolerance) = (self.operands(), self.call.time, self.call.tolerance);
+        let ours = here::particle_number(lesser, ours_of(self.shape), time, tolerance);
+        judged(ours, judge::particle_number_in_capacity(self.shape, lesser, time, tolerance), |x| vec![x])
+    }
+
+    pub fn one_body_expectation(&self) -> Outcome {
+        let ([lesser], time, tolerance, observable) = (self.operands(), self.call.time, self.call.tolerance, self.call.observable.lent());
+        let here = here::one_body_expectation(lesser, ours_of(self.shape), time, &ours(&observable), tolerance);
+        judged(here, judge::one_body_expectation_in_capacity(self.shape, lesser, time, &observable, tolerance), |x| vec![x])
+    }
+
+    pub fn bond_flow_into(&self) -> Outcome {
+        let ([lesser], call) = (self.operands(), &self.call);
+        let [a, b] = call.bond;
+        let ours = here::bond_flow_into(lesser, ours_of(self.shape), call.time, a, b, call.hopping, call.charge);
+        let theirs = judge::bond_flow_into_in_capacity(self.shape, lesser, call.time, call.bond, call.hopping, call.charge);
+        outcome(ours, theirs, |x| vec![x])
+    }
+}

@@ -1,0 +1,181 @@
+//! Calls on slices laid out for a capacity of points (document 02, L1). Over the points' entries the answers are the port's. It has no append: the new row
+//! and column are made by its operations on blocks, of what the slices hold at old places.
+use crate::functions;
+use crate::lines::{functions_of_times, lengths, refusal, require};
+use crate::sums::{OnePoint, Stage, Work};
+use crate::{Answer, Block, Judged, Refused, Slices};
+use keldysh_green::kept;
+use shared::{function, numbers};
+
+/// So many points and orbitals, in slices laid out for a capacity of points: row t begins at t·capacity blocks.
+#[derive(Debug, Clone, Copy, PartialEq)]
+pub struct Shape {
+    pub points: usize,
+    pub capacity: usize,
+    pub orbitals: usize,
+}
+
+impl Shape {
+    fn block(&self) -> usize {
+        2 * self.orbitals * self.orbitals
+    }
+
+    /// Where the block of a place begins.
+    fn begin(&self, t: usize, u: usize) -> usize {
+        (t * self.capacity + u) * self.block()
+    }
+
+    fn places(&self) -> impl Iterator<Item = (usize, usize)> {
+        let points = self.points;
+        (0..points * points).map(move |place| (place / points, place % points))
+    }
+
+    /// The points' entries, laid out for the points; those of other places are +0.
+    fn entries(&self, xs: &[f64], at: impl Fn(usize, usize) -> bool) -> Vec<f64> {
+        let block = self.block();
+        self.places().flat_map(|(t, u)| if at(t, u) { xs[self.begin(t, u)..][..block].to_vec() } else { vec![0.0; block] }).collect()
+    }
+
+    fn within(&self, xs: &[f64]) -> Vec<f64> {
+        self.entries(xs, |_, _| true)
+    }
+
+    /// A lent slice in which some places have the blocks of a function of the points.
+    fn written(&self, before: &[f64], made: &[f64], at: impl Fn(usize, usize) -> bool) -> Vec<f64> {
+        let mut xs = before.to_vec();
+        for ((t, u), block) in self.places().zip(made.chunks(self.block())).filter(|((t, u), _)| at(*t, *u)) {
+            xs[self.begin(t, u)..][..block.len()].copy_from_slice(block);
+        }
+        xs
+    }
+
+    /// A refusal whose position is counted among the points' entries of an operand that is lent, with its position there.
+    fn lent(&self, operands: usize, refused: Refused) -> Refused {
+        if refused.number != 7 || refused.operand >= operands {
+            return refused;
+        }
+        let (row, column) = (refused.first / (self.points * self.block()), refused.first % (self.points * self.block()));
+        Refused { first: self.begin(row, 0) + column, ..refused }
+    }
+
+    /// Lines 1, 2, 3 and 16: `sides` are those of a block that is lent too.
+    fn lines(&self, times: Option<&[f64]>, operands: &[&[f64]], lent: &[usize], sides: &[usize]) -> Answer<()> {
+        require(self.points >= 2 && self.orbitals >= 1 && sides.iter().all(|&n| n >= 1), 1)?;
+        require(self.capacity <= 256 && self.orbitals <= 16 && sides.iter().all(|&n| n <= 16), 2)?;
+        lengths(self.capacity, self.orbitals, operands, lent)?;
+        require(times.is_none_or(|times| times.len() == self.capacity) && sides.iter().all(|&n| n == self.orbitals), 3)?;
+        require(self.points <= self.capacity, 16)
+    }
+}
+
+/// The answer to a run or an append, where an append's 10 is met, and what the four slices hold afterwards: G^R, G^<, K, X.
+pub struct Held {
+    pub judged: Judged<()>,
+    pub stage: Option<Stage>,
+    pub slices: Slices<4>,
+}
+
+impl Held {
+    fn of(judged: Judged<Slices<4>>, before: [&[f64]; 4], stage: Option<Stage>, after_10: impl Fn(&[f64]) -> Vec<f64>) -> Self {
+        let Judged { answer, listed, agrees } = judged;
+        let slices = match &answer {
+            Ok(slices) => slices.clone(),
+            Err(Refused { number: 10, .. }) => before.map(after_10),
+            Err(_) => before.map(<[f64]>::to_vec),
+        };
+        Self { judged: Judged { answer: answer.map(|_| ()), listed, agrees }, stage, slices }
+    }
+}
+
+/// The port's run over the points; room stays, but for 10, after which all is +0. Operands: free propagator, retarded self-energy, Σ^<.
+pub fn transient_run_in_capacity(shape: Shape, times: &[f64], operands: [&[f64]; 3], tolerance: f64, before: [&[f64]; 4]) -> Held {
+    let judged = match shape.lines(Some(times), &operands, &before.map(<[f64]>::len), &[]) {
+        Ok(()) => {
+            let entries = operands.map(|xs| shape.within(xs));
+            let lent = [entries[0].len(); 4];
+            let operands = entries.each_ref().map(|xs| &xs[..]);
+            functions::transient_run(shape.points, shape.orbitals, &times[..shape.points], operands, tolerance, lent)
+        }
+        Err(refused) => Err(refused).into(),
+    };
+    let laid = |made: Slices<4>| std::array::from_fn(|at| shape.written(before[at], &made[at], |_, _| true));
+    let judged =
+        Judged { answer: judged.answer.map(laid).map_err(|refused| shape.lent(3, refused)), listed: judged.listed, agrees: judged.agrees };
+    Held::of(judged, before, None, |xs| vec![0.0; xs.len()])
+}
+
+/// The new row and column, or where they are not finite: an old entry of X, or of G^R on or below its diagonal, that is not finite is read.
+fn appended(shape: Shape, times: &[f64], operands: [&[f64]; 3], tolerance: f64, before: [&[f64]; 4]) -> Answer<Result<Slices<4>, Stage>> {
+    shape.lines(Some(times), &operands, &before.map(<[f64]>::len), &[])?;
+    let (points, orbitals, new) = (shape.points, shape.orbitals, shape.points - 1);
+    let entries = operands.map(|xs| shape.within(xs));
+    let operands = entries.each_ref().map(|xs| &xs[..]);
+    let (grid, operands) =
+        functions_of_times(points, orbitals, &times[..points], operands, &[]).map_err(|refused| shape.lent(3, refused))?;
+    for (operand, xs) in operands[..2].iter().enumerate() {
+        kept::check_retarded_support(xs, tolerance).map_err(|error| Refused { operand, ..refusal(error) })?;
+    }
+    let old = |xs: &[f64], at: fn(usize, usize) -> bool| {
+        let xs = shape.entries(xs, |t, u| t.max(u) < new && at(t, u));
+        function(points, orbitals, &xs).map_err(|_| ["an old entry", "not finite"])
+    };
+    let sums = || {
+        let read = [old(before[0], |t, u| t >= u)?, old(before[3], |_, _| true)?];
+        let made = Work { grid, one_point: OnePoint::LeftOut }.append_point(new, &operands, &read)?;
+        Ok(std::array::from_fn(|at| shape.written(before[at], &numbers(&made[at]), |t, u| t.max(u) == new)))
+    };
+    Ok(sums())
+}
+
+/// The append to the points that the shape tells. After 10 its new row and column are +0.
+pub fn append_point(shape: Shape, times: &[f64], operands: [&[f64]; 3], tolerance: f64, before: [&[f64]; 4]) -> Held {
+    let new = shape.points;
+    // The largest count and one more is above every capacity.
+    let shape = Shape { points: new.saturating_add(1), ..shape };
+    let (answer, stage) = match appended(shape, times, operands, tolerance, before) {
+        Ok(Ok(slices)) => (Ok(slices), None),
+        Ok(Err(stage)) => (Err(Refused::by(10)), Some(stage)),
+        Err(refused) => (Err(refused), None),
+    };
+    Held::of(answer.into(), before, stage, |xs| {
+        let none = vec![0.0; shape.points * shape.points * shape.block()];
+        shape.written(xs, &none, |t, u| t.max(u) == new)
+    })
+}
+
+/// A question to the points' entries of a lesser function.
+fn of_points<T>(shape: Shape, lesser: &[f64], sides: &[usize], ask: impl FnOnce(&[f64]) -> Judged<T>) -> Judged<T> {
+    match shape.lines(None, &[lesser], &[], sides) {
+        Ok(()) => {
+            let judged = ask(&shape.within(lesser));
+            Judged { answer: judged.answer.map_err(|refused| shape.lent(1, refused)), ..judged }
+        }
+        Err(refused) => Err(refused).into(),
+    }
+}
+
+pub fn density_matrix_in_capacity(shape: Shape, lesser: &[f64], time: usize) -> Answer<Block> {
+    of_points(shape, lesser, &[], |xs| functions::density_matrix(shape.points, shape.orbitals, xs, time).into()).answer
+}
+
+pub fn particle_number_in_capacity(shape: Shape, lesser: &[f64], time: usize, tolerance: f64) -> Judged<f64> {
+    of_points(shape, lesser, &[], |xs| functions::particle_number(shape.points, shape.orbitals, xs, time, tolerance))
+}
+
+pub fn one_body_expectation_in_capacity(shape: Shape, lesser: &[f64], time: usize, observable: &Block, tolerance: f64) -> Judged<f64> {
+    let sides = [observable.rows, observable.columns];
+    of_points(shape, lesser, &sides, |xs| functions::one_body_expectation(shape.points, shape.orbitals, xs, time, observable, tolerance))
+}
+
+/// The flow into the first of two orbitals from the other, of a hopping by its real and its imaginary part.
+pub fn bond_flow_into_in_capacity(
+    shape: Shape,
+    lesser: &[f64],
+    time: usize,
+    bond: [usize; 2],
+    hopping: [f64; 2],
+    charge: f64,
+) -> Answer<f64> {
+    let ask = |xs: &[f64]| functions::bond_flow_into(shape.points, shape.orbitals, xs, time, bond, hopping, charge).into();
+    of_points(shape, lesser, &[], ask).answer
+}
