@@ -13,10 +13,10 @@ use Rattle.two_time.specs.CapacityChecks.{capacity-passed, capacity-pass}
 use Rattle.dyson.specs.Retarded.{newRetarded}
 use Rattle.transient_run.specs.declared.Solved.the-variants.{Accepted}
 use Rattle.transient_run.specs.Calls.{Run, runOf, Outcome, solved, kernelMade, retardedMade, lesserAdvancedMade, lesserMade, madeFinite, checksOf, verdictOf, worked, transientRun, appendPoint}
-use Rattle.transient_run.specs.Checks.{sizesAsked, slices}
+use Rattle.transient_run.specs.Checks.{accepted, sizesAsked, slices}
 use Rattle.causality.specs.Statement.{SameTo, Demanded}
 use Rattle.causality.specs.Made.{HeldTo, none-held, MadeTo, made-agree, fine-agree, made-fine, fine-made}
-use Rattle.causality.specs.Solvers.{accepted, left-made, sizes}
+use Rattle.causality.specs.Solvers.{left-made, sizes}
 use Rattle.causality.specs.Theorem.{all-finite, demand-3}
 use Rattle.causality.specs.History.{Onto, longer, History}
 use Rattle.causality.specs.History.History.{ran, appended}

@@ -3,7 +3,7 @@
 use Rattle.lists.specs.Prelude.{_≡_, refl, sym, ap, subst, _∙_, true, List, ℕ, _≤_, _<_, arith, Float}
 use Rattle.complex.specs.Arithmetic.{czero, cfinite}
 use Rattle.refusal.specs.declared.Verdict.{Verdict}
-use Rattle.refusal.specs.declared.Verdict.the-variants.{Pass, Refused}
+use Rattle.refusal.specs.declared.Verdict.the-variants.{Pass}
 use Rattle.refusal.specs.Verdict.{zeroed, afterwards}
 use Rattle.refusal.specs.Agreement.{then-pass}
 use Rattle.block.specs.Agreement.{Agree}
@@ -15,17 +15,11 @@ use Rattle.two_time.specs.SizeChecks.{SizesPassed}
 use Rattle.two_time.specs.Lengths.{none-asked, also-asked}
 use Rattle.transient_run.specs.declared.Solved.the-variants.{Accepted}
 use Rattle.transient_run.specs.Calls.{Run, solved, checksOf, verdictOf}
-use Rattle.transient_run.specs.Checks.{slices, checks-passed}
+use Rattle.transient_run.specs.Checks.{accepted, slices, checks-passed}
 use Rattle.causality.specs.Statement.{Solver, of, SameTo, SameRetarded, SameRows, ZeroAbove, Comparable, Demand3}
 use Rattle.causality.specs.Stages.{RowsTo, SquareTo}
 use Rattle.causality.specs.Made.{withOrbitals}
 use Rattle.causality.specs.Observables.{Left, particles-agree, expectations-agree, flows-agree}
-
--- accepted means that every question was answered yes
-pub accepted : (v : Verdict) → solved v ≡ Accepted → v ≡ Pass
-unfolding solved
-accepted Pass e = refl
-accepted (Refused r) e = absurd (let z : _≡_ {A = ℕ} 0 1 = cc in omega arith)
 
 pub left-made : (cleared : List Float → List Float) (v : Verdict) (made before : List Float) → v ≡ Pass → afterwards cleared v made before ≡ made
 unfolding afterwards

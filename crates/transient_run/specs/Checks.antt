@@ -1,24 +1,34 @@
--- The checks of a call as the code makes them, what it says that they pass, and points past every capacity. Assumes nothing.
-use Rattle.lists.specs.Prelude.{_≡_, refl, sym, ap, _∙_, ⊎-elim, Bool, true, List, [], _∷_, ℕ, suc, _+_, _≤_, _<_, min, min-eq-left, min-eq-right, le-trans, le-refl, decLt, arith, add-one, leb, eqb, length, le-leb, Float}
+-- The checks of a call as the code makes them, what it says that they pass, and what an answer says of the verdict. Assumes nothing.
+use Rattle.lists.specs.Prelude.{_≡_, refl, sym, ap, _∙_, true, List, [], _∷_, ℕ, suc, _≤_, arith, eqb, length, Float}
 use Rattle.refusal.specs.declared.Refusal.{Refusal}
 use Rattle.refusal.specs.declared.Verdict.{Verdict}
 use Rattle.refusal.specs.declared.Verdict.the-variants.{Pass, Refused}
-use Rattle.refusal.specs.Verdict.{by, ask, _then_, afterwards}
-use Rattle.refusal.specs.Checks.{largeEnough, withinLimits, fitting, finiteWork, withinCapacity}
-use Rattle.refusal.specs.Agreement.{then-pass, then-agree, then-after, then-refused}
-use Rattle.refusal.specs.Unchanged.{Keeping, then-keeping, keeping-clears}
+use Rattle.refusal.specs.Verdict.{_then_}
+use Rattle.refusal.specs.Agreement.{then-pass, then-after, then-refused}
+use Rattle.refusal.specs.Unchanged.{Keeping, then-keeping}
 use Rattle.grid.specs.Calls.{gridChecks}
 use Rattle.support.specs.Support.{checkInputs}
 use Rattle.two_time.specs.Layout.{readAs}
-use Rattle.two_time.specs.New.{clearedNew}
 use Rattle.two_time.specs.Calls.{capacityChecks, pointOperands, pointChecks}
-use Rattle.two_time.specs.SizeChecks.{SizesPassed, limited}
+use Rattle.two_time.specs.SizeChecks.{SizesPassed}
 use Rattle.two_time.specs.Checks.{times-keeping}
 use Rattle.two_time.specs.Lengths.{lengths, others-asked, none-asked, also-asked}
 use Rattle.two_time.specs.CapacityChecks.{capacity-passed, capacity-pass, capacity-keeping, operands-of-points-keeping, points-asked, points-last, points-more}
 use Rattle.dyson.specs.Calls.{supportChecks}
 use Rattle.dyson.specs.Checks.{support-keeping}
-use Rattle.transient_run.specs.Calls.{Run, Outcome, solved, kernelMade, retardedMade, lesserAdvancedMade, lesserMade, madeFinite, checksOf, verdictOf, worked, appendPoint}
+use Rattle.transient_run.specs.declared.Solved.the-variants.{Accepted, Refused as NotSolved}
+use Rattle.transient_run.specs.Calls.{Run, solved, checksOf}
+
+-- the verdict of a call, by its answer
+pub accepted : (v : Verdict) → solved v ≡ Accepted → v ≡ Pass
+unfolding solved
+accepted Pass e = refl
+accepted (Refused r) e = absurd (let z : _≡_ {A = ℕ} 0 1 = cc in omega arith)
+
+pub refused : (v : Verdict) (x : Refusal) → solved v ≡ NotSolved x → v ≡ Refused x
+unfolding solved
+refused Pass x e = absurd (let z : _≡_ {A = ℕ} 0 1 = cc in omega arith)
+refused (Refused y) x e = let same : y ≡ x = cc in ap Refused same
 
 module _ (points : ℕ) (r : Run) where
   abbrev operands : List (List Float)
@@ -42,7 +52,7 @@ module _ (points : ℕ) (r : Run) where
     unfolding checksOf
     checks-keeping =
         then-keeping (capacity-keeping (r .capacity) points (r .orbitals) _ slices)
-        (then-keeping (times-keeping points (r .orbitals) (r .times)) (then-keeping (operands-of-points-keeping (r .capacity) points (r .orbitals) 0 operands) (support-keeping points (r .orbitals) (r .tolerance) _ _)))
+        (then-keeping (times-keeping _ (r .orbitals) (r .times)) (then-keeping (operands-of-points-keeping (r .capacity) points (r .orbitals) 0 operands) (support-keeping points (r .orbitals) (r .tolerance) _ _)))
 
     pub checks-passed : checksOf old points r ≡ Pass → (2 ≤ points) × (points ≤ r .capacity) × SizesPassed (r .capacity) (r .orbitals) true slices
     unfolding checksOf

@@ -1,26 +1,15 @@
 -- `transient_run::transient_run` meets its contract: from 0 on, and 10 clears all four slices throughout. Assumes nothing.
-use Rattle.lists.specs.Prelude.{_≡_, refl, sym, ap, _∙_, Bool, true, false, cond, List, ℕ, eqb, eq-eqb, ne-eqb, arith, Float, now, needs}
+use Rattle.lists.specs.Prelude.{_≡_, sym, _∙_, true, false, List, eqb, eq-eqb, ne-eqb, Float, now, needs}
 use Rattle.refusal.specs.declared.Refusal.{Refusal}
 use Rattle.refusal.specs.declared.Verdict.{Verdict}
 use Rattle.refusal.specs.declared.Verdict.the-variants.{Pass, Refused}
 use Rattle.refusal.specs.Verdict.{zeroed, afterwards}
 use Rattle.two_time.specs.New.{clearedNew}
 use Rattle.two_time.specs.Checks.{cleared}
-use Rattle.transient_run.specs.declared.Solved.the-variants.{Accepted, Refused as NotSolved}
-use Rattle.transient_run.specs.Calls.{Run, runOf, solved, verdictOf, worked, transientRun}
+use Rattle.transient_run.specs.Calls.{Run, runOf, verdictOf, worked, transientRun}
+use Rattle.transient_run.specs.Checks.{accepted, refused}
 use Rattle.transient_run.proofs.transient_run.Statement.{statement}
 use Rattle.transient_run.proofs.transient_run.Tie as tie
-
--- the verdict, by the answer
-accepted-is : (v : Verdict) → Accepted ≡ solved v → v ≡ Pass
-unfolding solved
-accepted-is Pass e = refl
-accepted-is (Refused x) e = absurd (let z : _≡_ {A = ℕ} 0 1 = cc in omega arith)
-
-refused-is : (v : Verdict) (x : Refusal) → NotSolved x ≡ solved v → v ≡ Refused x
-unfolding solved
-refused-is Pass x e = absurd (let z : _≡_ {A = ℕ} 0 1 = cc in omega arith)
-refused-is (Refused y) x e = let same : y ≡ x = cc in ap Refused same
 
 -- what a slice holds by a verdict that is known
 module _ (clear : List Float → List Float) (v : Verdict) (made before : List Float) {after : List Float} (left : after ≡ afterwards clear v made before) where
@@ -60,7 +49,7 @@ returns c =
     let s = solving (c .before .before) in
     let o = s .solve .ensures in
     let told = c .enum-told .given .1 in
-    let p = accepted-is (verdict s) (sym told ∙ o .0) in
+    let p = accepted (verdict s) (sym (o .0) ∙ told) in
     (sym told ∙ o .0, stays (clear s) (verdict s) _ _ (o .1) p, stays (clear s) (verdict s) _ _ (o .2) p, stays (clear s) (verdict s) _ _ (o .3) p, stays (clear s) (verdict s) _ _ (o .4) p)
 
 returns-2 : tie.Need-returns-2
@@ -76,7 +65,7 @@ returns-2 c =
     let o = s .solve .ensures in
     let told = k .before .solved .given .1 in
     let x = k .before .solved .given .0 .0 in
-    let p = refused-is (verdict s) x (sym told ∙ o .0) in
+    let p = refused (verdict s) x (sym (o .0) ∙ told) in
     let n = eq-eqb (x .number) 10 (test .if1 .taken) in
     let kept = s .solve .kept .1 .1 .1 .1 .1 .1 .1 in (
       sym told ∙ o .0,
@@ -94,7 +83,7 @@ returns-3 c =
     let o = s .solve .ensures in
     let told = k .before .solved .given .1 in
     let x = k .before .solved .given .0 .0 in
-    let p = refused-is (verdict s) x (sym told ∙ o .0) in
+    let p = refused (verdict s) x (sym (o .0) ∙ told) in
     let n = ne-eqb (x .number) 10 (c .if1 .left) in
     (sym told ∙ o .0, not-ten (clear s) (verdict s) _ _ (o .1) x p n, not-ten (clear s) (verdict s) _ _ (o .2) x p n, not-ten (clear s) (verdict s) _ _ (o .3) x p n, not-ten (clear s) (verdict s) _ _ (o .4) x p n)
 
