@@ -12,9 +12,9 @@ use Rattle.two_time.specs.Places.{Placed}
 use Rattle.two_time.specs.WeightedSum.{productAt}
 use Rattle.terms.specs.declared.Factor.{Factor}
 use Rattle.terms.specs.declared.Factor.the-variants.{Stored, Adjoint}
-use Rattle.terms.specs.Kinds.{rightBy, factorOf}
+use Rattle.terms.specs.Kinds.{rightBy, rightNumber, factorOf}
 use Rattle.terms.specs.Held.{product-is}
-use Rattle.groups.specs.Right.{rightPlace, rightNumber, right-inside, right-read}
+use Rattle.groups.specs.Right.{rightPlace, right-inside, right-read}
 use Rattle.groups.specs.PartialSums.{termsOf}
 
 -- how far the number of lane c + 1 stands from that of lane c

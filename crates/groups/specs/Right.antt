@@ -1,14 +1,12 @@
 -- Where the right factor of a term stands, as it is stored or as the adjoint of what is stored. Assumes nothing.
 use Rattle.lists.specs.Prelude.{_≡_, refl, ap, _∙_, List, ℕ, _+_, _*_, _<_, add-mul, add-zero, mul-left-comm, arith, Float}
-use Rattle.complex.specs.declared.Complex.{Complex}
-use Rattle.complex.specs.Arithmetic.{conj}
 use Rattle.complex.specs.Numbers.{entryAt}
 use Rattle.block.specs.Operations.{adjoint}
 use Rattle.two_time.specs.Layout.{place, readAs, lengthOf}
 use Rattle.two_time.specs.Places.{Placed, entry-placed, within}
 use Rattle.terms.specs.declared.Factor.{Factor}
 use Rattle.terms.specs.declared.Factor.the-variants.{Stored, Adjoint}
-use Rattle.terms.specs.Kinds.{rightBy}
+use Rattle.terms.specs.Kinds.{rightBy, rightNumber}
 
 -- where the number of entry (k, b) of the right factor at (s, u) stands
 unfoldable pub rightPlace : Factor → ℕ → ℕ → ℕ → ℕ → ℕ → ℕ → ℕ
@@ -19,11 +17,6 @@ rightPlace Adjoint stride n s u k b = place stride n u s b k
 unfoldable pub rightBeside : Factor → ℕ → ℕ
 rightBeside Stored n = 2
 rightBeside Adjoint n = 2 * n
-
--- what is made of it
-unfoldable pub rightNumber : Factor → Complex → Complex
-rightNumber Stored z = z
-rightNumber Adjoint z = conj z
 
 pub right-read : (factor : Factor) (stride n : ℕ) (xs : List Float) (s u k b : ℕ)
     → rightNumber factor (entryAt xs (rightPlace factor stride n s u k b)) ≡ rightBy factor (readAs stride n xs) s u k b

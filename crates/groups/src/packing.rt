@@ -3,9 +3,9 @@ ghost use Rattle.lists.specs.Prelude.{_≡_, ℕ, _+_, _*_, _<_, _≤_, length}
 ghost use Rattle.complex.specs.Numbers.{entryAt};
 ghost use Rattle.two_time.specs.Layout.{place, readAs, lengthOf};
 ghost use Rattle.two_time.specs.Places.{Placed};
-ghost use Rattle.terms.specs.Kinds.{rightBy};
+ghost use Rattle.terms.specs.Kinds.{rightBy, rightNumber};
 ghost use Rattle.rows.specs.Numbers.{numberAt};
-ghost use Rattle.groups.specs.Right.{rightPlace, rightBeside, rightNumber};
+ghost use Rattle.groups.specs.Right.{rightPlace, rightBeside};
 ghost use Rattle.groups.specs.Packed.{Packed};
 ghost use Rattle.lanes.specs.Lanes.{laneAt};
 use complex::Complex;
@@ -16,10 +16,7 @@ pub(crate) fn right_number(factor: Factor, xs: &[f64], at: usize) -> Complex
     ensures { λ r. ⌜ r ≡ rightNumber factor (entryAt (now (xs .entry)) at) ⌝ }
 {
     let z = Complex::new(xs[at], xs[at + 1]);
-    match factor {
-        Factor::Stored => z,
-        Factor::Adjoint => z.conj(),
-    }
+    factor.number(z)
 }
 
 // How far the number beside one stands from it.

@@ -1,5 +1,7 @@
 -- For each kind of sums: its right factor, which places have s, with what weight, and which s a row of places has.
 use Rattle.lists.specs.Prelude.{Bool, true, false, List, ℕ, _+_, _≤_, _<_, max, ltb, Float}
+use Rattle.complex.specs.declared.Complex.{Complex}
+use Rattle.complex.specs.Arithmetic.{conj}
 use Rattle.block.specs.Block.{Entries}
 use Rattle.block.specs.Operations.{adjoint}
 use Rattle.grid.specs.Weights.{fullWeight, intervalWeight}
@@ -22,6 +24,11 @@ factorOf AntiCausal = Stored
 unfoldable pub rightBy : Factor → TwoTime → ℕ → ℕ → Entries
 rightBy Stored y s u = y s u
 rightBy Adjoint y s u = adjoint (y u s)
+
+-- a number of it, of the one that is stored
+unfoldable pub rightNumber : Factor → Complex → Complex
+rightNumber Stored z = z
+rightNumber Adjoint z = conj z
 
 -- s belongs to the sums at places before s, and after s
 unfoldable pub lanesBelow : Sums → Bool

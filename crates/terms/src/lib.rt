@@ -3,8 +3,9 @@
 ghost use Rattle.lists.specs.Prelude.{_≡_, cond, _+_, _-_, _<_, _≤_, min, max, ltb};
 ghost use Rattle.complex.specs.Arithmetic.{plusZero};
 ghost use Rattle.two_time.specs.Sums.{intervalCount};
-ghost use Rattle.terms.specs.Kinds.{factorOf, lanesBelow, lanesAbove, lanesHere, commonWeight, endWeight, firstOf, lastOf};
+ghost use Rattle.terms.specs.Kinds.{factorOf, rightNumber, lanesBelow, lanesAbove, lanesHere, commonWeight, endWeight, firstOf, lastOf};
 ghost use Rattle.terms.specs.Calls.{termOf, spanFits, spanOf};
+use complex::Complex;
 use grid::full_weight;
 use grid::interval_weight;
 use two_time::sums::Sums;
@@ -15,6 +16,18 @@ pub enum Factor {
     Stored,
     // The adjoint of the stored block (t', s).
     Adjoint,
+}
+
+impl Factor {
+    // The right factor's number, of the one that is stored.
+    pub fn number(self, z: Complex) -> Complex
+        ensures { λ r. ⌜ r ≡ rightNumber self z ⌝ }
+    {
+        match self {
+            Factor::Stored => z,
+            Factor::Adjoint => z.conj(),
+        }
+    }
 }
 
 // How a term goes to the `lanes` lanes of a group: to those below `below` and those from `above` on by the common weight, to those from

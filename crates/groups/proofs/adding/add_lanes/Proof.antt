@@ -5,7 +5,7 @@ use Rattle.complex.specs.declared.Complex.{Complex}
 use Rattle.complex.specs.Arithmetic.{czero, real, cadd, cmul}
 use Rattle.complex.specs.Numbers.{entryAt}
 use Rattle.rows.specs.Numbers.{numberAt, Mapped, mapped-next, mapped-end}
-use Rattle.groups.specs.Right.{rightNumber}
+use Rattle.terms.specs.Kinds.{rightNumber}
 use Rattle.groups.specs.InPlace.{laneBeside, inPlace}
 use Rattle.rows.specs.Ranges.{onlyFrom, from-none, from-on}
 use Rattle.groups.proofs.adding.add_lanes.Statement.{statement}

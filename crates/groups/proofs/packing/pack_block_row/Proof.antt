@@ -1,7 +1,8 @@
 -- `groups::packing::pack_block_row` meets its contract: before step b the first b numbers are written. Assumes nothing.
 use Rattle.lists.specs.Prelude.{_≡_, refl, sym, ap, _∙_, ℕ, _+_, _-_, _*_, _≤_, _<_, arith, length, length-set, now, needs}
 use Rattle.complex.specs.Numbers.{entryAt}
-use Rattle.groups.specs.Right.{rightBeside, rightNumber}
+use Rattle.terms.specs.Kinds.{rightNumber}
+use Rattle.groups.specs.Right.{rightBeside}
 use Rattle.groups.specs.Packed.{Packed, packed-none, packed-next, packed-end}
 use Rattle.groups.proofs.packing.pack_block_row.Statement.{statement}
 use Rattle.groups.proofs.packing.pack_block_row.Tie as tie
