@@ -12,7 +12,7 @@ ghost use Rattle.two_time.specs.Sums.{newNumbers, newFinite};
 ghost use Rattle.two_time.specs.Outcome.{summed, newSums};
 ghost use Rattle.groups.specs.PlaceSums.{sumAt, blockFinite};
 ghost use Rattle.sums.specs.Forward.{forwardRow};
-use groups::group;
+use columns::group;
 use refusal::Verdict;
 use two_time::capacity::Shape;
 use two_time::capacity::clear_new;
