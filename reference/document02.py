@@ -1,4 +1,5 @@
-"""A plain reading of document 02's L1, appending a time point, over that of document 01.
+"""A plain reading of document 02's L1, appending a time point, and L3, work in the
+answer, over that of document 01.
 
 Slices are "laid out for a capacity of points (row t begins at t times capacity
 blocks)": entry (a, b) of block (t, u) begins at `place(capacity, n, t, u, a, b)`,
@@ -9,6 +10,7 @@ before it, and its new point has that index.
 """
 
 import math
+from typing import NamedTuple
 
 import document01
 from document01 import (
@@ -176,8 +178,8 @@ def new_blocks(new, n, times, free, self_energy, lesser_self_energy, retarded, s
     return {"retarded": made_retarded, "lesser": made_lesser, "kernel": made_kernel, "sums": made_sums}
 
 
-def append_lines(points, capacity, orbitals, times, operands, lent, tolerance):
-    """Lines 1, 2, 3, 16 and 4 to 9, all over the points with the new one."""
+def solve_lines(points, capacity, orbitals, times, operands, lent, tolerance):
+    """Lines 1, 2, 3, 16 and 4 to 9, all over the points, an append's new one among them."""
     refusal = capacity_lines(points, capacity, orbitals, operands, lent, times)
     if refusal:
         return refusal
@@ -191,7 +193,7 @@ def append_point(
     """Document 02: "On an append's 10 the new row and column hold +0 and the rest is untouched"."""
     lent = {"retarded": retarded, "lesser": lesser, "kernel": kernel, "sums": sums}
     operands = [free, self_energy, lesser_self_energy]
-    refusal = append_lines(points + 1, capacity, orbitals, times, operands, lent.values(), tolerance)
+    refusal = solve_lines(points + 1, capacity, orbitals, times, operands, lent.values(), tolerance)
     if refusal:
         return Outcome(refusal, unchanged(lent))
     reading = lambda numbers: lambda t, u: block_at(numbers, capacity, orbitals, t, u)
@@ -202,6 +204,108 @@ def append_point(
         made = dict.fromkeys(lent, {at: zeros(orbitals) for at in new_places(points)})
         answer = Refusal(10)
     return Outcome(answer, {name: written(lent[name], capacity, orbitals, made[name]) for name in lent})
+
+
+# ---- Work in the answer -----------------------------------------------------------
+# L3: "An accepted transient run carries the count it formed". A sum forms a product
+# for each of its s, so the products are counted place by place from the sums above.
+
+
+def interval_products(start, end):
+    """Each s from start to end; L2: no product "where an interval has one point only"."""
+    return 0 if start == end else len(range(start, end + 1))
+
+
+def kernel_products(t, u):
+    """K(t, u) sums s from u to t; above the diagonal there is no sum."""
+    return 0 if t < u else interval_products(u, t)
+
+
+def retarded_products(t, u):
+    """G(t, u) adds K(t, s)·G(s, u), s from u to t - 1; above the diagonal there is no sum."""
+    return 0 if t < u else len(range(u, t))
+
+
+def sums_products(t, u):
+    """X(t, u) sums s from 0 to u."""
+    return interval_products(0, u)
+
+
+def lesser_products(t, u):
+    """G^<(t, u) sums s from 0 to t."""
+    return interval_products(0, t)
+
+
+def products(made):
+    """The products of K, G^R, X and G^< at the places that are made."""
+    each = (kernel_products, retarded_products, sums_products, lesser_products)
+    return sum(count(t, u) for t, u in made for count in each)
+
+
+def run_products(points):
+    return products(places(points))
+
+
+def append_products(points):
+    """Of an append onto so many points."""
+    return products(new_places(points))
+
+
+def formula(points):
+    """Document 02: "N(N+1)(2N+1)/6 + N·N·(N+1) - 3N"."""
+    return points * (points + 1) * (2 * points + 1) // 6 + points * points * (points + 1) - 3 * points
+
+
+# ---- Sessions ---------------------------------------------------------------------
+# A call in a session takes the session first, and gives it back beside its outcome.
+
+LARGEST_COUNT = 2**64 - 1
+
+
+class Session(NamedTuple):
+    """"One 64-bit counter, opened at the total carried over from the session before"."""
+
+    counter: int
+
+
+class Formed(NamedTuple):
+    """An accepted answer, which carries the count of the products formed."""
+
+    products: int
+
+
+def line_17(session, count):
+    """Document 02: "17 if the session counter would pass 2^64 - 1"; it may come to that."""
+    if session.counter + count > LARGEST_COUNT:
+        return Refusal(17)
+
+
+def in_session(session, call, count, points, all_points, told):
+    """17 comes "after line 9 and before any product"; a call that is refused adds nothing.
+
+    `count` gives the products by the points that the call is told; `all_points` has an append's
+    new one too. `told` is what the call takes after its points.
+    """
+    capacity, orbitals, times, free, self_energy, lesser_self_energy, tolerance, *slices = told
+    operands = [free, self_energy, lesser_self_energy]
+    refusal = solve_lines(all_points, capacity, orbitals, times, operands, slices, tolerance)
+    refusal = refusal or line_17(session, count(points))
+    if refusal:
+        return Outcome(refusal, unchanged(dict(zip(("retarded", "lesser", "kernel", "sums"), slices)))), session
+    outcome = call(points, *told)
+    if outcome.answer != ACCEPTED:
+        return outcome, session
+    formed = count(points)
+    return Outcome(Formed(formed), outcome.lent), Session(session.counter + formed)
+
+
+def run_in_session(session, points, *told):
+    return in_session(session, transient_run, run_products, points, points, told)
+
+
+def append_in_session(session, points, *told):
+    """An append adds what it forms: "A run and its appends count like the run over all points"."""
+    return in_session(session, append_point, append_products, points, points + 1, told)
 
 
 # ---- Observables ------------------------------------------------------------------

@@ -276,7 +276,7 @@ def history(choose):
     return calls
 
 
-def onto_any(choose):
+def any_append(choose):
     """An append onto contents of no run, some of them not finite, onto one point too."""
     capacity, orbitals, _, count = sizes(choose)
     inputs = inputs_of(count, orbitals, count - 1, choose)
@@ -284,7 +284,12 @@ def onto_any(choose):
     contents = [function(capacity, orbitals, choose) if choose.random() < 0.9 else room(length, choose) for _ in LENT]
     if choose.random() < 0.3:
         choose.choice(contents)[choose.randrange(length)] = choose.choice([NAN, INFINITY, -INFINITY])
-    found = asked(append(count - 1, capacity, orbitals, *told(inputs, count, capacity, choose), contents, tolerance(choose)))
+    return append(count - 1, capacity, orbitals, *told(inputs, count, capacity, choose), contents, tolerance(choose))
+
+
+def onto_any(choose):
+    """What such an append answers, which was compared with the laws."""
+    found = asked(any_append(choose))
     check_stays(found)
     check_read(found)
     check_unread(found)
@@ -339,14 +344,22 @@ def compared(program, calls):
             yield where, found.call, f"found {line[:200]}\ndue   {due[:200]}"
 
 
-def main():
+def stages(calls):
+    """At which of K, G^R, X and G^< an append's 10 is met."""
+    appends_by_10 = [found.call for found in calls if found.call.function == APPEND and refusal(found.text) == 10]
+    for made, times in sorted(collections.Counter(map(stage, appends_by_10)).items()):
+        yield f"append_point: refused 10 in {made}: {times}"
+
+
+def compare(draw, more=lambda calls: ()):
+    """Draws lists of calls, compares them as the command's words say and tells what was found; `more` gives further lines about the calls."""
     count, seed = (int(word) for word in (sys.argv[1:3] + ["1000", "1"][len(sys.argv) - 1 :]))
     program = str(pathlib.Path(sys.argv[3]).resolve()) if len(sys.argv) > 3 else None
     calls, differ = [], []
     for index in range(count):
         where = f"{seed}/{index}"
         try:
-            calls += [(where, found) for found in drawn(random.Random(f"{seed} {index}"))]
+            calls += [(where, found) for found in draw(random.Random(f"{seed} {index}"))]
         except Differs as difference:
             law, call = difference.args
             differ.append((where, call, f"by the reading alone: {law}"))
@@ -359,9 +372,8 @@ def main():
     answers = collections.Counter((found.call.function, refusal(found.text) or 0) for _, found in calls)
     for (function_asked, refused), times in sorted(answers.items()):
         print(f"{NAMES[function_asked]}: {f'refused {refused}' if refused else 'answered'}: {times}")
-    appends_by_10 = [found.call for _, found in calls if found.call.function == APPEND and refusal(found.text) == 10]
-    for made, times in sorted(collections.Counter(map(stage, appends_by_10)).items()):
-        print(f"append_point: refused 10 in {made}: {times}")
+    for line in more([found for _, found in calls]):
+        print(line)
     for law, times in LAWS.items():
         print(f"{law}: asked {times} times")
     print(f"{count} drawn, {len(calls)} calls, {'all' if program else 'none'} of them to a program, {len(differ)} differ")
@@ -369,4 +381,4 @@ def main():
 
 
 if __name__ == "__main__":
-    main()
+    compare(drawn, stages)

@@ -12,10 +12,10 @@ from document01 import (
     time_convolution, trace, transient_run, weights_of, zero,
 )
 from replay_calls.calls import (
-    ADD, ADJOINT, ADJOINT_PLUS, APPEND, CAUSAL, CHECK_TIMES, CONSISTENT, DENSITY, DENSITY_IN, DIFFERENCE, DYSON, DYSON_DEFAULT,
-    EXPECTATION, EXPECTATION_IN, FLOW, FLOW_IN, FROM_NUMBERS, FROM_SCALAR, FULL, FULL_WEIGHT, GET, HALF, HERMITIAN, IDENTITY,
-    IDENTITY_TIMES, INTERVAL, LANGRETH, MADE, MOST_IN_BLOCK, MOST_STORED, MULTIPLY, NAN, NORM, NUMBER, NUMBER_IN, REPORT, RUN,
-    RUN_IN, SCALE, SUBTRACT, SUPPORT, TIME_LINES, TRACE, TRAPEZOID, WEIGHTS, ZERO_OF, held, inputs, outputs,
+    ADD, ADJOINT, ADJOINT_PLUS, APPEND, APPEND_BOOKED, CAUSAL, CHECK_TIMES, CONSISTENT, DENSITY, DENSITY_IN, DIFFERENCE, DYSON,
+    DYSON_DEFAULT, EXPECTATION, EXPECTATION_IN, FLOW, FLOW_IN, FROM_NUMBERS, FROM_SCALAR, FULL, FULL_WEIGHT, GET, HALF, HERMITIAN,
+    IDENTITY, IDENTITY_TIMES, INTERVAL, LANGRETH, MADE, MOST_IN_BLOCK, MOST_STORED, MULTIPLY, NAN, NORM, NUMBER, NUMBER_IN, REPORT,
+    RUN, RUN_BOOKED, RUN_IN, SCALE, SUBTRACT, SUPPORT, TIME_LINES, TRACE, TRAPEZOID, WEIGHTS, ZERO_OF, held, inputs, outputs,
 )
 
 # What stands for an answer that is not worked out here.
@@ -31,6 +31,8 @@ def number(x):
 def answer(value):
     if value is ACCEPTED or value is None:
         return "accepted"
+    if isinstance(value, document02.Formed):
+        return f"accepted {value.products}"
     if isinstance(value, bool):
         return "yes" if value else "no"
     if isinstance(value, float):
@@ -99,6 +101,29 @@ OUTCOME = {
     DYSON_DEFAULT: solved_by_default, RUN: ran, LANGRETH: multiplied, WEIGHTS: weighed,
     RUN_IN: in_capacity(document02.transient_run), APPEND: in_capacity(document02.append_point),
 }
+
+# ---- Runs and appends in a session ---------------------------------------------
+
+
+def in_session(solve):
+    """A run or an append in a session that has its counter before: the outcome, and the session after."""
+
+    def booked(call):
+        capacity, counter = call.more
+        told = (call.points, capacity, call.orbitals, *call.slices[:4], call.tolerance, *call.slices[4:])
+        return solve(document02.Session(counter), *told)
+
+    return booked
+
+
+BOOKED = {RUN_BOOKED: in_session(document02.run_in_session), APPEND_BOOKED: in_session(document02.append_in_session)}
+
+
+def with_counter(outcome, session):
+    """An answer, then the counter after the call, then each output and scratch slice."""
+    text, *numbers = with_slices(outcome)
+    return [text, str(session.counter), *numbers]
+
 
 # ---- Other calls ---------------------------------------------------------------
 
@@ -250,6 +275,8 @@ def weighed_unasked(call):
 
 
 ANSWER = {function: (lambda call, outcome=outcome: with_slices(outcome(call))) for function, outcome in OUTCOME.items()} | {
+    function: (lambda call, booked=booked: with_counter(*booked(call))) for function, booked in BOOKED.items()
+} | {
     SUPPORT: supported, DENSITY: dense, NUMBER: counted, EXPECTATION: expected, FLOW: flowed, REPORT: reported,
     CONSISTENT: decided, NORM: normed, FROM_NUMBERS: built, IDENTITY: one_on_diagonal, ADJOINT: made_block(adjoint),
     SCALE: scaled, MULTIPLY: made_block(product), ADD: made_block(add), SUBTRACT: made_block(subtract), TRACE: measured(trace),
