@@ -17,6 +17,7 @@ use Rattle.two_time.specs.Written.{laid-agree}
 use Rattle.dyson.specs.Retarded.{newRetarded, newRetardedFinite}
 use Rattle.dyson.specs.Calls.{solvedNewFinite}
 use Rattle.transient_run.specs.declared.Solved.the-variants.{Accepted}
+use Rattle.transient_run.specs.Products.{formed}
 use Rattle.transient_run.specs.Calls.{Run, kernelMade, retardedMade, lesserAdvancedMade, lesserMade, madeFinite, checksOf, verdictOf, worked, solved, transientRun}
 use Rattle.amendments.specs.OnePoint.{now, before, kept}
 
@@ -134,7 +135,7 @@ module _ (old points : ℕ) (r : Run) where
         ∙ new-finite-kept Lesser (r .capacity) (r .orbitals) old points (r .times) retardedBefore lesserAdvancedBefore (second .1)))
 
   worked-kept : (cleared : List Float → List Float) → (checksOf old points r then finiteWork madeBefore) ≡ Pass
-      → worked old points r cleared ≡ record { answer = Accepted; retarded = retardedBefore; lesser = lesserBefore; kernel = kernelBefore; lesserAdvanced = lesserAdvancedBefore }
+      → worked old points r cleared ≡ record { answer = Accepted (formed old points); retarded = retardedBefore; lesser = lesserBefore; kernel = kernelBefore; lesserAdvanced = lesserAdvancedBefore }
   unfolding worked verdictOf solved _then_ finiteWork ask afterwards
   worked-kept cleared h =
       let p = then-pass (checksOf old points r) _ h in
@@ -144,6 +145,6 @@ module _ (old points : ℕ) (r : Run) where
 -- `transient_run`
 pub run-kept : (r : Run) → (checksOf 0 (r .points) r then finiteWork (madeBefore 0 (r .points) r)) ≡ Pass
     → transientRun r
-    ≡ record { answer = Accepted; retarded = retardedBefore 0 (r .points) r; lesser = lesserBefore 0 (r .points) r; kernel = kernelBefore 0 (r .points) r; lesserAdvanced = lesserAdvancedBefore 0 (r .points) r }
+    ≡ record { answer = Accepted (formed 0 (r .points)); retarded = retardedBefore 0 (r .points) r; lesser = lesserBefore 0 (r .points) r; kernel = kernelBefore 0 (r .points) r; lesserAdvanced = lesserAdvancedBefore 0 (r .points) r }
 unfolding transientRun
 run-kept r h = worked-kept 0 (r .points) r zeroed h

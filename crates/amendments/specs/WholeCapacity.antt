@@ -1,10 +1,11 @@
 -- Document 02, L1: "lines 2 and 3 read the capacity as N". In slices whose capacity is the points, the run and the checks of a lesser function are those
--- of document 01: no room is left, 16 passes, and the places are all. Assumes nothing.
-use Rattle.lists.specs.Prelude.{_≡_, refl, sym, ap, ap₂, _∙_, Bool, true, _&&_, List, [], _∷_, ℕ, zero, suc, _+_, _*_, le-refl, zero-add, suc-add, add-comm, suc-mul, zero-mul, eqb, length, le-leb, eqb-true, Float}
+-- of document 01: no room is left, 16 passes, and the places are all. L3: 17 stands between the run's 9 and 10, and where the counter has room for the
+-- count it changes nothing. Assumes nothing.
+use Rattle.lists.specs.Prelude.{_≡_, refl, sym, ap, ap₂, _∙_, Bool, true, _&&_, List, [], _∷_, ℕ, zero, suc, _+_, _*_, le-refl, zero-add, suc-add, add-comm, suc-mul, zero-mul, eqb, length, leb, _≤_, le-leb, eqb-true, Float}
 use Rattle.lists.specs.Agreement.{both}
 use Rattle.refusal.specs.declared.Verdict.{Verdict}
 use Rattle.refusal.specs.Verdict.{by, _then_, askAll, zeroed, afterwards}
-use Rattle.refusal.specs.Checks.{largeEnough, notEmpty, withinLimits, withinBlock, fitting, finiteAt, finiteEntries, finiteWork, withinCapacity}
+use Rattle.refusal.specs.Checks.{largeEnough, notEmpty, withinLimits, withinBlock, fitting, finiteAt, finiteEntries, finiteWork, withinCapacity, counterHolds}
 use Rattle.refusal.specs.Agreement.{ask-pass, ask-yes, then-agree, then-assoc, then-after, then-end}
 use Rattle.matrix.specs.declared.DenseMatrix.{DenseMatrix}
 use Rattle.matrix.specs.Dense.{countOf}
@@ -19,6 +20,8 @@ use Rattle.two_time.specs.Parts.{whole-length}
 use Rattle.two_time.specs.Outcome.{all-finite, all-numbers}
 use Rattle.dyson.specs.Calls.{Equation, equationOf, kernelOf, retardedOf, solvedFinite, checksBefore}
 use Rattle.dyson.specs.NewSolved.{finite-all, green-all}
+use Rattle.transient_run.specs.declared.Session.{Session}
+use Rattle.transient_run.specs.Products.{formed}
 use Rattle.transient_run.specs.Calls.{Run, Outcome, runOf, retardedMade, lesserAdvancedMade, lesserMade, madeFinite, checksOf, verdictOf, worked, solved, transientRun}
 use Rattle.observables.specs.Calls.{lesserChecks, lesserBlockChecks}
 
@@ -71,9 +74,9 @@ module _ (points n : ℕ) (lesser : List Float) where
 
 -- ---- the run
 
-module _ (points n : ℕ) (tolerance : Float) (times free selfEnergy lesserSelfEnergy retarded lesser kernel lesserAdvanced : List Float) where
+module _ (session : Session) (points n : ℕ) (tolerance : Float) (times free selfEnergy lesserSelfEnergy retarded lesser kernel lesserAdvanced : List Float) where
   abbrev run : Run
-  run = runOf (record { points = points; capacity = points; orbitals = n }) tolerance times free selfEnergy lesserSelfEnergy retarded lesser kernel lesserAdvanced
+  run = runOf session (record { points = points; capacity = points; orbitals = n }) tolerance times free selfEnergy lesserSelfEnergy retarded lesser kernel lesserAdvanced
 
   -- document 01's: K and G^R as Dyson makes them, X of Σ^< and G^R, G^< of G^R and X
   abbrev q : Equation
@@ -88,13 +91,14 @@ module _ (points n : ℕ) (tolerance : Float) (times free selfEnergy lesserSelfE
   abbrev finiteBefore : Bool
   finiteBefore = solvedFinite q && (sumsFinite LesserAdvanced points n times lesserSelfEnergy (retardedOf q) && sumsFinite Lesser points n times (retardedOf q) lesserAdvancedBefore)
 
+  -- checks 1 to 9, then 17 of document 02, then 10
   abbrev verdictBefore : Verdict
-  verdictBefore = checksBefore q tolerance (lesserSelfEnergy ∷ []) (retarded ∷ lesser ∷ kernel ∷ lesserAdvanced ∷ []) then finiteWork finiteBefore
+  verdictBefore = (checksBefore q tolerance (lesserSelfEnergy ∷ []) (retarded ∷ lesser ∷ kernel ∷ lesserAdvanced ∷ []) then counterHolds (session .products) (formed 0 points)) then finiteWork finiteBefore
 
   abbrev pub runBefore : Outcome
   runBefore =
       record {
-        answer = solved verdictBefore;
+        answer = solved verdictBefore (formed 0 points);
         retarded = afterwards zeroed verdictBefore (retardedOf q) retarded;
         lesser = afterwards zeroed verdictBefore lesserBefore lesser;
         kernel = afterwards zeroed verdictBefore (kernelOf q) kernel;
@@ -104,7 +108,7 @@ module _ (points n : ℕ) (tolerance : Float) (times free selfEnergy lesserSelfE
   abbrev slices : List (List Float)
   slices = free ∷ selfEnergy ∷ lesserSelfEnergy ∷ retarded ∷ lesser ∷ kernel ∷ lesserAdvanced ∷ []
 
-  checks-all : checksOf 0 points run ≡ checksBefore q tolerance (lesserSelfEnergy ∷ []) (retarded ∷ lesser ∷ kernel ∷ lesserAdvanced ∷ [])
+  checks-all : checksOf 0 points run ≡ (checksBefore q tolerance (lesserSelfEnergy ∷ []) (retarded ∷ lesser ∷ kernel ∷ lesserAdvanced ∷ []) then counterHolds (session .products) (formed 0 points))
   unfolding checksOf inputChecks
   checks-all =
       then-agree _ _ _ _ (capacity-points points n (eqb (length times) points) slices) (λ p.
@@ -139,3 +143,10 @@ module _ (points n : ℕ) (tolerance : Float) (times free selfEnergy lesserSelfE
   pub run-all : transientRun run ≡ runBefore
   unfolding transientRun worked
   run-all = rw (verdict-all, lesser-all, lesser-advanced-all, green, all-numbers Causal points n times free selfEnergy kernel)
+
+  pub with-room : session .products + formed 0 points ≤ 0xffff_ffff_ffff_ffff
+      → verdictBefore ≡ (checksBefore q tolerance (lesserSelfEnergy ∷ []) (retarded ∷ lesser ∷ kernel ∷ lesserAdvanced ∷ []) then finiteWork finiteBefore)
+  unfolding counterHolds
+  with-room h =
+      let holds = ask-yes (leb (session .products + formed 0 points) 0xffff_ffff_ffff_ffff) (by 17) (le-leb _ _ h) in
+      rw (holds, then-end (checksBefore q tolerance (lesserSelfEnergy ∷ []) (retarded ∷ lesser ∷ kernel ∷ lesserAdvanced ∷ [])))

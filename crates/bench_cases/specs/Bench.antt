@@ -68,7 +68,7 @@ pub record BenchCases : Type 0 where
   pub p11-first : entry (p11-run .retarded) 1 0 ≡ real (ofBits binary64 0x3ff8_0000_0000_0000)
   pub p11-second : entry (p11-run .retarded) 2 0 ≡ real (ofBits binary64 0x400c_0000_0000_0000)
   -- "P12 the same with Σ^< = i everywhere: G^<(1,1) = 1.5625i, G^<(2,2) = 14.0625i. The program prints:" the text of its four lines
-  pub p12-answer : transientRun (P12.run defaultTolerance before) .answer ≡ Accepted
+  pub p12-answer : transientRun (P12.run defaultTolerance before) .answer ≡ Accepted 41
   pub p12-first : entry (transientRun (P12.run defaultTolerance before) .lesser) 1 1 ≡ imaginary (ofBits binary64 0x3ff9_0000_0000_0000)
   pub p12-second : entry (transientRun (P12.run defaultTolerance before) .lesser) 2 2 ≡ imaginary (ofBits binary64 0x402c_2000_0000_0000)
   pub p12-text : printed File.file ≡ File.text
@@ -91,7 +91,7 @@ unfolding dyson dysonWithTolerance afterwards
 dyson-outcome = rw (dyson-verdict, P12.kernel-stage, P12.retarded-stage)
 
 run-outcome : transientRun (P12.run defaultTolerance before)
-    ≡ record { answer = Accepted; retarded = floats P12.retardedBits; lesser = floats P12.lesserBits; kernel = floats P12.kernelBits; lesserAdvanced = floats P12.lesserAdvancedBits }
+    ≡ record { answer = Accepted 41; retarded = floats P12.retardedBits; lesser = floats P12.lesserBits; kernel = floats P12.kernelBits; lesserAdvanced = floats P12.lesserAdvancedBits }
 run-outcome = P12.outcome defaultTolerance before refl retarded-inputs
 
 pub bench-cases : BenchCases

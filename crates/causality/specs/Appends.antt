@@ -1,41 +1,91 @@
--- The law of appends: calls leave what the run over all points leaves. What an append reads at old places is what that run makes there, by the theorem
--- on which demand 3 rests. Assumes nothing.
-use Rattle.lists.specs.Prelude.{_≡_, refl, sym, ap, subst, _∙_, true, List, ℕ, suc, _-_, _≤_, _<_, max, le-refl, decLt, arith, Float}
+-- The law of appends: calls leave what the run over all points leaves, and count like it. What an append reads at old places is what that run makes there,
+-- by the theorem on which demand 3 rests. Assumes nothing.
+use Rattle.lists.specs.Prelude.{_≡_, refl, sym, ap, subst, _∙_, true, List, ℕ, suc, _+_, _-_, _≤_, _<_, max, le-refl, le-leb, decLt, arith, Float}
+use Rattle.refusal.specs.declared.Verdict.{Verdict}
 use Rattle.refusal.specs.declared.Verdict.the-variants.{Pass}
-use Rattle.refusal.specs.Verdict.{by, zeroed, afterwards}
-use Rattle.refusal.specs.Checks.{finiteWork}
+use Rattle.refusal.specs.Verdict.{by, zeroed, _then_, afterwards}
+use Rattle.refusal.specs.Checks.{finiteWork, counterHolds}
 use Rattle.refusal.specs.Agreement.{ask-yes, then-pass, then-after}
-use Rattle.two_time.specs.New.{clearedNew}
 use Rattle.two_time.specs.Sums.{newNumbers}
 use Rattle.two_time.specs.NewPlaces.{at-once}
 use Rattle.two_time.specs.Lengths.{lengths, none-asked, also-asked}
 use Rattle.two_time.specs.CapacityChecks.{capacity-passed, capacity-pass}
 use Rattle.dyson.specs.Retarded.{newRetarded}
 use Rattle.transient_run.specs.declared.Solved.the-variants.{Accepted}
-use Rattle.transient_run.specs.Calls.{Run, runOf, Outcome, solved, kernelMade, retardedMade, lesserAdvancedMade, lesserMade, madeFinite, checksOf, verdictOf, worked, transientRun, appendPoint}
-use Rattle.transient_run.specs.Checks.{accepted, sizesAsked, slices}
+use Rattle.transient_run.specs.declared.Session.{Session}
+use Rattle.transient_run.specs.Products.{formed, countOf, formed-count, formed-on, steps}
+use Rattle.transient_run.specs.Calls.{Run, runOf, Outcome, solved, isAccepted, kernelMade, retardedMade, lesserAdvancedMade, lesserMade, madeFinite, checksOf, verdictOf, worked, transientRun, appendPoint}
+use Rattle.transient_run.specs.Checks.{accepted, accepted-with, sizesAsked, slices}
 use Rattle.causality.specs.Statement.{SameTo, Demanded}
 use Rattle.causality.specs.Made.{HeldTo, none-held, MadeTo, made-agree, fine-agree, made-fine, fine-made}
-use Rattle.causality.specs.Solvers.{left-made, sizes}
+use Rattle.causality.specs.Solvers.{sizes}
 use Rattle.causality.specs.Theorem.{all-finite, demand-3}
-use Rattle.causality.specs.History.{Onto, longer, History}
+use Rattle.causality.specs.Sessions.{inSession}
+use Rattle.causality.specs.History.{Onto, longer, History, together, LikeRun}
 use Rattle.causality.specs.History.History.{ran, appended}
 
--- ---- one append, with the inputs of c, onto what the run r made of its p points
+-- ---- two accepted calls
 
-module _ (r c : Run) where
+-- questions that pass, of which the first and the last are asked otherwise
+otherwise : (a a' b c d e e' : Verdict) → (a then b then c then d then e) ≡ Pass → a' ≡ Pass → e' ≡ Pass → (a' then b then c then d then e') ≡ Pass
+otherwise a a' b c d e e' h ha he =
+    let z = then-pass a _ h in
+    let y = then-pass b _ (z .1) in
+    let x = then-pass c _ (y .1) in
+    let w = then-pass d _ (x .1) in
+    then-after a' _ ha ∙ then-after b _ (y .0) ∙ then-after c _ (x .0) ∙ then-after d _ (w .0) ∙ he
+
+-- the counter has room
+holds : (session : Session) (count : ℕ) → session .products + count ≤ 0xffff_ffff_ffff_ffff → counterHolds (session .products) count ≡ Pass
+unfolding counterHolds
+holds session count room = ask-yes _ (by 17) (le-leb _ _ room)
+
+-- an accepted call leaves what it made
+module _ (old points : ℕ) (r : Run) where
+  abbrev madeBy : Outcome
+  madeBy =
+      record {
+        answer = Accepted (formed old points);
+        retarded = retardedMade old points r;
+        lesser = lesserMade old points r;
+        kernel = kernelMade old points r;
+        lesserAdvanced = lesserAdvancedMade old points r;
+      }
+
+  made-left : (cleared : List Float → List Float) → verdictOf old points r ≡ Pass → worked old points r cleared ≡ madeBy
+  unfolding worked afterwards solved
+  made-left cleared passed = rw passed
+
+-- ---- a run in another session
+
+module _ (r : Run) (passed : verdictOf 0 (r .points) r ≡ Pass) (session : Session) (space : session .products + formed 0 (r .points) ≤ 0xffff_ffff_ffff_ffff) where
+  again : verdictOf 0 (r .points) (inSession session r) ≡ Pass
+  unfolding verdictOf checksOf finiteWork madeFinite
+  again =
+      let asked = then-pass (checksOf 0 (r .points) r) _ passed in
+      then-after (checksOf 0 (r .points) (inSession session r)) _
+      (otherwise (sizesAsked (r .points) r) (sizesAsked (r .points) r) _ _ _ _ _ (asked .0) (then-pass (sizesAsked (r .points) r) _ (asked .0) .0) (holds session _ space)) ∙ asked .1
+
+  pub any-session : transientRun (inSession session r) ≡ together (formed 0 (r .points)) (transientRun r)
+  unfolding transientRun
+  any-session = made-left 0 (r .points) (inSession session r) zeroed again ∙ ap (together (formed 0 (r .points))) (sym (made-left 0 (r .points) r zeroed passed))
+
+-- ---- one append, with the inputs of c, onto what the run r made of its p points; and the run over one point more, in whatever session
+
+module _ (r c : Run) (session : Session) where
   abbrev p : ℕ
   p = r .points
 
   abbrev append : Run
   append =
-      runOf (record { points = p; capacity = r .capacity; orbitals = r .orbitals }) (c .tolerance) (c .times) (c .free) (c .selfEnergy) (c .lesserSelfEnergy) (retardedMade 0 p r) (lesserMade 0 p r)
+      runOf (record { products = c .counter }) (record { points = p; capacity = r .capacity; orbitals = r .orbitals }) (c .tolerance) (c .times) (c .free) (c .selfEnergy) (c .lesserSelfEnergy) (retardedMade 0 p r) (lesserMade 0 p r)
       (kernelMade 0 p r) (lesserAdvancedMade 0 p r)
 
   abbrev whole : Run
-  whole = longer r append
+  whole = inSession session (longer r append)
 
-  module _ (passed : verdictOf 0 p r ≡ Pass) (inputs : (k : ℕ) → k < p → SameTo k r append) (passed' : verdictOf p (suc p) append ≡ Pass) where
+  module _ (passed : verdictOf 0 p r ≡ Pass) (inputs : (k : ℕ) → k < p → SameTo k r append) (passed' : verdictOf p (suc p) append ≡ Pass)
+      (space : session .products + formed 0 (suc p) ≤ 0xffff_ffff_ffff_ffff) where
     room : p ≤ r .capacity
     room = sizes 0 p r passed .1
 
@@ -93,52 +143,58 @@ module _ (r c : Run) where
               (made-fine p (suc p) append (all-finite p (suc p) append passed') t u a b (omega arith) ht hu ha hb)
         ])
 
-    -- its questions are the append's: they ask inputs and lengths, and the lengths of outputs and scratch are r's
+    -- its questions are the append's but the last: they ask inputs and lengths, and the lengths of outputs and scratch are r's
     checks : checksOf 0 (suc p) whole ≡ Pass
     unfolding verdictOf checksOf
     checks =
-        let asked = then-pass (sizesAsked (suc p) append) _ (then-pass (checksOf p (suc p) append) _ passed' .0) in
-        let z = capacity-passed (r .capacity) (suc p) (r .orbitals) _ (slices (suc p) append) (asked .0) in
+        let asked = then-pass (checksOf p (suc p) append) _ passed' .0 in
+        let z = capacity-passed (r .capacity) (suc p) (r .orbitals) _ (slices (suc p) append) (then-pass (sizesAsked (suc p) append) _ asked .0) in
         let i = lengths (z .2) in
         let o = lengths (sizes 0 p r passed .2) .1 .1 .1 in
         let long = also-asked (i .0) (also-asked (i .1 .0) (also-asked (i .1 .1 .0) (also-asked (o .0) (also-asked (o .1 .0) (also-asked (o .1 .1 .0) (also-asked (o .1 .1 .1 .0) (none-asked (z .2)))))))) in
         let sized : sizesAsked (suc p) whole ≡ Pass = rw (z .2 .others) (capacity-pass (z .0) (z .1) long) in
-        then-after (sizesAsked (suc p) whole) _ sized ∙ asked .1
+        otherwise (sizesAsked (suc p) append) (sizesAsked (suc p) whole) _ _ _ _ _ asked sized (holds session _ space)
 
     verdict : verdictOf 0 (suc p) whole ≡ Pass
     unfolding verdictOf finiteWork
     verdict = then-after (checksOf 0 (suc p) whole) _ checks ∙ ask-yes (madeFinite 0 (suc p) whole) (by 10) finite
 
-    -- so a slice that holds the same, made at once or appended, is left by both
-    slice : (before before' : List Float) {twice once : List Float} → twice ≡ once
-        → afterwards zeroed (verdictOf 0 (suc p) whole) once before ≡ afterwards (clearedNew (r .capacity) (r .orbitals) p (suc p)) (verdictOf p (suc p) append) twice before'
-    slice before before' e = left-made _ _ _ before verdict ∙ sym e ∙ sym (left-made _ _ _ before' passed')
-
-    one-more : transientRun whole ≡ appendPoint append
-    unfolding transientRun appendPoint worked newNumbers newRetarded
+    -- each slice holds the same, made at once or appended
+    one-more : transientRun whole ≡ together (formed 0 (suc p)) (appendPoint append)
+    unfolding transientRun appendPoint newNumbers newRetarded
     one-more =
         let m = all-made in
-        λ i.
+        let alike : madeBy 0 (suc p) whole ≡ together (formed 0 (suc p)) (madeBy p (suc p) append) = λ i.
         record {
-          answer = (ap solved verdict ∙ sym (ap solved passed')) i;
-          retarded = slice (r .retarded) (append .retarded) (at-once (r .capacity) (r .orbitals) p (suc p) (omega arith) _ _ _ (r .retarded) (λ t u ht hu. m .retarded t u (omega arith) (omega arith))) i;
-          lesser = slice (r .lesser) (append .lesser) (at-once (r .capacity) (r .orbitals) p (suc p) (omega arith) _ _ _ (r .lesser) (λ t u ht hu. m .lesser t u (omega arith) (omega arith))) i;
-          kernel = slice (r .kernel) (append .kernel) (at-once (r .capacity) (r .orbitals) p (suc p) (omega arith) _ _ _ (r .kernel) (λ t u ht hu. m .kernel t u (omega arith) (omega arith))) i;
-          lesserAdvanced =
-              slice (r .lesserAdvanced) (append .lesserAdvanced)
-              (at-once (r .capacity) (r .orbitals) p (suc p) (omega arith) _ _ _ (r .lesserAdvanced) (λ t u ht hu. m .lesserAdvanced t u (omega arith) (omega arith))) i;
-        }
+          answer = Accepted (formed 0 (suc p));
+          retarded = sym (at-once (r .capacity) (r .orbitals) p (suc p) (omega arith) _ _ _ (r .retarded) (λ t u ht hu. m .retarded t u (omega arith) (omega arith))) i;
+          lesser = sym (at-once (r .capacity) (r .orbitals) p (suc p) (omega arith) _ _ _ (r .lesser) (λ t u ht hu. m .lesser t u (omega arith) (omega arith))) i;
+          kernel = sym (at-once (r .capacity) (r .orbitals) p (suc p) (omega arith) _ _ _ (r .kernel) (λ t u ht hu. m .kernel t u (omega arith) (omega arith))) i;
+          lesserAdvanced = sym (at-once (r .capacity) (r .orbitals) p (suc p) (omega arith) _ _ _ (r .lesserAdvanced) (λ t u ht hu. m .lesserAdvanced t u (omega arith) (omega arith))) i;
+        } in
+        made-left 0 (suc p) whole zeroed verdict ∙ alike ∙ ap (together (formed 0 (suc p))) (sym (made-left p (suc p) append _ passed'))
 
 -- ---- the law
 
--- an accepted append onto what an accepted run left leaves what the run over one point more leaves
-pub append-one : {r : Run} {o : Outcome} {c : Run} → transientRun r ≡ o → o .answer ≡ Accepted → Onto r o c → appendPoint c .answer ≡ Accepted → transientRun (longer r c) ≡ appendPoint c
-unfolding transientRun appendPoint worked
-append-one {r} {o} {c} e ok f ok' =
-    let passed : verdictOf 0 (r .points) r ≡ Pass = accepted (verdictOf 0 (r .points) r) (ap (λ (x : Outcome). x .answer) e ∙ ok) in
-    let least = sizes 0 (r .points) r passed .0 in
-    let it : append r c ≡ c = λ i.
+-- the session is free where two calls agree
+same-in : {k : ℕ} {r r' : Run} (session session' : Session) → SameTo k r r' → SameTo k (inSession session r) (inSession session' r')
+same-in session session' s = record { orbitals = s .orbitals; times = s .times; free = s .free; selfEnergy = s .selfEnergy; lesserSelfEnergy = s .lesserSelfEnergy }
+
+abbrev empty : Session
+empty = record { products = 0 }
+
+-- an accepted append onto what an accepted run left: the run over one point more leaves what it leaves
+append-one : {r : Run} {o : Outcome} {c : Run} {count more : ℕ} → transientRun (inSession empty r) ≡ together count o → Onto r o c → appendPoint c .answer ≡ Accepted more
+    → (session : Session) → session .products + formed 0 (suc (r .points)) ≤ 0xffff_ffff_ffff_ffff → transientRun (inSession session (longer r c)) ≡ together (formed 0 (suc (r .points))) (appendPoint c)
+unfolding transientRun appendPoint worked isAccepted
+append-one {r} {o} {c} {count} {more} e f ok session space =
+    let r' = inSession empty r in
+    let passed : verdictOf 0 (r .points) r' ≡ Pass = accepted _ _ (ap (λ (x : Outcome). isAccepted (x .answer)) e) in
+    let least = sizes 0 (r .points) r' passed .0 in
+    let made = sym (made-left 0 (r .points) r' zeroed passed) ∙ e in
+    let it : append r' c session ≡ c = λ i.
     record {
+      counter = c .counter;
       points = f .points i;
       capacity = f .capacity i;
       orbitals = f .inputs 0 (omega arith) .orbitals i;
@@ -147,19 +203,63 @@ append-one {r} {o} {c} e ok f ok' =
       free = c .free;
       selfEnergy = c .selfEnergy;
       lesserSelfEnergy = c .lesserSelfEnergy;
-      retarded = (sym (left-made zeroed _ _ (r .retarded) passed) ∙ ap (λ (x : Outcome). x .retarded) e ∙ f .retarded) i;
-      lesser = (sym (left-made zeroed _ _ (r .lesser) passed) ∙ ap (λ (x : Outcome). x .lesser) e ∙ f .lesser) i;
-      kernel = (sym (left-made zeroed _ _ (r .kernel) passed) ∙ ap (λ (x : Outcome). x .kernel) e ∙ f .kernel) i;
-      lesserAdvanced = (sym (left-made zeroed _ _ (r .lesserAdvanced) passed) ∙ ap (λ (x : Outcome). x .lesserAdvanced) e ∙ f .lesserAdvanced) i;
+      retarded = (ap (λ (x : Outcome). x .retarded) made ∙ f .retarded) i;
+      lesser = (ap (λ (x : Outcome). x .lesser) made ∙ f .lesser) i;
+      kernel = (ap (λ (x : Outcome). x .kernel) made ∙ f .kernel) i;
+      lesserAdvanced = (ap (λ (x : Outcome). x .lesserAdvanced) made ∙ f .lesserAdvanced) i;
     } in
-    subst (λ (x : Run). ((k : ℕ) → k < r .points → SameTo k r x) → appendPoint x .answer ≡ Accepted → transientRun (longer r x) ≡ appendPoint x) it
-    (λ inputs ok''. one-more r c passed inputs (accepted _ ok'')) (f .inputs) ok'
+    subst (λ (x : Run). ((k : ℕ) → k < r .points → SameTo k r' x) → appendPoint x .answer ≡ Accepted more → transientRun (inSession session (longer r x)) ≡ together (formed 0 (suc (r .points))) (appendPoint x)) it
+    (λ inputs ok'. one-more r' c session passed inputs (accepted-with (verdictOf (r .points) (suc (r .points)) (append r' c session)) _ _ ok' .0) space) (λ k l. same-in empty (record { products = c .counter }) (f .inputs k l)) ok
 
--- the calls are accepted, and leave what the run over all points leaves
-pub append-law : {r : Run} {o : Outcome} → History r o → (o .answer ≡ Accepted) × (transientRun r ≡ o)
-append-law (ran r ok) = (ok, refl)
-append-law (appended h c f ok) = let before = append-law h in (ok, append-one (before .1) (before .0) f ok)
+-- to 256 points a session opened at 0 has room
+most : (n : ℕ) → n ≤ 256 → countOf n ≤ 0xffff_ffff_ffff_ffff
+most n h = let s = steps n h in omega arith
 
--- "and demand 3 holds of them as of that run": any two histories, of any points and capacities
-pub histories-demand : {r r' : Run} {o o' : Outcome} → History r o → History r' o' → Demanded r r' o o'
-histories-demand {r} {r'} h h' = rw (← (append-law h .1), ← (append-law h' .1)) (demand-3 r r')
+-- what the run over all points makes, in each session with room for it
+like-run : {r : Run} {o : Outcome} {count : ℕ} → r .points ≤ 256 → count ≡ formed 0 (r .points)
+    → ((session : Session) → session .products + formed 0 (r .points) ≤ 0xffff_ffff_ffff_ffff → transientRun (inSession session r) ≡ together (formed 0 (r .points)) o) → LikeRun r o count
+like-run {r} small e law =
+    let number = formed-count (r .points) in
+    let fits = most (r .points) small in
+    record { counts = e ∙ number; fits = omega arith; leaves = λ session room. rw e (law session (omega arith)) }
+
+-- such as one opened at 0
+pub in-empty : {r : Run} {o : Outcome} {count : ℕ} → LikeRun r o count → transientRun (inSession empty r) ≡ together count o
+in-empty law = let fits = law .fits in law .leaves empty (omega arith)
+
+-- the calls count like that run, and leave what it leaves
+pub append-law : {r : Run} {o : Outcome} {count : ℕ} → History r o count → LikeRun r o count
+unfolding transientRun appendPoint worked
+append-law (ran r ok) =
+    let s = accepted-with (verdictOf 0 (r .points) r) _ _ ok in
+    let z = sizes 0 (r .points) r (s .0) in
+    let room = z .1 in
+    let limit = z .2 .points-most in
+    like-run (omega arith) (s .1) (any-session r (s .0))
+append-law (appended {r} {o} {count} {more} h c f ok) =
+    let law = append-law h in
+    let p = r .points in
+    let s = accepted-with (verdictOf (c .points) (suc (c .points)) c) _ _ ok in
+    let z = sizes (c .points) (suc (c .points)) c (s .0) in
+    let room = z .1 in
+    let limit = z .2 .points-most in
+    let told = f .points in
+    let before = law .counts in
+    let number = formed-count p in
+    let more-is : more ≡ formed p (suc p) = rw told (s .1) in
+    let sum = formed-on p (suc p) (omega arith) in
+    like-run (omega arith) (omega arith) (append-one (in-empty law) f ok)
+
+-- "and demand 3 holds of them as of that run": any two histories, of any points, capacities and sessions
+pub histories-demand : {r r' : Run} {o o' : Outcome} {count count' : ℕ} → History r o count → History r' o' count' → Demanded r r' o o'
+histories-demand {r} {r'} {o} {o'} {count} {count'} h h' =
+    let law = append-law h in
+    let law' = append-law h' in
+    let demand : Demanded (inSession empty r) (inSession empty r') (together count o) (together count' o') = rw (← (in-empty law), ← (in-empty law')) (demand-3 (inSession empty r) (inSession empty r')) in
+    record {
+      blind = λ k c.
+          let rows = demand .blind k (record { within = c .within; within' = c .within'; accepted = unfold isAccepted in refl; accepted' = unfold isAccepted in refl; same = same-in empty empty (c .same) }) in
+          record { retarded = rows .retarded; lesser = rows .lesser; particles = rows .particles; expectations = rows .expectations; flows = rows .flows };
+      above = λ _. demand .above (unfold isAccepted in refl);
+      above' = λ _. demand .above' (unfold isAccepted in refl);
+    }

@@ -1,13 +1,12 @@
 -- Demand 3 excludes a solver that reads later data: the transient run but for G(0,0), which it takes from free at the last point. Assumes nothing.
-use Rattle.lists.specs.Prelude.{_≡_, refl, sym, ap, _∙_, cond, _&&_, ℕ, _-_, _<_, arith, eqb, getD, nan, binary64, toBits}
+use Rattle.lists.specs.Prelude.{_≡_, refl, sym, ap, _∙_, true, cond, _&&_, ℕ, _-_, _<_, arith, eqb, getD, nan, binary64, toBits}
 use lib.Ieee as Ieee
 use Rattle.complex.specs.declared.Complex.{Complex}
 use Rattle.refusal.specs.declared.Verdict.the-variants.{Pass}
 use Rattle.refusal.specs.Verdict.{zeroed}
 use Rattle.block.specs.Agreement.{Agree}
 use Rattle.two_time.specs.Layout.{TwoTime}
-use Rattle.transient_run.specs.declared.Solved.the-variants.{Accepted}
-use Rattle.transient_run.specs.Calls.{Run, solved, kernelMade, lesserAdvancedMade, verdictOf}
+use Rattle.transient_run.specs.Calls.{Run, solved, isAccepted, kernelMade, lesserAdvancedMade, verdictOf}
 use Rattle.causality.specs.Statement.{Solver, of, SameTo, Demand3}
 use Rattle.causality.specs.Stages.{SquareTo}
 use Rattle.causality.specs.Solvers.{left-made, sizes, solverOf, read-left}
@@ -28,9 +27,9 @@ starts-late : (r : Run) → verdictOf 0 (r .points) r ≡ Pass → 0 < r .points
 unfolding solverOf
 starts-late r v hp ho = rw (left-made zeroed (verdictOf 0 (r .points) r) _ (r .retarded) v) (read-left r (lateRetarded r) (r .retarded) (sizes 0 (r .points) r v .1) 0 0 hp hp 0 0 ho ho)
 
-accepted : (r : Run) → verdictOf 0 (r .points) r ≡ Pass → lateStart r .answer ≡ Accepted
-unfolding solverOf solved
-accepted r v = ap solved v
+accepted : (r : Run) → verdictOf 0 (r .points) r ≡ Pass → isAccepted (lateStart r .answer) ≡ true
+unfolding solverOf solved isAccepted
+accepted r v = rw v
 
 -- two accepted runs that agree up to 0; free's last entries are 1 and 2
 start-same : SameTo 0 run (short two)

@@ -9,12 +9,16 @@ pub mod Observables
 pub mod Solvers
 pub mod Theorem
 pub mod Dyson
--- Document 02, L1: a run and any list of appends leave what the run over all points leaves, so demand 3 holds of them too.
+-- Document 02, L3: lists of calls in a session, and what its counter holds.
+pub mod Sessions
+pub mod Counter
+-- L1: a run and any list of appends leave what the run over all points leaves and count like it, so demand 3 holds of them too.
 pub mod History
 pub mod Appends
--- Closed cases: two accepted runs to which the demand applies, and a run with an append to which the law does; two wrong solvers that meet the demand; one
--- that it excludes.
+-- Closed cases: two accepted runs to which the demand applies; a session that is filled to its last product; a run with an append to which the law of
+-- appends does; two wrong solvers that meet the demand; one that it excludes.
 pub mod Prefix
+pub mod Full
 pub mod Appended
 pub mod Weakness
 pub mod Excluded

@@ -1,6 +1,6 @@
 -- P12's run and the run of its first two points: both are accepted and agree up to 1, so what demand 3 supposes can be met, by runs of different
--- N and capacity too. Assumes nothing.
-use Rattle.lists.specs.Prelude.{_≡_, refl, ap, [], _∷_, ℕ, zero, suc, _≤_, arith, getD, replicate, Float, nan, binary64}
+-- N, capacity and session too. Assumes nothing.
+use Rattle.lists.specs.Prelude.{_≡_, refl, true, [], _∷_, ℕ, zero, suc, _≤_, arith, getD, replicate, Float, nan, binary64}
 use lib.Ieee as Ieee
 use Rattle.complex.specs.Arithmetic.{plusZero, one}
 use Rattle.refusal.specs.declared.Verdict.the-variants.{Pass}
@@ -9,8 +9,7 @@ use Rattle.block.specs.Agreement.{Agree}
 use Rattle.two_time.specs.Layout.{TwoTime, readAs}
 use Rattle.dyson.specs.Calls.{supportChecks}
 use Rattle.dyson.specs.Cases.{dysonComputation}
-use Rattle.transient_run.specs.declared.Solved.the-variants.{Accepted}
-use Rattle.transient_run.specs.Calls.{Run, runOf, solved, verdictOf, worked, transientRun}
+use Rattle.transient_run.specs.Calls.{Run, runOf, solved, isAccepted, verdictOf, worked, transientRun}
 use Rattle.transient_run.specs.Cases.{runComputation}
 use Rattle.transient_run.specs.P12 as P12
 use Rattle.causality.specs.Statement.{of, SameTo, Comparable}
@@ -31,7 +30,7 @@ passes = P12.verdict one (replicate 18 one) refl inputs-pass
 abbrev pub short : Float → Run
 short x =
     let before = replicate 8 one in
-    runOf (record { points = 2; capacity = 2; orbitals = 1 }) one (plusZero ∷ one ∷ []) (one ∷ plusZero ∷ plusZero ∷ plusZero ∷ one ∷ plusZero ∷ x ∷ plusZero ∷ [])
+    runOf (record { products = 7 }) (record { points = 2; capacity = 2; orbitals = 1 }) one (plusZero ∷ one ∷ []) (one ∷ plusZero ∷ plusZero ∷ plusZero ∷ one ∷ plusZero ∷ x ∷ plusZero ∷ [])
     (one ∷ plusZero ∷ plusZero ∷ plusZero ∷ one ∷ plusZero ∷ one ∷ plusZero ∷ []) (plusZero ∷ one ∷ plusZero ∷ one ∷ plusZero ∷ one ∷ plusZero ∷ one ∷ []) before before before before
 
 abbrev pub two : Float
@@ -41,9 +40,9 @@ pub short-passes : (verdictOf 0 2 (short one) ≡ Pass) × (verdictOf 0 2 (short
 unfolding runComputation
 short-passes = (refl, refl)
 
-answered : (r : Run) → verdictOf 0 (r .points) r ≡ Pass → transientRun r .answer ≡ Accepted
-unfolding transientRun worked solved
-answered r e = ap solved e
+answered : (r : Run) → verdictOf 0 (r .points) r ≡ Pass → isAccepted (transientRun r .answer) ≡ true
+unfolding transientRun worked solved isAccepted
+answered r e = rw e
 
 -- ---- what holds at 0 and 1, and what holds at 0
 
@@ -76,5 +75,5 @@ prefix-same =
       lesserSelfEnergy = square (of run (run .lesserSelfEnergy)) (of (short one) (short one .lesserSelfEnergy)) refl refl refl refl;
     }
 
-pub prefix : Comparable 1 run (short one) (transientRun run .answer ≡ Accepted) (transientRun (short one) .answer ≡ Accepted)
+pub prefix : Comparable 1 run (short one) (isAccepted (transientRun run .answer) ≡ true) (isAccepted (transientRun (short one) .answer) ≡ true)
 prefix = record { within = omega arith; within' = omega arith; accepted = answered run passes; accepted' = answered (short one) (short-passes .0); same = prefix-same }

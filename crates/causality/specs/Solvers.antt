@@ -13,8 +13,8 @@ use Rattle.two_time.specs.Written.{length-written}
 use Rattle.two_time.specs.NewPlaces.{read-new}
 use Rattle.two_time.specs.SizeChecks.{SizesPassed}
 use Rattle.two_time.specs.Lengths.{none-asked, also-asked}
-use Rattle.transient_run.specs.declared.Solved.the-variants.{Accepted}
-use Rattle.transient_run.specs.Calls.{Run, solved, checksOf, verdictOf}
+use Rattle.transient_run.specs.Products.{formed}
+use Rattle.transient_run.specs.Calls.{Run, solved, isAccepted, checksOf, verdictOf}
 use Rattle.transient_run.specs.Checks.{accepted, slices, checks-passed}
 use Rattle.causality.specs.Statement.{Solver, of, SameTo, SameRetarded, SameRows, ZeroAbove, Comparable, Demand3}
 use Rattle.causality.specs.Stages.{RowsTo, SquareTo}
@@ -43,7 +43,7 @@ unfoldable pub solverOf : (Run → TwoTime) → (Run → TwoTime) → (Run → L
 solverOf g l kernel lesserAdvanced r =
     let holds : List Float → List Float → List Float = afterwards zeroed (verdictOf 0 (r .points) r) in
     record {
-      answer = solved (verdictOf 0 (r .points) r);
+      answer = solved (verdictOf 0 (r .points) r) (formed 0 (r .points));
       retarded = holds (leaves r (g r) (r .retarded)) (r .retarded);
       lesser = holds (leaves r (l r) (r .lesser)) (r .lesser);
       kernel = holds (kernel r) (r .kernel);
@@ -102,14 +102,14 @@ module _ (g l : Run → TwoTime) (kernel lesserAdvanced : Run → List Float) (r
 
   -- two accepted runs with one n
   Blind : Run → Run → Type 0
-  Blind r r' = (k : ℕ) → Comparable k r r' (solver r .answer ≡ Accepted) (solver r' .answer ≡ Accepted) → SameRows k r r' (solver r) (solver r')
+  Blind r r' = (k : ℕ) → Comparable k r r' (isAccepted (solver r .answer) ≡ true) (isAccepted (solver r' .answer) ≡ true) → SameRows k r r' (solver r) (solver r')
 
   one-n : (r r' : Run) → Blind r (withOrbitals r' (r .orbitals))
   unfolding Blind solverOf
   one-n r r₀ k c =
       let r' = withOrbitals r₀ (r .orbitals) in
-      let v : verdict r ≡ Pass = accepted (verdict r) (c .accepted) in
-      let v' : verdict r' ≡ Pass = accepted (verdict r') (c .accepted') in
+      let v : verdict r ≡ Pass = accepted (verdict r) _ (c .accepted) in
+      let v' : verdict r' ≡ Pass = accepted (verdict r') _ (c .accepted') in
       let h : Inside k r = (c .within, sizes 0 (r .points) r v .1) in
       let h' : Inside k r' = (c .within', sizes 0 (r' .points) r' v' .1) in
       let n = r .orbitals in
@@ -130,10 +130,10 @@ module _ (g l : Run → TwoTime) (kernel lesserAdvanced : Run → List Float) (r
   unfolding Blind
   blind r r' k c = equal-n Blind one-n r r' (c .same .orbitals) k c
 
-  zero-above : (r : Run) → solver r .answer ≡ Accepted → ZeroAbove r (solver r .retarded)
+  zero-above : (r : Run) → isAccepted (solver r .answer) ≡ true → ZeroAbove r (solver r .retarded)
   unfolding solverOf
   zero-above r acc t u a b less hu ha hb =
-      let v : verdict r ≡ Pass = accepted (verdict r) acc in
+      let v : verdict r ≡ Pass = accepted (verdict r) _ acc in
       rw (left-made zeroed (verdict r) _ (r .retarded) v) (read-left r (g r) (r .retarded) (sizes 0 (r .points) r v .1) t u (omega arith) hu a b ha hb ∙ reads .above r t u a b less)
 
   pub meets : Demand3 solver

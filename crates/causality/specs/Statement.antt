@@ -1,5 +1,5 @@
 -- Document 01, "Words of demand 3": no later data reaches an earlier row.
-use Rattle.lists.specs.Prelude.{_≡_, List, ℕ, _≤_, _<_, Float}
+use Rattle.lists.specs.Prelude.{_≡_, true, List, ℕ, _≤_, _<_, Float}
 use Rattle.complex.specs.declared.Complex.{Complex}
 use Rattle.complex.specs.Arithmetic.{czero}
 use Rattle.refusal.specs.declared.Verdict.the-variants.{Pass}
@@ -9,8 +9,7 @@ use Rattle.block.specs.Agreement.{Agree}
 use Rattle.grid.specs.Agreement.{AgreeTo}
 use Rattle.two_time.specs.Layout.{TwoTime, readAs}
 use Rattle.dyson.specs.Calls.{Solved}
-use Rattle.transient_run.specs.declared.Solved.the-variants.{Accepted}
-use Rattle.transient_run.specs.Calls.{Run, Outcome}
+use Rattle.transient_run.specs.Calls.{Run, Outcome, isAccepted}
 use Rattle.observables.specs.Calls.{particleNumber, oneBodyExpectation, bondFlowInto}
 
 -- whatever answers runs
@@ -23,8 +22,8 @@ abbrev pub of : Run → List Float → TwoTime
 of r xs = readAs (r .capacity) (r .orbitals) xs
 
 -- Two runs of equal n agree in bits up to index k: in times to k, in both retarded inputs on and below the diagonal in rows to k, and in the
--- lesser self-energy with both indices to k. All else is free: the tolerance, the point counts and capacities, numbers past k or above the diagonal, the
--- room beyond the points, and what outputs and scratch held.
+-- lesser self-energy with both indices to k. All else is free: the session, the tolerance, the point counts and capacities, numbers past k or
+-- above the diagonal, the room beyond the points, and what outputs and scratch held.
 pub record SameTo (k : ℕ) (r r' : Run) : Type 0 where
   pub orbitals : r .orbitals ≡ r' .orbitals
   pub times : AgreeTo k (r .times) (r' .times)
@@ -68,9 +67,9 @@ pub record Comparable (k : ℕ) (r r' : Run) (yes yes' : Type 0) : Type 0 where
 
 -- demand 3 of two runs, given as r and r', that answered and left o and o'
 pub record Demanded (r r' : Run) (o o' : Outcome) : Type 0 where
-  pub blind : (k : ℕ) → Comparable k r r' (o .answer ≡ Accepted) (o' .answer ≡ Accepted) → SameRows k r r' o o'
-  pub above : o .answer ≡ Accepted → ZeroAbove r (o .retarded)
-  pub above' : o' .answer ≡ Accepted → ZeroAbove r' (o' .retarded)
+  pub blind : (k : ℕ) → Comparable k r r' (isAccepted (o .answer) ≡ true) (isAccepted (o' .answer) ≡ true) → SameRows k r r' o o'
+  pub above : isAccepted (o .answer) ≡ true → ZeroAbove r (o .retarded)
+  pub above' : isAccepted (o' .answer) ≡ true → ZeroAbove r' (o' .retarded)
 
 -- demand 3 of a solver: of any two of its runs
 abbrev pub Demand3 : Solver → Type 0

@@ -1,5 +1,5 @@
 -- Laws of questions in order: when all were answered yes, when two calls get the same answer, and what is measured after them. Assumes nothing.
-use Rattle.lists.specs.Prelude.{_≡_, refl, ap, _∙_, Bool, true, false, ℕ, zero, suc, _<_, le-refl, arith, Float}
+use Rattle.lists.specs.Prelude.{_≡_, refl, sym, ap, _∙_, Bool, true, false, ℕ, zero, suc, _<_, le-refl, arith, Float}
 use Rattle.refusal.specs.declared.Refusal.{Refusal}
 use Rattle.refusal.specs.declared.Verdict.{Verdict}
 use Rattle.refusal.specs.declared.Verdict.the-variants.{Pass, Refused}
@@ -70,3 +70,9 @@ measured-yes p e = rw (p, e)
 pub measured-no : {v : Verdict} {r : Refusal} (x : Float) → v ≡ Refused r → Unmeasured r ≡ measured v x
 unfolding measured
 measured-no x p = rw p
+
+-- two tests of which each is passed where the other is
+pub same-test : (x y : Bool) → (x ≡ true → y ≡ true) → (y ≡ true → x ≡ true) → x ≡ y
+same-test true y f g = sym (f refl)
+same-test false true f g = g refl
+same-test false false f g = refl

@@ -27,7 +27,7 @@ pub(crate) fn begin(word: u64) -> Head {
 
 // Whether a function has a capacity of its own, the next word after its slices.
 fn in_capacity(function: u64) -> bool {
-    (function >= 36) & (function <= 41)
+    (function >= 36) & (function <= 43)
 }
 
 // The points and orbitals of a call; a function without a capacity is laid out for its points.

@@ -8,6 +8,8 @@ use refusal::Decision;
 use refusal::Measured;
 use refusal::Refusal;
 use refusal::Verdict;
+use transient_run::Booked;
+use transient_run::Solved;
 
 pub(crate) fn text(bytes: &[u8]) {
     io::write_all(STDOUT_FILENO, bytes);
@@ -17,9 +19,13 @@ pub(crate) fn begin(index: u64) {
     io::print_decimal(STDOUT_FILENO, index);
 }
 
-fn whole(n: usize) {
+fn decimal(n: u64) {
     text(b" ");
-    io::print_decimal(STDOUT_FILENO, n as u64);
+    io::print_decimal(STDOUT_FILENO, n);
+}
+
+fn whole(n: usize) {
+    decimal(n as u64);
 }
 
 // A NaN's bits are free, so it has none.
@@ -61,6 +67,23 @@ pub(crate) fn verdict(v: Verdict) {
     match v {
         Verdict::Pass => text(b" accepted"),
         Verdict::Refused(r) => refused(r),
+    }
+}
+
+// The answer of a run or an append; with the count that an accepted one carries and the counter after any, if they are told.
+pub(crate) fn booked(told: bool, booked: Booked) {
+    let answer = booked.answer;
+    match answer {
+        Solved::Accepted(count) => {
+            text(b" accepted");
+            if told {
+                decimal(count);
+            }
+        }
+        Solved::Refused(r) => refused(r),
+    }
+    if told {
+        decimal(booked.session.products);
     }
 }
 

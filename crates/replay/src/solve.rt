@@ -1,6 +1,7 @@
-// Functions 0, 1, 3 to 5, 12, 36 and 37, which leave functions: the convolutions, the Dyson equation, the transient run, the Langreth product and, in a
-// capacity, the run and the append. Times, the operands; then the length of each of four outputs, 0 for those that the function has not. 36 and 37 have
-// their capacity there, and what their outputs hold before in four more slices.
+// Functions 0, 1, 3 to 5, 12, 36, 37, 42 and 43, which leave functions: the convolutions, the Dyson equation, the transient run, the Langreth product and,
+// in a capacity, the run and the append, 42 and 43 in a session. Times, the operands; then the length of each of four outputs, 0 for those that the
+// function has not. 36, 37, 42 and 43 have their capacity there, the latter two their session's counter after it, and what their outputs hold before
+// stands in four more slices.
 use crate::lent::Head;
 use crate::lent::Places;
 use crate::lent::output_of;
@@ -61,6 +62,7 @@ fn product(
     )
 }
 
+// The call, and its answer as text.
 fn with_outputs(
     head: Head,
     shape: Shape,
@@ -70,12 +72,15 @@ fn with_outputs(
     b: &mut [f64],
     c: &mut [f64],
     d: &mut [f64],
-) -> Verdict {
+) {
     let function = head.function;
     match function {
-        5 | 36 | 37 => transient::call(head, shape, numbers, at, a, b, c, d),
-        12 => product(head, numbers, at, a, b, c, d),
-        _ => of_two(head, numbers, at, a, b),
+        5 | 36 | 37 | 42 | 43 => show::booked(
+            transient::in_session(function),
+            transient::call(head, shape, numbers, at, a, b, c, d),
+        ),
+        12 => show::verdict(product(head, numbers, at, a, b, c, d)),
+        _ => show::verdict(of_two(head, numbers, at, a, b)),
     }
 }
 
@@ -98,6 +103,6 @@ pub(crate) fn call(head: Head, numbers: &[f64], at: &Places) {
     let b = output_of(function, part(numbers, at, 5), &mut second);
     let c = output_of(function, part(numbers, at, 6), &mut third);
     let d = output_of(function, part(numbers, at, 7), &mut fourth);
-    show::verdict(with_outputs(head, shape, numbers, at, a, b, c, d));
+    with_outputs(head, shape, numbers, at, a, b, c, d);
     print_outputs(head.made, a, b, c, d);
 }

@@ -1,18 +1,25 @@
-// Functions 5, 36 and 37: the transient run, and in a capacity the run and the append of a point.
+// Functions 5, 36, 37, 42 and 43: the transient run, and in a capacity the run and the append of a point, in a session that is opened at 0, and in one
+// whose counter is the next word.
 use crate::lent::Head;
 use crate::lent::Places;
 use crate::lent::part;
-use refusal::Verdict;
-use transient_run::Solved;
+use crate::words;
+use transient_run::Booked;
+use transient_run::Session;
 use transient_run::append_point;
 use transient_run::transient_run;
 use two_time::capacity::Shape;
 
-fn solved(answer: Solved) -> Verdict {
-    match answer {
-        Solved::Accepted => Verdict::Pass,
-        Solved::Refused(r) => Verdict::Refused(r),
+// Whether a function is told its session's counter.
+pub(crate) fn in_session(function: u64) -> bool {
+    function >= 42
+}
+
+fn session(function: u64) -> Session {
+    if in_session(function) {
+        return Session::open(words::whole() as u64);
     }
+    Session::open(0)
 }
 
 // Free, both self-energies; G^R, G^<, K and X.
@@ -25,8 +32,9 @@ fn run(
     b: &mut [f64],
     c: &mut [f64],
     d: &mut [f64],
-) -> Verdict {
-    solved(transient_run(
+) -> Booked {
+    transient_run(
+        session(head.function),
         part(numbers, at, 0),
         part(numbers, at, 1),
         part(numbers, at, 2),
@@ -37,7 +45,7 @@ fn run(
         b,
         c,
         d,
-    ))
+    )
 }
 
 // The same slices; the points are those before the append.
@@ -50,8 +58,9 @@ fn append(
     b: &mut [f64],
     c: &mut [f64],
     d: &mut [f64],
-) -> Verdict {
-    solved(append_point(
+) -> Booked {
+    append_point(
+        session(head.function),
         part(numbers, at, 0),
         part(numbers, at, 1),
         part(numbers, at, 2),
@@ -62,7 +71,7 @@ fn append(
         b,
         c,
         d,
-    ))
+    )
 }
 
 pub(crate) fn call(
@@ -74,10 +83,10 @@ pub(crate) fn call(
     b: &mut [f64],
     c: &mut [f64],
     d: &mut [f64],
-) -> Verdict {
+) -> Booked {
     let function = head.function;
     match function {
-        37 => append(head, shape, numbers, at, a, b, c, d),
+        37 | 43 => append(head, shape, numbers, at, a, b, c, d),
         _ => run(head, shape, numbers, at, a, b, c, d),
     }
 }

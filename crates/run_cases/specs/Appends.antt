@@ -20,6 +20,7 @@ held x = x ∷ floats (0 ∷ 0x401c000000000000 ∷ 0x401c000000000000 ∷ 0x401
 abbrev onto : ℕ → ℕ → Float → Float → Float → Float → Run
 onto points capacity g l k x =
     record {
+      counter = 0;
       points = points;
       capacity = capacity;
       orbitals = 1;
@@ -70,7 +71,7 @@ abbrev nanAt : ℕ → List Float
 nanAt i = replicate i plusZero ++ nan ∷ replicate (17 - i) plusZero
 
 abbrev ontoTwo : List Float → List Float → List Float → List Float → Run
-ontoTwo = runOf (record { points = 2; capacity = 3; orbitals = 1 }) one P12.times P12.lower P12.lower P12.imaginary
+ontoTwo = runOf (record { products = 0 }) (record { points = 2; capacity = 3; orbitals = 1 }) one P12.times P12.lower P12.lower P12.imaginary
 
 abbrev zeros : List Float
 zeros = replicate 18 plusZero

@@ -21,7 +21,7 @@ runText points orbitals tolerance lesser =
 
 -- the text of a run's answer, with the lesser function that it left
 unfoldable pub solvedText : ℕ → ℕ → Float → Solved → List Float → List ℕ
-solvedText points orbitals tolerance Accepted lesser = runText points orbitals tolerance lesser
+solvedText points orbitals tolerance (Accepted count) lesser = runText points orbitals tolerance lesser
 solvedText points orbitals tolerance (NotSolved r) lesser = refusedText (r .number)
 
 -- of a run whose capacity is N

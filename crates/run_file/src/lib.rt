@@ -22,6 +22,7 @@ use refusal::Verdict;
 use text::refused_line;
 use text::run_line;
 use text::time_line;
+use transient_run::Session;
 use transient_run::Solved;
 use transient_run::transient_run;
 use two_time::capacity::Shape;
@@ -59,13 +60,14 @@ fn answer_text(
     ensures { λ r. ⌜ Appended (now (out .entry)) (now (out .exit)) 0 r (solvedText points orbitals defaultTolerance solved (now (lesser .entry))) ⌝ }
 {
     match solved {
-        Solved::Accepted => run_text(points, orbitals, lesser, out),
+        Solved::Accepted(_) => run_text(points, orbitals, lesser, out),
         Solved::Refused(r) => refused_line(out, 0, r.number),
     }
 }
 
 // The text of a run, with slices for its outputs and scratch.
 fn solve(
+    session: Session,
     times: &[f64],
     free: &[f64],
     self_energy: &[f64],
@@ -79,7 +81,7 @@ fn solve(
     out: &mut [u8],
 ) -> usize
     requires { ⌜ (points ≤ 16) × (orbitals ≤ 16) × (512 ≤ length (now out)) ⌝ }
-    ensures { λ r. ⌜ Appended (now (out .entry)) (now (out .exit)) 0 r (runAnswer (runOf (shapeOf points orbitals) defaultTolerance (now (times .entry)) (now (free .entry)) (now («self_energy» .entry)) (now («lesser_self_energy» .entry))
+    ensures { λ r. ⌜ Appended (now (out .entry)) (now (out .exit)) 0 r (runAnswer (runOf session (shapeOf points orbitals) defaultTolerance (now (times .entry)) (now (free .entry)) (now («self_energy» .entry)) (now («lesser_self_energy» .entry))
         (now (retarded .entry)) (now (lesser .entry)) (now (kernel .entry)) (now («lesser_advanced» .entry)))) ⌝ }
 {
     let shape = Shape {
@@ -87,7 +89,8 @@ fn solve(
         capacity: points,
         orbitals,
     };
-    let solved = transient_run(
+    let booked = transient_run(
+        session,
         times,
         free,
         self_energy,
@@ -99,10 +102,11 @@ fn solve(
         kernel,
         lesser_advanced,
     );
+    let solved = booked.answer;
     answer_text(points, orbitals, solved, lesser, out)
 }
 
-// The text of a file's run, with slices for its four bodies: times, free, retarded self-energy, Σ^<.
+// The text of a file's run, in a session opened at 0, with slices for its four bodies: times, free, retarded self-energy, Σ^<.
 fn decoded(
     bytes: &[u8],
     points: usize,
@@ -129,6 +133,7 @@ fn decoded(
     let mut kernel = [0.0; 512];
     let mut lesser_advanced = [0.0; 512];
     solve(
+        Session::open(0),
         times,
         free,
         self_energy,

@@ -1,9 +1,10 @@
--- Document 01, transient: the outcome of a transient run, "The device starts empty."; document 02, L1: in slices laid out for a capacity, and of an append.
-use Rattle.lists.specs.Prelude.{ℕ, suc, Bool, _&&_, List, [], _∷_, eqb, length, Float}
+-- Document 01, transient: the outcome of a transient run, "The device starts empty."; document 02, L1: in slices
+-- laid out for a capacity, and of an append; L3: with the count of its products, in a session.
+use Rattle.lists.specs.Prelude.{ℕ, suc, _+_, Bool, true, false, _&&_, List, [], _∷_, eqb, length, Float}
 use Rattle.refusal.specs.declared.Verdict.{Verdict}
 use Rattle.refusal.specs.declared.Verdict.the-variants.{Pass, Refused}
 use Rattle.refusal.specs.Verdict.{_then_, zeroed, afterwards}
-use Rattle.refusal.specs.Checks.{finiteWork}
+use Rattle.refusal.specs.Checks.{finiteWork, counterHolds}
 use Rattle.grid.specs.Calls.{gridChecks}
 use Rattle.two_time.specs.declared.capacity.Shape.{Shape}
 use Rattle.two_time.specs.declared.sums.Sums.the-variants.{LesserAdvanced, Lesser}
@@ -13,10 +14,13 @@ use Rattle.two_time.specs.Sums.{newNumbers, newFinite}
 use Rattle.two_time.specs.Calls.{capacityChecks, pointOperands}
 use Rattle.dyson.specs.Calls.{supportChecks, newKernel, newGreen, solvedNewFinite}
 use Rattle.transient_run.specs.declared.Solved.{Solved}
+use Rattle.transient_run.specs.declared.Session.{Session}
 use Rattle.transient_run.specs.declared.Solved.the-variants.{Accepted, Refused as NotSolved}
+use Rattle.transient_run.specs.Products.{formed}
 
--- What a call is given: how many points it is told, the capacity, "Operands: free, retarded self-energy, Σ^<", and what its outputs and scratch hold before
+-- What a call is given: the counter of its session, how many points it is told, the capacity, "Operands: free, retarded self-energy, Σ^<", and what its outputs and scratch hold before
 pub record Run : Type 0 where
+  pub counter : ℕ
   pub points : ℕ
   pub capacity : ℕ
   pub orbitals : ℕ
@@ -31,9 +35,10 @@ pub record Run : Type 0 where
   pub lesserAdvanced : List Float
 
 -- the run of a call
-abbrev pub runOf : Shape → Float → List Float → List Float → List Float → List Float → List Float → List Float → List Float → List Float → Run
-runOf shape tolerance times free selfEnergy lesserSelfEnergy retarded lesser kernel lesserAdvanced =
+abbrev pub runOf : Session → Shape → Float → List Float → List Float → List Float → List Float → List Float → List Float → List Float → List Float → Run
+runOf session shape tolerance times free selfEnergy lesserSelfEnergy retarded lesser kernel lesserAdvanced =
     record {
+      counter = session .products;
       points = shape .points;
       capacity = shape .capacity;
       orbitals = shape .orbitals;
@@ -56,14 +61,25 @@ pub record Outcome : Type 0 where
   pub kernel : List Float
   pub lesserAdvanced : List Float
 
-unfoldable pub solved : Verdict → Solved
-solved Pass = Accepted
-solved (Refused r) = NotSolved r
+-- "An accepted transient run carries the count it formed"
+unfoldable pub solved : Verdict → ℕ → Solved
+solved Pass count = Accepted count
+solved (Refused r) count = NotSolved r
+
+-- accepted, with whatever count
+unfoldable pub isAccepted : Solved → Bool
+isAccepted (Accepted count) = true
+isAccepted (NotSolved r) = false
 
 -- the refusal's number of a run's answer; 0 where it is accepted
 unfoldable pub solvedNumber : Solved → ℕ
-solvedNumber Accepted = 0
+solvedNumber (Accepted count) = 0
 solvedNumber (NotSolved r) = r .number
+
+-- "and a session adds it to one 64-bit counter ... A refused run adds nothing"
+unfoldable pub booked : Session → Solved → Session
+booked session (Accepted count) = record { products = session .products + count }
+booked session (NotSolved r) = session
 
 -- A call that works out the places whose larger index is at least `old` and below `points`. Document 02, L1: "Old entries of K, G^R, X and G^< are read
 -- as the buffers hold them, whatever that is, and stay": each of the four is made of what stands in the slices before it.
@@ -87,13 +103,14 @@ module _ (old points : ℕ) (r : Run) where
       && (newFinite LesserAdvanced (r .capacity) (r .orbitals) old points (r .times) (r .lesserSelfEnergy) retardedMade
       && newFinite Lesser (r .capacity) (r .orbitals) old points (r .times) retardedMade lesserAdvancedMade)
 
-  -- checks 1, 2, 3 and 16; "Lines 4 to 9 are asked over all points": 4 to 7, then as Dyson asks: 8, 9 for free, 9 for the retarded self-energy
+  -- checks 1, 2, 3 and 16; "Lines 4 to 9 are asked over all points": 4 to 7, then as Dyson asks: 8, 9 for free, 9 for the retarded self-energy; then 17
   unfoldable pub checksOf : Verdict
   checksOf =
       capacityChecks (r .capacity) points (r .orbitals) (eqb (length (r .times)) (r .capacity))
       (r .free ∷ r .selfEnergy ∷ r .lesserSelfEnergy ∷ r .retarded ∷ r .lesser ∷ r .kernel ∷ r .lesserAdvanced ∷ [])
       then gridChecks points (r .times) then pointOperands (r .capacity) points (r .orbitals) 0 (r .free ∷ r .selfEnergy ∷ r .lesserSelfEnergy ∷ [])
       then supportChecks points (r .orbitals) (r .tolerance) (readAs (r .capacity) (r .orbitals) (r .free)) (readAs (r .capacity) (r .orbitals) (r .selfEnergy))
+      then counterHolds (r .counter) (formed old points)
 
   -- and 10
   unfoldable pub verdictOf : Verdict
@@ -103,7 +120,7 @@ module _ (old points : ℕ) (r : Run) where
   unfoldable pub worked : (List Float → List Float) → Outcome
   worked cleared =
       record {
-        answer = solved verdictOf;
+        answer = solved verdictOf (formed old points);
         retarded = afterwards cleared verdictOf retardedMade (r .retarded);
         lesser = afterwards cleared verdictOf lesserMade (r .lesser);
         kernel = afterwards cleared verdictOf kernelMade (r .kernel);

@@ -1,34 +1,43 @@
 -- The checks of a call as the code makes them, what it says that they pass, and what an answer says of the verdict. Assumes nothing.
-use Rattle.lists.specs.Prelude.{_≡_, refl, sym, ap, _∙_, true, List, [], _∷_, ℕ, suc, _≤_, arith, eqb, length, Float}
+use Rattle.lists.specs.Prelude.{_≡_, refl, sym, ap, _∙_, ⊎-elim, Bool, true, List, [], _∷_, ℕ, suc, _+_, _≤_, _<_, min, min-eq-left, min-eq-right, le-trans, le-refl, decLt, arith, add-one, leb-true, eqb, length, Float}
 use Rattle.refusal.specs.declared.Refusal.{Refusal}
 use Rattle.refusal.specs.declared.Verdict.{Verdict}
 use Rattle.refusal.specs.declared.Verdict.the-variants.{Pass, Refused}
-use Rattle.refusal.specs.Verdict.{_then_}
-use Rattle.refusal.specs.Agreement.{then-pass, then-after, then-refused}
-use Rattle.refusal.specs.Unchanged.{Keeping, then-keeping}
+use Rattle.refusal.specs.Verdict.{by, ask, _then_, afterwards}
+use Rattle.refusal.specs.Checks.{counterHolds}
+use Rattle.refusal.specs.Agreement.{ask-pass, then-pass, then-after, then-refused}
+use Rattle.refusal.specs.Unchanged.{Keeping, ask-keeping, then-keeping}
 use Rattle.grid.specs.Calls.{gridChecks}
 use Rattle.support.specs.Support.{checkInputs}
 use Rattle.two_time.specs.Layout.{readAs}
+use Rattle.two_time.specs.New.{clearedNew}
 use Rattle.two_time.specs.Calls.{capacityChecks, pointOperands, pointChecks}
-use Rattle.two_time.specs.SizeChecks.{SizesPassed}
+use Rattle.two_time.specs.SizeChecks.{SizesPassed, limited}
 use Rattle.two_time.specs.Checks.{times-keeping}
 use Rattle.two_time.specs.Lengths.{lengths, others-asked, none-asked, also-asked}
 use Rattle.two_time.specs.CapacityChecks.{capacity-passed, capacity-pass, capacity-keeping, operands-of-points-keeping, points-asked, points-last, points-more}
 use Rattle.dyson.specs.Calls.{supportChecks}
 use Rattle.dyson.specs.Checks.{support-keeping}
+use Rattle.transient_run.specs.Products.{formed}
 use Rattle.transient_run.specs.declared.Solved.the-variants.{Accepted, Refused as NotSolved}
-use Rattle.transient_run.specs.Calls.{Run, solved, checksOf}
+use Rattle.transient_run.specs.Calls.{Run, Outcome, solved, isAccepted, kernelMade, retardedMade, lesserAdvancedMade, lesserMade, madeFinite, checksOf, verdictOf, worked, appendPoint}
 
 -- the verdict of a call, by its answer
-pub accepted : (v : Verdict) → solved v ≡ Accepted → v ≡ Pass
-unfolding solved
-accepted Pass e = refl
-accepted (Refused r) e = absurd (let z : _≡_ {A = ℕ} 0 1 = cc in omega arith)
+pub accepted : (v : Verdict) (count : ℕ) → isAccepted (solved v count) ≡ true → v ≡ Pass
+unfolding solved isAccepted
+accepted Pass count e = refl
+accepted (Refused r) count e = absurd (let z : _≡_ {A = ℕ} 0 1 = cc in omega arith)
 
-pub refused : (v : Verdict) (x : Refusal) → solved v ≡ NotSolved x → v ≡ Refused x
+-- accepted with a count, which is that of the products formed
+pub accepted-with : (v : Verdict) (k count : ℕ) → solved v count ≡ Accepted k → (v ≡ Pass) × (k ≡ count)
 unfolding solved
-refused Pass x e = absurd (let z : _≡_ {A = ℕ} 0 1 = cc in omega arith)
-refused (Refused y) x e = let same : y ≡ x = cc in ap Refused same
+accepted-with Pass k count e = (refl, cc)
+accepted-with (Refused r) k count e = absurd (let z : _≡_ {A = ℕ} 0 1 = cc in omega arith)
+
+pub refused : (v : Verdict) (x : Refusal) (count : ℕ) → solved v count ≡ NotSolved x → v ≡ Refused x
+unfolding solved
+refused Pass x count e = absurd (let z : _≡_ {A = ℕ} 0 1 = cc in omega arith)
+refused (Refused y) x count e = let same : y ≡ x = cc in ap Refused same
 
 module _ (points : ℕ) (r : Run) where
   abbrev operands : List (List Float)
@@ -49,10 +58,11 @@ module _ (points : ℕ) (r : Run) where
 
   module _ (old : ℕ) where
     pub checks-keeping : Keeping (checksOf old points r)
-    unfolding checksOf
+    unfolding checksOf counterHolds
     checks-keeping =
         then-keeping (capacity-keeping (r .capacity) points (r .orbitals) _ slices)
-        (then-keeping (times-keeping _ (r .orbitals) (r .times)) (then-keeping (operands-of-points-keeping (r .capacity) points (r .orbitals) 0 operands) (support-keeping points (r .orbitals) (r .tolerance) _ _)))
+        (then-keeping (times-keeping _ (r .orbitals) (r .times)) (then-keeping (operands-of-points-keeping (r .capacity) points (r .orbitals) 0 operands)
+        (then-keeping (support-keeping points (r .orbitals) (r .tolerance) _ _) (ask-keeping _ _ refl))))
 
     pub checks-passed : checksOf old points r ≡ Pass → (2 ≤ points) × (points ≤ r .capacity) × SizesPassed (r .capacity) (r .orbitals) true slices
     unfolding checksOf
@@ -64,13 +74,14 @@ module _ (points : ℕ) (r : Run) where
     sizes-refused e h = h ∙ sym (then-refused sizesAsked _ _ (sym e ∙ h))
 
     -- with its sizes passed; of each operand the code asks them again, which changes nothing
-    module _ {sizes : Verdict} (asked : sizes ≡ sizesAsked) (passed : sizes ≡ Pass) {grid first second third later entries support rest all : Verdict} where
+    module _ {sizes : Verdict} (asked : sizes ≡ sizesAsked) (passed : sizes ≡ Pass) {grid first second third later entries support holds last rest all : Verdict} where
       pub checks-asked : grid ≡ gridChecks points (r .times)
           → first ≡ pointChecks (r .capacity) points (r .orbitals) 0 (r .free) → second ≡ pointChecks (r .capacity) points (r .orbitals) 1 (r .selfEnergy) → third ≡ pointChecks (r .capacity) points (r .orbitals) 2 (r .lesserSelfEnergy)
           → support ≡ checkInputs (r .capacity) points (r .orbitals) (r .free) (r .selfEnergy) (r .tolerance)
-          → later ≡ (second then third) → entries ≡ (first then later) → rest ≡ (entries then support) → all ≡ (grid then rest) → all ≡ checksOf old points r
+          → holds ≡ counterHolds (r .counter) (formed old points) → later ≡ (second then third) → entries ≡ (first then later) → last ≡ (support then holds) → rest ≡ (entries then last) → all ≡ (grid then rest)
+          → all ≡ checksOf old points r
       unfolding checksOf checkInputs
-      checks-asked g a b c s el ee er e =
+      checks-asked g a b c s h el ee es er e =
           let z = sizes-said (sym asked ∙ passed) in
           let l = lengths (z .2) in
           let none = none-asked (z .2) in
@@ -78,4 +89,9 @@ module _ (points : ℕ) (r : Run) where
           (points-more (r .capacity) points (r .orbitals) 1 (r .selfEnergy) (r .lesserSelfEnergy ∷ []) _ _ _ (points-asked (r .capacity) points (r .orbitals) (z .0) (z .1) 1 (also-asked (l .1 .0) none) b)
           (points-last (r .capacity) points (r .orbitals) 2 (r .lesserSelfEnergy) _ (points-asked (r .capacity) points (r .orbitals) (z .0) (z .1) 2 (also-asked (l .1 .1 .0) none) c)) el) ee in
           let support-is : support ≡ supportAsked = s ∙ then-after _ _ (capacity-pass (z .0) (z .1) (also-asked (l .0) (also-asked (l .1 .0) none))) in
-          e ∙ rw (g, er, operands-are, support-is) (sym (then-after sizesAsked _ (sym asked ∙ passed)))
+          e ∙ rw (g, er, es, operands-are, support-is, h) (sym (then-after sizesAsked _ (sym asked ∙ passed)))
+
+  -- the counter of a call that passes holds its count
+  pub counter-room : (old : ℕ) → checksOf old points r ≡ Pass → r .counter + formed old points ≤ 0xffff_ffff_ffff_ffff
+  unfolding checksOf counterHolds
+  counter-room old h = leb-true _ _ (ask-pass _ (by 17) (then-pass _ _ (then-pass _ _ (then-pass _ _ (then-pass sizesAsked _ h .1) .1) .1) .1))

@@ -1,11 +1,12 @@
 -- P12 of document 01, made stage by stage: each stage is computed from what the stage before it left. Assumes nothing.
 use Rattle.lists.specs.Prelude.{_≡_, refl, ap, _∙_, true, List, [], _∷_, ℕ, length, Float}
-use Rattle.refusal.specs.declared.Verdict.the-variants.{Pass}
-use Rattle.refusal.specs.Verdict.{ask, _then_, afterwards}
-use Rattle.refusal.specs.Checks.{finiteWork, withinCapacity}
+use Rattle.refusal.specs.declared.Verdict.the-variants.{Pass, Refused}
+use Rattle.refusal.specs.Verdict.{by, ask, _then_, afterwards}
+use Rattle.refusal.specs.Checks.{finiteWork, withinCapacity, counterHolds}
 use Rattle.grid.specs.Calls.{gridChecks}
 use Rattle.two_time.specs.declared.sums.Sums.the-variants.{Causal, LesserAdvanced, Lesser}
 use Rattle.two_time.specs.Layout.{readAs}
+use Rattle.two_time.specs.New.{isNew}
 use Rattle.two_time.specs.Sums.{sumsNumbers, sumsFinite}
 use Rattle.two_time.specs.Sums.{newNumbers}
 use Rattle.two_time.specs.Calls.{capacityChecks, pointEntries, pointOperands}
@@ -15,7 +16,9 @@ use Rattle.two_time.specs.Example.{floats}
 use Rattle.dyson.specs.Retarded.{solve, retardedOnward, retardedNumbers, retardedFinite}
 use Rattle.dyson.specs.Calls.{supportChecks, newGreen, solvedFinite}
 use Rattle.dyson.specs.NewSolved.{finite-all, green-all}
-use Rattle.transient_run.specs.declared.Solved.the-variants.{Accepted}
+use Rattle.transient_run.specs.declared.Session.{Session}
+use Rattle.transient_run.specs.declared.Solved.the-variants.{Accepted, Refused as NotSolved}
+use Rattle.transient_run.specs.Products.{total, formed}
 use Rattle.transient_run.specs.Calls.{Run, runOf, solved, madeFinite, checksOf, verdictOf, worked, transientRun}
 
 -- 0, 1, 2
@@ -93,9 +96,12 @@ lesser-finite : sumsFinite Lesser 3 1 times (floats retardedBits) (floats lesser
 unfolding computation
 lesser-finite = refl
 
--- the run, with outputs and scratch that hold `before`
+-- the run in a session, with outputs and scratch that hold `before`; in one opened at 0
+abbrev pub runIn : Session → Float → List Float → Run
+runIn session tolerance before = runOf session (record { points = 3; capacity = 3; orbitals = 1 }) tolerance times lower lower imaginary before before before before
+
 abbrev pub run : Float → List Float → Run
-run tolerance before = runOf (record { points = 3; capacity = 3; orbitals = 1 }) tolerance times lower lower imaginary before before before before
+run = runIn (record { products = 0 })
 
 sizes : (before : List Float) → length before ≡ 18 → capacityChecks 3 3 1 true (lower ∷ lower ∷ imaginary ∷ before ∷ before ∷ before ∷ before ∷ []) ≡ Pass
 unfolding computation capacityChecks withinCapacity
@@ -104,6 +110,11 @@ sizes before h = rw h
 inputs : (gridChecks 3 times ≡ Pass) × (pointOperands 3 3 1 0 (lower ∷ lower ∷ imaginary ∷ []) ≡ Pass)
 unfolding computation pointOperands pointEntries
 inputs = (refl, refl)
+
+-- "N(N+1)(2N+1)/6 + N·N·(N+1) − 3N" at three points, which a session opened at 0 holds
+counted : (formed 0 3 ≡ 41) × (counterHolds 0 (formed 0 3) ≡ Pass)
+unfolding computation counterHolds formed total isNew
+counted = (refl, refl)
 
 module _ (tolerance : Float) (before : List Float) (long : length before ≡ 18) (passed : supportChecks 3 1 tolerance (readAs 3 1 lower) (readAs 3 1 lower) ≡ Pass) where
   -- all places of slices laid out for the points
@@ -119,18 +130,31 @@ module _ (tolerance : Float) (before : List Float) (long : length before ≡ 18)
   lesser-made : newNumbers Lesser 3 1 0 3 times (floats retardedBits) (floats lesserAdvancedBits) before ≡ floats lesserBits
   lesser-made = all-numbers Lesser 3 1 times (floats retardedBits) (floats lesserAdvancedBits) before ∙ lesser-stage
 
-  finite : madeFinite 0 3 (run tolerance before) ≡ true
+  finite : (session : Session) → madeFinite 0 3 (runIn session tolerance before) ≡ true
   unfolding madeFinite solvedFinite
-  finite =
+  finite session =
       rw (retarded-made, lesser-advanced-made, finite-all 3 1 times lower lower before before, all-finite LesserAdvanced 3 1 times imaginary (floats retardedBits) before)
       (rw (all-finite Lesser 3 1 times (floats retardedBits) (floats lesserAdvancedBits) before, kernel-finite, kernel-stage, retarded-finite, lesser-advanced-finite, lesser-finite))
 
-  pub verdict : verdictOf 0 3 (run tolerance before) ≡ Pass
+  verdict-in : (session : Session) → counterHolds (session .products) (formed 0 3) ≡ Pass → verdictOf 0 3 (runIn session tolerance before) ≡ Pass
   unfolding verdictOf checksOf _then_ finiteWork ask
-  verdict = rw (finite, sizes before long, inputs .0, inputs .1, passed)
+  verdict-in session room = rw (finite session, sizes before long, inputs .0, inputs .1, passed, room)
 
-  -- "G^<(1,1) = 1.5625i, G^<(2,2) = 14.0625i", whatever tolerance passes checks 8 and 9
-  pub outcome : transientRun (run tolerance before)
-      ≡ record { answer = Accepted; retarded = floats retardedBits; lesser = floats lesserBits; kernel = floats kernelBits; lesserAdvanced = floats lesserAdvancedBits }
+  pub verdict : verdictOf 0 3 (run tolerance before) ≡ Pass
+  verdict = verdict-in (record { products = 0 }) (counted .1)
+
+  -- "G^<(1,1) = 1.5625i, G^<(2,2) = 14.0625i", whatever tolerance passes checks 8 and 9, wherever the counter has room
+  pub outcome-in : (session : Session) → counterHolds (session .products) (formed 0 3) ≡ Pass → transientRun (runIn session tolerance before)
+      ≡ record { answer = Accepted 41; retarded = floats retardedBits; lesser = floats lesserBits; kernel = floats kernelBits; lesserAdvanced = floats lesserAdvancedBits }
   unfolding transientRun worked afterwards solved
-  outcome = rw (verdict, retarded-made, lesser-advanced-made, lesser-made, kernel-made)
+  outcome-in session room = rw (verdict-in session room, counted .0, retarded-made, lesser-advanced-made, lesser-made, kernel-made)
+
+  pub outcome : transientRun (run tolerance before)
+      ≡ record { answer = Accepted 41; retarded = floats retardedBits; lesser = floats lesserBits; kernel = floats kernelBits; lesserAdvanced = floats lesserAdvancedBits }
+  outcome = outcome-in (record { products = 0 }) (counted .1)
+
+  -- and 17 where it has none: every slice is as it was
+  pub full : (session : Session) → counterHolds (session .products) (formed 0 3) ≡ Refused (by 17) → transientRun (runIn session tolerance before)
+      ≡ record { answer = NotSolved (by 17); retarded = before; lesser = before; kernel = before; lesserAdvanced = before }
+  unfolding transientRun worked verdictOf checksOf _then_ afterwards solved
+  full session none = rw (sizes before long, inputs .0, inputs .1, passed, none)

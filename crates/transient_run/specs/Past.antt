@@ -1,16 +1,17 @@
 -- Points past every capacity: an append is refused before its work, and by the same number however many there are. Assumes nothing.
-use Rattle.lists.specs.Prelude.{_≡_, refl, sym, _∙_, Bool, true, false, List, ℕ, suc, _+_, _<_, min, min-eq-left, min-eq-right, decLt, arith, add-one, leb, leb-true, le-leb, Float}
+use Rattle.lists.specs.Prelude.{_≡_, refl, sym, _∙_, Bool, true, false, List, ℕ, suc, _+_, _≤_, _<_, min, min-eq-left, min-eq-right, decLt, arith, add-one, leb, leb-true, le-leb, Float}
 use Rattle.refusal.specs.declared.Refusal.{Refusal}
 use Rattle.refusal.specs.declared.Verdict.{Verdict}
 use Rattle.refusal.specs.declared.Verdict.the-variants.{Pass, Refused}
 use Rattle.refusal.specs.Verdict.{by, ask, _then_, afterwards}
 use Rattle.refusal.specs.Checks.{largeEnough, withinLimits, fitting, withinCapacity}
-use Rattle.refusal.specs.Agreement.{then-agree, then-refused}
+use Rattle.refusal.specs.Agreement.{ask-pass, then-pass, then-agree, then-refused}
 use Rattle.refusal.specs.Unchanged.{keeping-clears}
 use Rattle.two_time.specs.New.{clearedNew}
 use Rattle.two_time.specs.Calls.{capacityChecks}
 use Rattle.two_time.specs.SizeChecks.{limited}
 use Rattle.two_time.specs.CapacityChecks.{capacity-passed, capacity-keeping}
+use Rattle.transient_run.specs.declared.Solved.the-variants.{Refused as NotSolved}
 use Rattle.transient_run.specs.Calls.{Run, Outcome, solved, madeFinite, checksOf, verdictOf, worked, appendPoint}
 use Rattle.transient_run.specs.Checks.{slices, sizesAsked}
 
@@ -22,6 +23,15 @@ past points capacity h = rw (no (leb points capacity) (λ e. let l = leb-true po
     no : (b : Bool) → (b ≡ true → ⊥) → b ≡ false
     no true g = absurd (g refl)
     no false g = refl
+
+-- points within a capacity that is within its limit
+pub sizes-least : (points capacity n : ℕ) (fits : Bool) → (largeEnough points n then withinLimits capacity n then fitting fits then withinCapacity points capacity) ≡ Pass → points ≤ 256
+unfolding withinCapacity
+sizes-least points capacity n fits e =
+    let a = then-pass _ _ (then-pass _ _ e .1) in
+    let most = limited capacity n (a .0) .0 in
+    let within = leb-true points capacity (ask-pass _ (by 16) (then-pass _ _ (a .1) .1)) in
+    omega arith
 
 -- two counts past 256 are alike
 sizes-alike : (capacity p q n : ℕ) (fits : Bool) (slices : List (List Float)) → 256 < p → 256 < q → capacityChecks capacity p n fits slices ≡ capacityChecks capacity q n fits slices
@@ -36,14 +46,15 @@ module _ (old points : ℕ) (r : Run) (clear : List Float → List Float) (x : R
   unfolding verdictOf checksOf
   verdict = then-refused _ _ x (then-refused (sizesAsked points r) _ x refused)
 
-  sizes-worked : worked old points r clear ≡ record { answer = solved (Refused x); retarded = r .retarded; lesser = r .lesser; kernel = r .kernel; lesserAdvanced = r .lesserAdvanced }
-  unfolding worked afterwards
+  sizes-worked : worked old points r clear ≡ record { answer = NotSolved x; retarded = r .retarded; lesser = r .lesser; kernel = r .kernel; lesserAdvanced = r .lesserAdvanced }
+  unfolding worked afterwards solved
   sizes-worked = rw (verdict, keeping-clears (capacity-keeping (r .capacity) points (r .orbitals) _ (slices points r)) x refused)
 
 -- the same call that is told other points
 abbrev pub withPoints : Run → ℕ → Run
 withPoints r k =
     record {
+      counter = r .counter;
       points = k;
       capacity = r .capacity;
       orbitals = r .orbitals;

@@ -1,14 +1,16 @@
-// The transient run of a device that starts empty (document 01, transient), and an append of one time point (document 02, L1): the meaning of the calls is
-// in specs/.
-ghost use Rattle.lists.specs.Prelude.{_≡_, ℕ, _≤_, true, List, [], _∷_, Float};
+// The transient run of a device that starts empty (document 01, transient), and an append of one time point (document 02, L1), each in a session that
+// counts their products (L3): the meaning of the calls is in specs/.
+ghost use Rattle.lists.specs.Prelude.{_≡_, _≤_, min, true, List, [], _∷_, Float};
 ghost use Rattle.two_time.specs.New.{clearedNew};
 ghost use Rattle.two_time.specs.Calls.{allFit};
 ghost use Rattle.two_time.specs.SizeChecks.{SizesPassed};
-ghost use Rattle.transient_run.specs.Calls.{runOf, kernelMade, retardedMade, lesserAdvancedMade, lesserMade, madeFinite, checksOf, worked, transientRun, appendPoint};
+ghost use Rattle.transient_run.specs.Products.{formed, countOf};
+ghost use Rattle.transient_run.specs.Calls.{runOf, booked, kernelMade, retardedMade, lesserAdvancedMade, lesserMade, madeFinite, checksOf, worked, transientRun, appendPoint};
 use dyson::solve_new;
 use grid::check_grid;
 use refusal::Refusal;
 use refusal::Verdict;
+use refusal::checks::counter_holds;
 use refusal::checks::least;
 use sums::new_sums;
 use support::check_retarded_inputs;
@@ -23,22 +25,63 @@ use two_time::sums::Sums;
 
 // The answer of a transient run, or of an append.
 pub enum Solved {
-    Accepted,
+    // With the count of matrix products.
+    Accepted(u64),
     Refused(Refusal),
 }
 
-// Checks 1 to 9 and 16, where `fits` says whether the outputs and the scratch have their length.
+// What counts the products of accepted runs and appends.
+pub struct Session {
+    pub products: u64,
+}
+
+// An answer, and the session after it.
+pub struct Booked {
+    pub answer: Solved,
+    pub session: Session,
+}
+
+impl Session {
+    // A session opened at the total that is carried over.
+    pub fn open(total: u64) -> Session
+        ensures { λ r. ⌜ r ≡ record { products = total } ⌝ }
+    {
+        Session { products: total }
+    }
+}
+
+// How many products a run over the points forms, cut at 256 points: N(N+1)(2N+1)/6 + N·N·(N+1) − 3N.
+fn count_of(points: usize) -> u64
+    ensures { λ r. ⌜ r ≡ countOf (min points 256) ⌝ }
+{
+    let n = least(points, 256) as u64;
+    n * (n + 1) * (2 * n + 1) / 6 + n * n * (n + 1) - 3 * n
+}
+
+// How many products a call forms that works out the places from `old` on.
+fn formed(old: usize, points: usize) -> u64
+    requires { ⌜ (old ≤ points) × (points ≤ 256) ⌝ }
+    ensures { λ r. ⌜ r ≡ formed old points ⌝ }
+{
+    let before = count_of(old);
+    count_of(points) - before
+}
+
+// Checks 1 to 9, 16 and 17, where `fits` says whether the outputs and the scratch have their length.
 fn checks(
+    session: Session,
     times: &[f64],
     free: &[f64],
     self_energy: &[f64],
     lesser_self_energy: &[f64],
     shape: Shape,
+    old: usize,
     tolerance: f64,
     fits: bool,
 ) -> Verdict
-    ensures { λ r. ⌜ ((old : ℕ) (retarded lesser kernel lesserAdvanced : List Float) → fits ≡ allFit (shape .capacity) (shape .orbitals) (retarded ∷ lesser ∷ kernel ∷ lesserAdvanced ∷ [])
-        → r ≡ checksOf old (shape .points) (runOf shape tolerance (now (times .entry)) (now (free .entry)) (now («self_energy» .entry)) (now («lesser_self_energy» .entry)) retarded lesser kernel lesserAdvanced)) ⌝ }
+    requires { ⌜ old ≤ shape .points ⌝ }
+    ensures { λ r. ⌜ ((retarded lesser kernel lesserAdvanced : List Float) → fits ≡ allFit (shape .capacity) (shape .orbitals) (retarded ∷ lesser ∷ kernel ∷ lesserAdvanced ∷ [])
+        → r ≡ checksOf old (shape .points) (runOf session shape tolerance (now (times .entry)) (now (free .entry)) (now («self_energy» .entry)) (now («lesser_self_energy» .entry)) retarded lesser kernel lesserAdvanced)) ⌝ }
 {
     let free_fits = has_length(shape.capacity, shape.orbitals, free);
     let self_energy_fits = has_length(shape.capacity, shape.orbitals, self_energy);
@@ -52,7 +95,8 @@ fn checks(
     let later = second.then(check_points(2, lesser_self_energy, shape));
     let entries = check_points(0, free, shape).then(later);
     let support = check_retarded_inputs(free, self_energy, shape, tolerance);
-    check_grid(times, shape.points).then(entries.then(support))
+    let holds = counter_holds(session.products, formed(old, shape.points));
+    check_grid(times, shape.points).then(entries.then(support.then(holds)))
 }
 
 // K and G^R, then X, then G^<, at the new places, and whether all that is made for them is finite; at the first that is not the work ends. All that it
@@ -71,7 +115,7 @@ fn work(
 ) -> bool
     requires { ⌜ (old ≤ shape .points) × (shape .points ≤ shape .capacity)
         × SizesPassed (shape .capacity) (shape .orbitals) true (now free ∷ now «self_energy» ∷ now «lesser_self_energy» ∷ now retarded ∷ now lesser ∷ now kernel ∷ now «lesser_advanced» ∷ []) ⌝ }
-    ensures { λ r. ⌜ ((tolerance : Float) → let run = runOf shape tolerance (now (times .entry)) (now (free .entry)) (now («self_energy» .entry)) (now («lesser_self_energy» .entry))
+    ensures { λ r. ⌜ ((session : Session) (tolerance : Float) → let run = runOf session shape tolerance (now (times .entry)) (now (free .entry)) (now («self_energy» .entry)) (now («lesser_self_energy» .entry))
         (now (retarded .entry)) (now (lesser .entry)) (now (kernel .entry)) (now («lesser_advanced» .entry)) in
         let cleared = clearedNew (shape .capacity) (shape .orbitals) old (shape .points) in
         (r ≡ madeFinite old (shape .points) run)
@@ -107,6 +151,7 @@ fn work(
 
 // A call that works out the places whose larger index is at least `old` and below the points; 10 leaves +0 there.
 fn solve(
+    session: Session,
     times: &[f64],
     free: &[f64],
     self_energy: &[f64],
@@ -118,11 +163,12 @@ fn solve(
     lesser: &mut [f64],
     kernel: &mut [f64],
     lesser_advanced: &mut [f64],
-) -> Solved
+) -> Booked
     requires { ⌜ old ≤ shape .points ⌝ }
-    ensures { λ r. ⌜ (let made = worked old (shape .points) (runOf shape tolerance (now (times .entry)) (now (free .entry)) (now («self_energy» .entry)) (now («lesser_self_energy» .entry))
+    ensures { λ r. ⌜ (let made = worked old (shape .points) (runOf session shape tolerance (now (times .entry)) (now (free .entry)) (now («self_energy» .entry)) (now («lesser_self_energy» .entry))
         (now (retarded .entry)) (now (lesser .entry)) (now (kernel .entry)) (now («lesser_advanced» .entry))) (clearedNew (shape .capacity) (shape .orbitals) old (shape .points)) in
-        (r ≡ made .answer)
+        (r .answer ≡ made .answer)
+        × (r .session ≡ booked session (made .answer))
         × (now (retarded .exit) ≡ made .retarded)
         × (now (lesser .exit) ≡ made .lesser)
         × (now (kernel .exit) ≡ made .kernel)
@@ -137,16 +183,21 @@ fn solve(
         shape.orbitals,
     );
     let verdict = checks(
+        session,
         times,
         free,
         self_energy,
         lesser_self_energy,
         shape,
+        old,
         tolerance,
         fits,
     );
     match verdict {
-        Verdict::Refused(r) => Solved::Refused(r),
+        Verdict::Refused(r) => Booked {
+            answer: Solved::Refused(r),
+            session,
+        },
         Verdict::Pass => {
             if work(
                 times,
@@ -160,13 +211,21 @@ fn solve(
                 kernel,
                 lesser_advanced,
             ) {
-                return Solved::Accepted;
+                let count = formed(old, shape.points);
+                let products = session.products + count;
+                return Booked {
+                    answer: Solved::Accepted(count),
+                    session: Session { products },
+                };
             }
             clear_new(shape, old, retarded);
             clear_new(shape, old, lesser);
             clear_new(shape, old, kernel);
             clear_new(shape, old, lesser_advanced);
-            Solved::Refused(Refusal::by(10))
+            Booked {
+                answer: Solved::Refused(Refusal::by(10)),
+                session,
+            }
         }
     }
 }
@@ -175,6 +234,7 @@ fn solve(
 // and X in the scratch. G^A is never stored: its blocks are read as adjoints of G^R's. Room beyond the points is left, but for 10, which leaves +0
 // throughout. N(N+1)(2N+1)/6 − N products of blocks for K and G^R and N·N·(N+1) − 2·N for X and G^<.
 pub fn transient_run(
+    session: Session,
     times: &[f64],
     free: &[f64],
     self_energy: &[f64],
@@ -185,16 +245,18 @@ pub fn transient_run(
     lesser: &mut [f64],
     kernel: &mut [f64],
     lesser_advanced: &mut [f64],
-) -> Solved
-    ensures { λ r. ⌜ (let made = transientRun (runOf shape tolerance (now (times .entry)) (now (free .entry)) (now («self_energy» .entry)) (now («lesser_self_energy» .entry))
+) -> Booked
+    ensures { λ r. ⌜ (let made = transientRun (runOf session shape tolerance (now (times .entry)) (now (free .entry)) (now («self_energy» .entry)) (now («lesser_self_energy» .entry))
         (now (retarded .entry)) (now (lesser .entry)) (now (kernel .entry)) (now («lesser_advanced» .entry))) in
-        (r ≡ made .answer)
+        (r .answer ≡ made .answer)
+        × (r .session ≡ booked session (made .answer))
         × (now (retarded .exit) ≡ made .retarded)
         × (now (lesser .exit) ≡ made .lesser)
         × (now (kernel .exit) ≡ made .kernel)
         × (now («lesser_advanced» .exit) ≡ made .lesserAdvanced)) ⌝ }
 {
-    let solved = solve(
+    let booked = solve(
+        session,
         times,
         free,
         self_energy,
@@ -207,8 +269,13 @@ pub fn transient_run(
         kernel,
         lesser_advanced,
     );
-    match solved {
-        Solved::Accepted => Solved::Accepted,
+    let answer = booked.answer;
+    let session = booked.session;
+    match answer {
+        Solved::Accepted(count) => Booked {
+            answer: Solved::Accepted(count),
+            session,
+        },
         Solved::Refused(r) => {
             if r.number == 10 {
                 clear(retarded);
@@ -216,7 +283,10 @@ pub fn transient_run(
                 clear(kernel);
                 clear(lesser_advanced);
             }
-            Solved::Refused(r)
+            Booked {
+                answer: Solved::Refused(r),
+                session,
+            }
         }
     }
 }
@@ -224,6 +294,7 @@ pub fn transient_run(
 // Appends one time point to the points that the shape tells: the new row and column of K, G^R, X and G^< are worked out from what the buffers hold at old
 // places, which stay. 10 leaves +0 at the new row and column. As many products as a run over one point more forms beyond a run over the points.
 pub fn append_point(
+    session: Session,
     times: &[f64],
     free: &[f64],
     self_energy: &[f64],
@@ -234,10 +305,11 @@ pub fn append_point(
     lesser: &mut [f64],
     kernel: &mut [f64],
     lesser_advanced: &mut [f64],
-) -> Solved
-    ensures { λ r. ⌜ (let made = appendPoint (runOf shape tolerance (now (times .entry)) (now (free .entry)) (now («self_energy» .entry)) (now («lesser_self_energy» .entry))
+) -> Booked
+    ensures { λ r. ⌜ (let made = appendPoint (runOf session shape tolerance (now (times .entry)) (now (free .entry)) (now («self_energy» .entry)) (now («lesser_self_energy» .entry))
         (now (retarded .entry)) (now (lesser .entry)) (now (kernel .entry)) (now («lesser_advanced» .entry))) in
-        (r ≡ made .answer)
+        (r .answer ≡ made .answer)
+        × (r .session ≡ booked session (made .answer))
         × (now (retarded .exit) ≡ made .retarded)
         × (now (lesser .exit) ≡ made .lesser)
         × (now (kernel .exit) ≡ made .kernel)
@@ -251,6 +323,7 @@ pub fn append_point(
         orbitals: shape.orbitals,
     };
     solve(
+        session,
         times,
         free,
         self_energy,

@@ -1,47 +1,61 @@
 -- What a run with its observables answers, and demand 3 of two such calls.
-use Rattle.lists.specs.Prelude.{_≡_, List, ℕ, _≤_, Float}
+use Rattle.lists.specs.Prelude.{_≡_, true, List, ℕ, _≤_, Float}
 use Rattle.refusal.specs.declared.Verdict.{Verdict}
 use Rattle.matrix.specs.declared.DenseMatrix.{DenseMatrix}
 use Rattle.dyson.specs.Calls.{Solved as DysonSolved}
-use Rattle.transient_run.specs.declared.Solved.{Solved}
-use Rattle.transient_run.specs.declared.Solved.the-variants.{Accepted}
-use Rattle.transient_run.specs.Calls.{Run, Outcome, transientRun}
+use Rattle.transient_run.specs.declared.Session.{Session}
+use Rattle.transient_run.specs.declared.Booked.{Booked}
+use Rattle.transient_run.specs.Calls.{Run, Outcome, isAccepted, booked, transientRun}
 use Rattle.observables.specs.declared.Observed.{Observed}
 use Rattle.observables.specs.Calls.{particleNumber, oneBodyExpectation, bondFlowInto}
 use Rattle.causality.specs.Statement.{SameBlock, Comparable, Demanded}
 use Rattle.two_runs.specs.declared.Question.{Question}
 use Rattle.two_runs.specs.declared.Answers.{Answers}
 
--- what a run answers and leaves, and what the observables answer of what it left
-pub record Answered : Type 0 where
+-- what a call answers and leaves, and the session after it
+pub record Step : Type 0 where
   pub outcome : Outcome
+  pub session : Session
+
+-- the call in a session, and the run in its own
+abbrev pub stepOf : Session → Outcome → Step
+stepOf session o = record { outcome = o; session = booked session (o .answer) }
+
+abbrev pub runStep : Run → Step
+runStep r = stepOf (record { products = r .counter }) (transientRun r)
+
+-- what a call gave back, and its slices G^R, G^<, K and X
+abbrev pub stepIn : Booked → List Float → List Float → List Float → List Float → Step
+stepIn b retarded lesser kernel lesserAdvanced =
+    record { outcome = record { answer = b .answer; retarded = retarded; lesser = lesser; kernel = kernel; lesserAdvanced = lesserAdvanced }; session = b .session }
+
+-- a run, and what the observables answer of what it left
+pub record Answered : Type 0 where
+  pub ran : Step
   pub number : Observed
   pub expectation : Observed
   pub flow : Observed
 
--- the answers of a run, given as r, that left o: an observable "is asked of a run when it is lent the lesser function as that run left it, with that
+-- the answers of a run, given as r, that ended in s: an observable "is asked of a run when it is lent the lesser function as that run left it, with that
 -- run's N and n", and its capacity
-abbrev pub answersOf : Run → Question → DenseMatrix → Outcome → Answered
-answersOf r q x o =
+abbrev pub answersOf : Run → Question → DenseMatrix → Step → Answered
+answersOf r q x s =
+    let o = s .outcome in
     record {
-      outcome = o;
+      ran = s;
       number = particleNumber (r .capacity) (r .points) (r .orbitals) (o .lesser) (q .time) (q .tolerance);
       expectation = oneBodyExpectation (r .capacity) (r .points) (r .orbitals) (o .lesser) (q .time) x (q .tolerance);
       flow = bondFlowInto (r .capacity) (r .points) (r .orbitals) (o .lesser) (q .time) (q .a) (q .b) (q .hopping) (q .charge);
     }
 
 abbrev pub runAnswers : Run → Question → DenseMatrix → Answered
-runAnswers r q x = answersOf r q x (transientRun r)
+runAnswers r q x = answersOf r q x (runStep r)
 
--- what a call answered, and its slices G^R, G^<, K and X
-abbrev pub outcomeIn : Solved → List Float → List Float → List Float → List Float → Outcome
-outcomeIn answer retarded lesser kernel lesserAdvanced = record { answer = answer; retarded = retarded; lesser = lesser; kernel = kernel; lesserAdvanced = lesserAdvanced }
-
--- the same with the observables' answers
+-- the same in what a call gave back
 abbrev pub answersIn : Answers → List Float → List Float → List Float → List Float → Answered
 answersIn a retarded lesser kernel lesserAdvanced =
     record {
-      outcome = outcomeIn (a .run) retarded lesser kernel lesserAdvanced;
+      ran = stepIn (a .run) retarded lesser kernel lesserAdvanced;
       number = a .number;
       expectation = a .expectation;
       flow = a .flow;
@@ -55,8 +69,8 @@ pub record SameAnswers (x x' : DenseMatrix) (a a' : Answered) : Type 0 where
 
 -- demand 3 of two calls, given r and r', that answered a and a': of what they left, and of what the observables answered
 pub record Blind (r r' : Run) (q : Question) (x x' : DenseMatrix) (a a' : Answered) : Type 0 where
-  pub left : Demanded r r' (a .outcome) (a' .outcome)
-  pub answers : (k : ℕ) → Comparable k r r' (a .outcome .answer ≡ Accepted) (a' .outcome .answer ≡ Accepted) → q .time ≤ k → SameAnswers x x' a a'
+  pub left : Demanded r r' (a .ran .outcome) (a' .ran .outcome)
+  pub answers : (k : ℕ) → Comparable k r r' (isAccepted (a .ran .outcome .answer) ≡ true) (isAccepted (a' .ran .outcome .answer) ≡ true) → q .time ≤ k → SameAnswers x x' a a'
 
 -- what a Dyson call answers and leaves in its slices G and K
 abbrev pub solvedIn : Verdict → List Float → List Float → DysonSolved

@@ -2,24 +2,27 @@
 use Rattle.lists.specs.Prelude.{_≡_, ap, _∙_}
 use Rattle.matrix.specs.declared.DenseMatrix.{DenseMatrix}
 use Rattle.dyson.specs.Calls.{Solved}
-use Rattle.transient_run.specs.Calls.{Run, Outcome, transientRun}
+use Rattle.transient_run.specs.declared.Session.{Session}
+use Rattle.transient_run.specs.Calls.{Run, Outcome, booked}
 use Rattle.causality.specs.Statement.{DysonDemanded}
 use Rattle.causality.specs.Theorem.{demand-3}
 use Rattle.causality.specs.Dyson.{dysonOf, dyson-demand}
 use Rattle.two_runs.specs.declared.Question.{Question}
-use Rattle.two_runs.specs.Contracts.{Answered, answersOf, runAnswers, Blind}
+use Rattle.two_runs.specs.Contracts.{Step, stepOf, runStep, Answered, answersOf, runAnswers, Blind}
 
 -- ---- a contract's equations, as one of records
 
-pub one-outcome : {o p : Outcome} → (o .answer ≡ p .answer) × (o .retarded ≡ p .retarded) × (o .lesser ≡ p .lesser) × (o .kernel ≡ p .kernel) × (o .lesserAdvanced ≡ p .lesserAdvanced) → o ≡ p
-one-outcome h = λ i. record { answer = h .0 i; retarded = h .1 i; lesser = h .2 i; kernel = h .3 i; lesserAdvanced = h .4 i }
+pub one-step : (session : Session) {s : Step} {p : Outcome}
+    → let o = s .outcome in (o .answer ≡ p .answer) × (s .session ≡ booked session (p .answer)) × (o .retarded ≡ p .retarded) × (o .lesser ≡ p .lesser) × (o .kernel ≡ p .kernel) × (o .lesserAdvanced ≡ p .lesserAdvanced)
+    → s ≡ stepOf session p
+one-step session h = λ i. record { outcome = record { answer = h .0 i; retarded = h .2 i; lesser = h .3 i; kernel = h .4 i; lesserAdvanced = h .5 i }; session = h .1 i }
 
 pub one-solved : {s t : Solved} → (s .answer ≡ t .answer) × (s .retarded ≡ t .retarded) × (s .kernel ≡ t .kernel) → s ≡ t
 one-solved h = λ i. record { answer = h .0 i; retarded = h .1 i; kernel = h .2 i }
 
-pub one-answered : (r : Run) (q : Question) (x : DenseMatrix) (a : Answered) → a .outcome ≡ transientRun r → a .number ≡ answersOf r q x (a .outcome) .number
-    → a .expectation ≡ answersOf r q x (a .outcome) .expectation → a .flow ≡ answersOf r q x (a .outcome) .flow → a ≡ runAnswers r q x
-one-answered r q x a o n e f = (λ i. record { outcome = a .outcome; number = n i; expectation = e i; flow = f i }) ∙ ap (answersOf r q x) o
+pub one-answered : (r : Run) (q : Question) (x : DenseMatrix) (a : Answered) → a .ran ≡ runStep r → a .number ≡ answersOf r q x (a .ran) .number
+    → a .expectation ≡ answersOf r q x (a .ran) .expectation → a .flow ≡ answersOf r q x (a .ran) .flow → a ≡ runAnswers r q x
+one-answered r q x a o n e f = (λ i. record { ran = a .ran; number = n i; expectation = e i; flow = f i }) ∙ ap (answersOf r q x) o
 
 -- ---- demand 3
 

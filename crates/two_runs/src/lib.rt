@@ -1,12 +1,11 @@
 // Demand 3 of the running code: what two calls of the solver leave, and what each observable answers of two runs, whatever data come later. And the law of
-// appends: what a run leaves with appends after it.
-ghost use Rattle.lists.specs.Prelude.{_≡_};
-ghost use Rattle.transient_run.specs.declared.Solved.the-variants.{Accepted};
-ghost use Rattle.transient_run.specs.Calls.{runOf, transientRun};
+// appends: what a run leaves with appends after it, and what they add to their session.
+ghost use Rattle.lists.specs.Prelude.{_≡_, true};
+ghost use Rattle.transient_run.specs.Calls.{runOf, isAccepted};
 ghost use Rattle.causality.specs.Statement.{DysonDemanded};
 ghost use Rattle.causality.specs.Dyson.{callOf, dysonOf};
-ghost use Rattle.two_runs.specs.Contracts.{outcomeIn, runAnswers, answersIn, solvedIn, Blind};
-ghost use Rattle.two_runs.specs.Appending.{runThenAppend};
+ghost use Rattle.two_runs.specs.Contracts.{stepIn, runAnswers, answersIn, solvedIn, Blind};
+ghost use Rattle.two_runs.specs.Appending.{runThenAppend, AllPoints};
 use complex::Complex;
 use dyson::retarded_dyson_with_tolerance;
 use matrix::DenseMatrix;
@@ -16,6 +15,8 @@ use observables::one_body_expectation;
 use observables::particle_number;
 use refusal::Verdict;
 use refusal::checks::least;
+use transient_run::Booked;
+use transient_run::Session;
 use transient_run::Solved;
 use transient_run::append_point;
 use transient_run::transient_run;
@@ -31,9 +32,9 @@ pub struct Question {
     pub charge: f64,
 }
 
-// The answer of a run, and what the three observables answer of what it left.
+// The answer of a run with the session after it, and what the three observables answer of what it left.
 pub struct Answers {
-    pub run: Solved,
+    pub run: Booked,
     pub number: Observed,
     pub expectation: Observed,
     pub flow: Observed,
@@ -53,6 +54,7 @@ pub struct BothVerdicts {
 
 // A run, and each observable asked of it.
 pub fn run_and_ask(
+    session: Session,
     times: &[f64],
     free: &[f64],
     self_energy: &[f64],
@@ -67,9 +69,10 @@ pub fn run_and_ask(
     block: DenseMatrix,
 ) -> Answers
     ensures { λ r. ⌜ answersIn r (now (retarded .exit)) (now (lesser .exit)) (now (kernel .exit)) (now («lesser_advanced» .exit))
-        ≡ runAnswers (runOf shape tolerance (now (times .entry)) (now (free .entry)) (now («self_energy» .entry)) (now («lesser_self_energy» .entry)) (now (retarded .entry)) (now (lesser .entry)) (now (kernel .entry)) (now («lesser_advanced» .entry))) question block ⌝ }
+        ≡ runAnswers (runOf session shape tolerance (now (times .entry)) (now (free .entry)) (now («self_energy» .entry)) (now («lesser_self_energy» .entry)) (now (retarded .entry)) (now (lesser .entry)) (now (kernel .entry)) (now («lesser_advanced» .entry))) question block ⌝ }
 {
     let run = transient_run(
+        session,
         times,
         free,
         self_energy,
@@ -103,9 +106,10 @@ pub fn run_and_ask(
     }
 }
 
-// Two runs, each with its own times, operands, sizes and tolerance, and the same question asked of each; the second run's names end in 2. Where both are
-// accepted and agree up to k, they leave the same rows to k, and at a time up to k the observables answer the same.
+// Two runs, each with its own session, times, operands, sizes and tolerance, and the same question asked of each; the second run's names end in 2. Where
+// both are accepted and agree up to k, they leave the same rows to k, and at a time up to k the observables answer the same.
 pub fn two_runs(
+    session: Session,
     times: &[f64],
     free: &[f64],
     self_energy: &[f64],
@@ -117,6 +121,7 @@ pub fn two_runs(
     kernel: &mut [f64],
     lesser_advanced: &mut [f64],
     block: DenseMatrix,
+    session2: Session,
     times2: &[f64],
     free2: &[f64],
     self_energy2: &[f64],
@@ -130,13 +135,14 @@ pub fn two_runs(
     block2: DenseMatrix,
     question: Question,
 ) -> BothRuns
-    ensures { λ r. ⌜ (let a = runOf shape tolerance (now (times .entry)) (now (free .entry)) (now («self_energy» .entry)) (now («lesser_self_energy» .entry)) (now (retarded .entry)) (now (lesser .entry)) (now (kernel .entry)) (now («lesser_advanced» .entry)) in
-        let b = runOf shape2 tolerance2 (now (times2 .entry)) (now (free2 .entry)) (now («self_energy2» .entry)) (now («lesser_self_energy2» .entry)) (now (retarded2 .entry)) (now (lesser2 .entry)) (now (kernel2 .entry)) (now («lesser_advanced2» .entry)) in
+    ensures { λ r. ⌜ (let a = runOf session shape tolerance (now (times .entry)) (now (free .entry)) (now («self_energy» .entry)) (now («lesser_self_energy» .entry)) (now (retarded .entry)) (now (lesser .entry)) (now (kernel .entry)) (now («lesser_advanced» .entry)) in
+        let b = runOf session2 shape2 tolerance2 (now (times2 .entry)) (now (free2 .entry)) (now («self_energy2» .entry)) (now («lesser_self_energy2» .entry)) (now (retarded2 .entry)) (now (lesser2 .entry)) (now (kernel2 .entry)) (now («lesser_advanced2» .entry)) in
         let x = answersIn (r .first) (now (retarded .exit)) (now (lesser .exit)) (now (kernel .exit)) (now («lesser_advanced» .exit)) in
         let y = answersIn (r .second) (now (retarded2 .exit)) (now (lesser2 .exit)) (now (kernel2 .exit)) (now («lesser_advanced2» .exit)) in
         (x ≡ runAnswers a question block) × (y ≡ runAnswers b question block2) × Blind a b question block block2 x y) ⌝ }
 {
     let first = run_and_ask(
+        session,
         times,
         free,
         self_energy,
@@ -151,6 +157,7 @@ pub fn two_runs(
         block,
     );
     let second = run_and_ask(
+        session2,
         times2,
         free2,
         self_energy2,
@@ -168,8 +175,9 @@ pub fn two_runs(
 }
 
 // A run over the first points, or over all where there are no more, then one append after another up to all points, each lent the same operands; the first
-// refusal ends it and is the answer. Where every call is accepted, the slices hold what the run over all points leaves, for as many products.
+// refusal ends it and is the answer. Where every call is accepted, the slices hold what the run over all points leaves, and the session has added its count.
 pub fn run_then_append(
+    session: Session,
     times: &[f64],
     free: &[f64],
     self_energy: &[f64],
@@ -181,13 +189,14 @@ pub fn run_then_append(
     lesser: &mut [f64],
     kernel: &mut [f64],
     lesser_advanced: &mut [f64],
-) -> Solved
-    ensures { λ r. ⌜ (let run = runOf shape tolerance (now (times .entry)) (now (free .entry)) (now («self_energy» .entry)) (now («lesser_self_energy» .entry)) (now (retarded .entry)) (now (lesser .entry)) (now (kernel .entry)) (now («lesser_advanced» .entry)) in
-        let made = outcomeIn r (now (retarded .exit)) (now (lesser .exit)) (now (kernel .exit)) (now («lesser_advanced» .exit)) in
-        (made ≡ runThenAppend first run) × (r ≡ Accepted → made ≡ transientRun run)) ⌝ }
+) -> Booked
+    ensures { λ r. ⌜ (let run = runOf session shape tolerance (now (times .entry)) (now (free .entry)) (now («self_energy» .entry)) (now («lesser_self_energy» .entry)) (now (retarded .entry)) (now (lesser .entry)) (now (kernel .entry)) (now («lesser_advanced» .entry)) in
+        let made = stepIn r (now (retarded .exit)) (now (lesser .exit)) (now (kernel .exit)) (now («lesser_advanced» .exit)) in
+        (made ≡ runThenAppend first run) × (isAccepted (r .answer) ≡ true → AllPoints run made)) ⌝ }
 {
     let mut points = least(first, shape.points);
-    let mut solved = transient_run(
+    let mut booked = transient_run(
+        session,
         times,
         free,
         self_energy,
@@ -204,10 +213,12 @@ pub fn run_then_append(
         lesser_advanced,
     );
     while points < shape.points {
-        let Solved::Accepted = solved else {
-            return solved;
+        let answer = booked.answer;
+        let Solved::Accepted(_) = answer else {
+            return booked;
         };
-        solved = append_point(
+        booked = append_point(
+            booked.session,
             times,
             free,
             self_energy,
@@ -225,7 +236,7 @@ pub fn run_then_append(
         );
         points += 1;
     }
-    solved
+    booked
 }
 
 // Two Dyson calls; the second call's names end in 2. Where both are accepted and agree up to k, they leave the same rows to k.

@@ -1,10 +1,7 @@
--- The verdict of a run, an observable and a report has document 01's number of the answer, and after 10 an observable's slice holds +0. Assumes nothing.
+-- The verdict of an observable and a report has document 01's number of the answer, and after 10 an observable's slice holds +0. Assumes nothing.
 use Rattle.lists.specs.Prelude.{_≡_, refl, List, ℕ, length, Float}
 use Rattle.refusal.specs.declared.Verdict.the-variants.{Refused}
 use Rattle.refusal.specs.Verdict.{by, numberOf, zeroed}
-use Rattle.transient_run.specs.declared.Solved.{Solved}
-use Rattle.transient_run.specs.declared.Solved.the-variants.{Accepted, Refused as NotSolved}
-use Rattle.transient_run.specs.Calls.{solvedNumber}
 use Rattle.observables.specs.declared.Observed.{Observed}
 use Rattle.observables.specs.declared.Observed.the-variants.{Number, NotReal, Refused as NotObserved}
 use Rattle.observables.specs.Calls.{observedNumber}
@@ -13,12 +10,7 @@ use Rattle.report.specs.declared.Reported.the-variants.{Of, Refused as NotRepor
 use Rattle.report.specs.Calls.{reportedNumber}
 use Rattle.answers.specs.Answer.{answerOf, numbersAnswer}
 use Rattle.answers.specs.Agreement.{numbers-cleared}
-use Rattle.two_time_exports.specs.Numbers.{solvedVerdict, observedNumbers, reportNumbers}
-
-pub solved-number : (s : Solved) → numberOf (solvedVerdict s) ≡ solvedNumber s
-unfolding numberOf solvedNumber
-solved-number Accepted = refl
-solved-number (NotSolved r) = refl
+use Rattle.two_time_exports.specs.Numbers.{observedNumbers, reportNumbers}
 
 pub observed-number : (o : Observed) → numberOf (observedNumbers o .verdict) ≡ observedNumber o
 unfolding numberOf observedNumber

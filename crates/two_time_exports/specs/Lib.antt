@@ -1,3 +1,3 @@
--- The answers of a run, an observable and a report, as they leave. Agreement: with document 01's numbers.
+-- The answers of an observable and a report, as they leave. Agreement: with document 01's numbers.
 pub mod Numbers
 pub mod Agreement

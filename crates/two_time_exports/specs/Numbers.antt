@@ -1,4 +1,4 @@
--- The verdict of a run, and an observable and a report in numbers.
+-- An observable and a report in numbers.
 use Rattle.lists.specs.Prelude.{ℕ, List, [], _∷_, eqb, length, getD, replicate, Float, nan}
 use Rattle.complex.specs.Arithmetic.{plusZero}
 use Rattle.refusal.specs.declared.Verdict.{Verdict}
@@ -6,8 +6,6 @@ use Rattle.refusal.specs.declared.Verdict.the-variants.{Pass, Refused}
 use Rattle.refusal.specs.declared.Decision.{Decision}
 use Rattle.refusal.specs.declared.Decision.the-variants.{Refused as Undecided}
 use Rattle.refusal.specs.Checks.{fitting}
-use Rattle.transient_run.specs.declared.Solved.{Solved}
-use Rattle.transient_run.specs.declared.Solved.the-variants.{Accepted, Refused as NotSolved}
 use Rattle.observables.specs.declared.Observed.{Observed}
 use Rattle.observables.specs.declared.Observed.the-variants.{Number, NotReal, Refused as NotObserved}
 use Rattle.report.specs.declared.ConsistencyReport.{ConsistencyReport}
@@ -16,10 +14,6 @@ use Rattle.report.specs.declared.Reported.{Reported}
 use Rattle.report.specs.declared.Reported.the-variants.{Of, Refused as NotReported}
 use Rattle.answers.specs.declared.numbers.Numbers.{Numbers}
 use Rattle.answers.specs.Answer.{numbered}
-
-abbrev pub solvedVerdict : Solved → Verdict
-solvedVerdict Accepted = Pass
-solvedVerdict (NotSolved r) = Refused r
 
 -- an observable's number; 14 carries the imaginary part
 abbrev pub observedNumbers : Observed → Numbers

@@ -2,11 +2,12 @@
 use crate::inputs::Inputs;
 use crate::measure::{calls, Bench};
 use crate::solver::TOLERANCE;
-use here::Shape;
+use here::{Lent, Shape};
 use shared::numbers;
 use std::hint::black_box;
 
-/// The least times of a call, in nanoseconds: the run, the append, and each refused by the last of its questions, so that they alone are asked.
+/// The least times of a call, in nanoseconds: the run, the append, and each at a full counter, which the last of its questions refuses, so that they alone
+/// are asked.
 pub struct Append {
     pub run: f64,
     pub run_asked: f64,
@@ -14,27 +15,24 @@ pub struct Append {
     pub append_asked: f64,
 }
 
-type Call = fn(&[f64], &[f64], &[f64], &[f64], Shape, f64, [&mut [f64]; 4]) -> here::Answer;
+type Call = fn(&mut u64, Lent, [&mut [f64]; 4]) -> here::Answer;
 
 /// What both leave is compared with the port's run over all points.
 pub fn append(bench: &mut Bench, points: usize, orbitals: usize) -> Append {
     let inputs = Inputs::new(points, orbitals, [true, true, false]);
-    let mut refused = inputs.functions.clone();
-    // The last place above the diagonal.
-    refused[1][2 * orbitals * orbitals * ((points - 2) * points + points - 1)] = 1.0;
     let (all, told) = (Shape::of(points, orbitals), Shape { points: points - 1, capacity: points, orbitals });
-    let solve = |call: Call, functions: &[Vec<f64>; 3], shape, out: &mut [Vec<f64>; 4]| {
-        let [free, self_energy, lesser_self_energy] = black_box(functions);
-        call(&inputs.times, free, self_energy, lesser_self_energy, shape, TOLERANCE, out.each_mut().map(|xs| &mut xs[..]))
+    let solve = |call: Call, mut counter: u64, shape, out: &mut [Vec<f64>; 4]| {
+        let operands = black_box(&inputs.functions).each_ref().map(|xs| &xs[..]);
+        call(&mut counter, Lent { times: &inputs.times, operands, shape, tolerance: TOLERANCE }, out.each_mut().map(|xs| &mut xs[..]))
     };
 
     let (grid, [free, self_energy, lesser_self_energy]) = (inputs.grid(), inputs.built());
     let made = shared::transient_run(&grid, &free, &self_energy, &lesser_self_energy, TOLERANCE).unwrap();
     let kernel = keldysh_green::causal_volterra_convolution(&grid, &free, &self_energy).unwrap();
     let [mut ran, mut appended] = [(); 2].map(|()| [(); 4].map(|()| inputs.room()));
-    assert_eq!(solve(here::transient_run, &inputs.functions, all, &mut ran).number, 0);
-    assert_eq!(solve(here::transient_run, &inputs.functions, told, &mut appended).number, 0);
-    assert_eq!(solve(here::append_point, &inputs.functions, told, &mut appended).number, 0);
+    assert_eq!(solve(here::transient_run, 0, all, &mut ran).number, 0);
+    assert_eq!(solve(here::transient_run, 0, told, &mut appended).number, 0);
+    assert_eq!(solve(here::append_point, 0, told, &mut appended).number, 0);
     for (at, made) in [&made.retarded, &made.lesser, &kernel, &made.lesser_advanced].into_iter().enumerate() {
         bench.same(&ran[at], &numbers(made));
         bench.same(&appended[at], &numbers(made));
@@ -42,13 +40,13 @@ pub fn append(bench: &mut Bench, points: usize, orbitals: usize) -> Append {
     drop((made, kernel));
 
     let [mut left, mut left_too] = [ran.clone(), appended.clone()];
-    assert_eq!(solve(here::transient_run, &refused, all, &mut left).number, 9);
-    assert_eq!(solve(here::append_point, &refused, told, &mut left_too).number, 9);
+    assert_eq!(solve(here::transient_run, u64::MAX, all, &mut left).number, 17);
+    assert_eq!(solve(here::append_point, u64::MAX, told, &mut left_too).number, 17);
     let [run, run_asked, append, append_asked] = bench.least([
-        &mut calls(|| solve(here::transient_run, &inputs.functions, all, &mut ran)),
-        &mut calls(|| solve(here::transient_run, &refused, all, &mut left)),
-        &mut calls(|| solve(here::append_point, &inputs.functions, told, &mut appended)),
-        &mut calls(|| solve(here::append_point, &refused, told, &mut left_too)),
+        &mut calls(|| solve(here::transient_run, 0, all, &mut ran)),
+        &mut calls(|| solve(here::transient_run, u64::MAX, all, &mut left)),
+        &mut calls(|| solve(here::append_point, 0, told, &mut appended)),
+        &mut calls(|| solve(here::append_point, u64::MAX, told, &mut left_too)),
     ]);
     Append { run, run_asked, append, append_asked }
 }

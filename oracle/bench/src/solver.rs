@@ -1,7 +1,7 @@
 //! The convolutions, the support test, Dyson and the transient run.
 use crate::inputs::Inputs;
 use crate::measure::{Bench, Times};
-use here::Shape;
+use here::{Lent, Shape};
 use keldysh_green::{RealTimeGrid, TwoTimeMatrix};
 use shared::numbers;
 use std::hint::black_box;
@@ -73,8 +73,9 @@ pub fn transient_run(bench: &mut Bench, points: usize, orbitals: usize) -> Times
     let inputs = Inputs::new(points, orbitals, [true, true, false]);
     let (grid, [free, self_energy, lesser_self_energy]) = (inputs.grid(), inputs.built());
     let here = |out: &mut [Vec<f64>; 4]| {
-        let ([free, self_energy, lesser_self_energy], out) = (black_box(&inputs.functions), out.each_mut().map(|xs| &mut xs[..]));
-        here::transient_run(&inputs.times, free, self_energy, lesser_self_energy, Shape::of(points, orbitals), TOLERANCE, out)
+        let operands = black_box(&inputs.functions).each_ref().map(|xs| &xs[..]);
+        let lent = Lent { times: &inputs.times, operands, shape: Shape::of(points, orbitals), tolerance: TOLERANCE };
+        here::transient_run(&mut 0, lent, out.each_mut().map(|xs| &mut xs[..]))
     };
     let port = || shared::transient_run(&grid, black_box(&free), &self_energy, &lesser_self_energy, TOLERANCE);
     let mut out = [(); 4].map(|()| inputs.room());

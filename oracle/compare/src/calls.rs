@@ -1,9 +1,10 @@
 //! The calls on two-time functions: what each takes, ours and the port's.
 use crate::inputs::{Call, Takes};
 use crate::mirrored;
-use crate::sides::{block_outcome, filled, judged, ours, outcome, Outcome, LENT};
+use crate::sides::{block_outcome, counted, filled, judged, ours, outcome, Outcome, LENT};
 use crate::source::Source;
-use here::Shape;
+use here::{Lent, Shape};
+use judge::products;
 
 /// A function that is compared.
 pub struct Function {
@@ -32,6 +33,7 @@ impl Function {
 
 const GRID: &[Takes] = &[Takes::Times];
 const SOLVER: &[Takes] = &[Takes::Times, Takes::Tolerance];
+const RUN: &[Takes] = &[Takes::Times, Takes::Tolerance, Takes::Session];
 
 pub const FUNCTIONS: [Function; 11] = [
     Function {
@@ -82,7 +84,7 @@ pub const FUNCTIONS: [Function; 11] = [
         arrange: as_drawn,
         compare: retarded_dyson_with_tolerance,
     },
-    Function { name: "transient_run", retarded: &[true, true, false], made: 4, takes: SOLVER, arrange: as_drawn, compare: transient_run },
+    Function { name: "transient_run", retarded: &[true, true, false], made: 4, takes: RUN, arrange: as_drawn, compare: transient_run },
     Function {
         name: "particle_number",
         retarded: &[false],
@@ -169,13 +171,15 @@ fn retarded_dyson_with_tolerance(call: &Call) -> Outcome {
     filled(answer, [retarded, kernel], theirs)
 }
 
+/// In a session: the counter counts as one number.
 fn transient_run(call: &Call) -> Outcome {
     let (points, orbitals, times, operands, tolerance) = (call.points, call.orbitals, &call.times, call.operands(), call.tolerance);
     let mut made: [Vec<f64>; 4] = lent(call.made());
-    let [free, self_energy, lesser_self_energy] = operands;
-    let (shape, out) = (Shape::of(points, orbitals), made.each_mut().map(|xs| &mut xs[..]));
-    let answer = here::transient_run(times, free, self_energy, lesser_self_energy, shape, tolerance, out);
-    filled(answer, made, judge::transient_run(points, orbitals, times, operands, tolerance, call.made()))
+    let (before, count) = (call.counter.before(products(points)), products(points));
+    let (mut counter, out) = (before, made.each_mut().map(|xs| &mut xs[..]));
+    let answer = here::transient_run(&mut counter, Lent { times, operands, shape: Shape::of(points, orbitals), tolerance }, out);
+    let (theirs, left) = judge::transient_run(points, orbitals, times, operands, tolerance, call.made()).booked(before, count);
+    filled(answer, made, theirs).and(&counted(counter, left))
 }
 
 fn particle_number(call: &Call) -> Outcome {

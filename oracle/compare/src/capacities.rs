@@ -1,11 +1,12 @@
-//! Calls in a capacity, each by itself: the run, the append onto contents of any kind, and the observables, with faults that are drawn each by itself.
+//! Calls in a capacity, each by itself: the run and the append onto contents of any kind, in a session, and the observables, with faults that are drawn
+//! each by itself.
 use crate::calls;
-use crate::inputs::{faults, wrapped, Takes, VAST};
+use crate::inputs::{faults, wrapped, Counter, Takes, VAST};
 use crate::laid::Laid;
 use crate::sides::Outcome;
 use crate::source::{Source, NOT_FINITE};
 use crate::Job;
-use judge::Shape;
+use judge::{appended_products, products, Shape};
 
 const PART: &str = "capacities";
 
@@ -15,7 +16,7 @@ type Function = (&'static str, &'static str, fn(&Laid) -> Outcome);
 const APPEND: &str = "append_point";
 
 const FUNCTIONS: [Function; 6] = [
-    ("transient_run in a capacity", "transient_run", |laid| laid.run().0),
+    ("transient_run in a capacity", "transient_run", |laid| laid.run(laid.call.counter.before(products(laid.shape.points))).0),
     (APPEND, "transient_run", append),
     ("density_matrix in a capacity", "density_matrix", Laid::density_matrix),
     ("particle_number in a capacity", "particle_number", Laid::particle_number),
@@ -25,7 +26,7 @@ const FUNCTIONS: [Function; 6] = [
 
 /// Counted under where its work stops.
 fn append(laid: &Laid) -> Outcome {
-    let (outcome, _, stage) = laid.append();
+    let (outcome, _, stage) = laid.append(laid.call.counter.before(appended_products(laid.shape.points)));
     match stage {
         Some(stage) => outcome.under(format!("{APPEND}, {}", stage.join(", "))),
         None => outcome,
@@ -113,4 +114,30 @@ pub fn jobs(calls: u64, seed: u64) -> Vec<Job> {
         })
     });
     jobs.into()
+}
+
+const SESSIONS: &str = "sessions";
+
+/// What a session's counter holds before a call, by turns.
+const COUNTERS: [(&str, fn(&mut Source) -> Counter); 5] = [
+    ("counter at 0", |_| Counter::Of(0)),
+    ("any counter", |source| Counter::Of(source.bits() >> source.below(64))),
+    ("just room", |_| Counter::Past(0)),
+    ("one product short", |_| Counter::Past(1)),
+    ("full counter", |_| Counter::Of(u64::MAX)),
+];
+
+/// The run and the append again, counted under what the counter holds.
+pub fn sessions(calls: u64, seed: u64) -> Vec<Job> {
+    let jobs = FUNCTIONS[..2].iter().map(|&function| {
+        let (name, _, compare) = function;
+        Job::of(SESSIONS, name, calls, move |index| {
+            let source = &mut Source::of(seed, [SESSIONS, name], index);
+            let (label, counter) = COUNTERS[index as usize % COUNTERS.len()];
+            let (mut laid, _) = source.laid(function);
+            laid.call.counter = counter(source);
+            compare(&laid).under(format!("{name}, {label}"))
+        })
+    });
+    jobs.collect()
 }

@@ -1,14 +1,15 @@
-//! Histories: a run in a capacity, then appends, each told the points that the call before left. After each the four slices are those of the port's own
-//! run over all points, in bits, and what stood beyond the points stands there still. Then the observables, asked in the capacity.
+//! Histories: a run in a capacity, then appends, each told the points that the call before left, all in one session. After each the four slices are those of
+//! the port's own run over all points, in bits, what stood beyond the points stands there still, and the counter is that of the run over all points. Then
+//! the observables, asked in the capacity.
 use crate::calls;
-use crate::inputs::{wrapped, Call};
-use crate::laid::Laid;
+use crate::inputs::{wrapped, Call, Counter};
+use crate::laid::{Laid, Left};
 use crate::one_point;
 use crate::sides::Outcome;
 use crate::source::Source;
 use crate::stages::{grown, STEPS};
 use crate::Job;
-use judge::{Refused, Shape, Slices};
+use judge::{products, Refused, Shape, Slices};
 
 const PART: &str = "histories";
 const LONG_PART: &str = "long histories";
@@ -42,21 +43,27 @@ impl Plan {
         OBSERVABLES.iter().fold(Outcome::of(Refused::by(0), 0, 0), |all, observe| all.and(&observe(&laid)))
     }
 
+    /// What stands in the slices and on the session's counter before the first call.
+    fn begun(&self, source: &mut Source) -> Left {
+        let slices = [(); 4].map(|()| source.room(wrapped(self.capacity, self.call.orbitals)));
+        Left { slices, counter: self.call.counter.before(products(self.call.points)) }
+    }
+
     /// Up to the first call that is refused. The tolerance of each call is its own.
     fn compared(mut self, source: &mut Source) -> Outcome {
-        let before = [(); 4].map(|()| source.room(wrapped(self.capacity, self.call.orbitals)));
-        let (mut all, mut slices) = self.lent(source, self.first, self.first, &before).run();
-        let (ran, mut points, mut left) = (all.number == 0, self.first, slices.clone());
+        let before = self.begun(source);
+        let (mut all, mut left) = self.lent(source, self.first, self.first, &before.slices).run(before.counter);
+        let (ran, mut points, mut lesser) = (all.number == 0, self.first, left.slices[1].clone());
         while all.number == 0 && points < self.call.points {
             self.call.tolerance = source.tolerance();
-            let laid = self.lent(source, points, points + 1, &slices);
-            let (appended, made, _) = laid.append();
+            let laid = self.lent(source, points, points + 1, &left.slices);
+            let (appended, made, _) = laid.append(left.counter);
             let whole = laid.whole(&appended, &made, &before);
             let listed = whole.listed.or(all.listed);
             all = Outcome { listed, ..appended.and(&whole).and(&all) };
-            slices = made;
+            left = made;
             if all.number == 0 {
-                (points, left) = (points + 1, slices.clone());
+                (points, lesser) = (points + 1, left.slices[1].clone());
             }
         }
         if !ran {
@@ -65,23 +72,23 @@ impl Plan {
         }
         let appends = ["no append", "one append", "two appends", "three appends or more"][(points - self.first).min(3)];
         let label = if all.number == 0 { appends.into() } else { format!("refused {} after {appends}", all.number) };
-        all.and(&self.observed(source, points, &left[1])).under(label)
+        all.and(&self.observed(source, points, &lesser)).under(label)
     }
 
     /// All the way, compared at the end alone.
     fn compared_at_the_end(self, source: &mut Source) -> Outcome {
-        let before = [(); 4].map(|()| source.room(wrapped(self.capacity, self.call.orbitals)));
-        let (mut answer, mut slices) = self.lent(source, self.first, self.first, &before).solved(here::transient_run);
+        let before = self.begun(source);
+        let (mut answer, mut left) = self.lent(source, self.first, self.first, &before.slices).solved(here::transient_run, before.counter);
         let mut last = None;
         for points in self.first..self.call.points {
             assert_eq!(answer.number, 0, "a history of ordinary numbers");
-            let laid = self.lent(source, points, points + 1, &slices);
-            (answer, slices) = laid.solved(here::append_point);
+            let laid = self.lent(source, points, points + 1, &left.slices);
+            (answer, left) = laid.solved(here::append_point, left.counter);
             last = Some(laid);
         }
         let accepted = Outcome::of(Refused::by(answer.number), 0, 0);
-        let whole = last.expect("an append").whole(&accepted, &slices, &before);
-        let observed = self.observed(source, self.call.points, &slices[1]);
+        let whole = last.expect("an append").whole(&accepted, &left, &before);
+        let observed = self.observed(source, self.call.points, &left.slices[1]);
         whole.and(&observed).under(format!("to {} points of {} orbitals", self.call.points, self.call.orbitals))
     }
 }
@@ -104,7 +111,13 @@ impl Source {
         if self.one_in(3) {
             self.grow(&mut call, first);
         }
+        call.counter = if self.one_in(6) { self.filled_on_the_way(call.points) } else { self.counter() };
         Plan { first, capacity: call.points + self.pick(&[0, 0, 1, 2, 4]), call }
+    }
+
+    /// A counter without room for all points.
+    fn filled_on_the_way(&mut self, points: usize) -> Counter {
+        Counter::Past(1 + self.below(products(points) as usize) as i64)
     }
 
     /// Makes numbers large in some operands, at places whose larger index is late.
@@ -143,7 +156,7 @@ pub fn long(seed: u64) -> Vec<Job> {
         let (points, orbitals) = LONG[index as usize];
         let times = source.times_of_step(points, 0.1);
         let mut call = source.plain_call(calls::function("transient_run"), (points, orbitals), times);
-        call.tolerance = 1e-12;
+        (call.tolerance, call.counter) = (1e-12, source.counter());
         // Larger numbers overflow on so many points.
         call.operands.iter_mut().for_each(|xs| xs.iter_mut().for_each(|x| *x /= (points * orbitals) as f64));
         let capacity = if points < 256 { points + 3 } else { points };

@@ -12,6 +12,25 @@ pub enum Takes {
     /// Two orbitals, the hopping between them and the charge factor.
     Bond,
     Observable,
+    Session,
+}
+
+/// What a session's counter holds before a call.
+#[derive(Clone, Copy)]
+pub enum Counter {
+    Of(u64),
+    /// So far from the one that the call's count fills to 2^64 - 1: above 0 there is no room for it.
+    Past(i64),
+}
+
+impl Counter {
+    /// Before a call of so many products.
+    pub fn before(self, count: u64) -> u64 {
+        match self {
+            Self::Of(counter) => counter,
+            Self::Past(past) => (u64::MAX - count).saturating_add_signed(past),
+        }
+    }
 }
 
 /// The inputs of all functions; each takes those that it names.
@@ -29,6 +48,7 @@ pub struct Call {
     pub hopping: [f64; 2],
     pub charge: f64,
     pub observable: Numbers,
+    pub counter: Counter,
 }
 
 /// The length of a function, where the product wraps as the machine's does.
@@ -81,13 +101,14 @@ enum Fault {
     Orbital,
     Factor,
     Shape,
+    Counter,
     Points,
     Orbitals,
     Length,
 }
 
 /// Faults, and what a function takes that can have them. The last three are of sizes and lengths.
-const FAULTS: [(Fault, Option<Takes>); 10] = [
+const FAULTS: [(Fault, Option<Takes>); 11] = [
     (Fault::Times, Some(Takes::Times)),
     (Fault::Entry, None),
     (Fault::Tolerance, Some(Takes::Tolerance)),
@@ -95,6 +116,7 @@ const FAULTS: [(Fault, Option<Takes>); 10] = [
     (Fault::Orbital, Some(Takes::Bond)),
     (Fault::Factor, Some(Takes::Bond)),
     (Fault::Shape, Some(Takes::Observable)),
+    (Fault::Counter, Some(Takes::Session)),
     (Fault::Points, None),
     (Fault::Orbitals, None),
     (Fault::Length, None),
@@ -147,8 +169,31 @@ impl Source {
         let operands = f.retarded.iter().map(|&retarded| self.operand(sizes, retarded, palette)).collect();
         let palette = self.mostly(palette);
         let mut call = self.call(f, sizes, times, operands, palette);
+        if f.takes(Takes::Session) {
+            call.counter = self.counter();
+        }
         (f.arrange)(self, &mut call);
         call
+    }
+
+    /// Nothing, anything, or as much as leaves just room for the call.
+    pub fn counter(&mut self) -> Counter {
+        match self.below(4) {
+            0 => Counter::Of(0),
+            1 => Counter::Of(self.bits() >> (1 + self.below(63))),
+            2 => Counter::Past(0),
+            _ => Counter::Past(-(self.below(100) as i64)),
+        }
+    }
+
+    /// Just no room for the call, less, or none at all.
+    pub fn full_counter(&mut self) -> Counter {
+        match self.below(4) {
+            0 => Counter::Past(1),
+            1 => Counter::Past(2 + self.below(9) as i64),
+            2 => Counter::Of(u64::MAX),
+            _ => Counter::Past(self.below(1 << 20) as i64 + 1),
+        }
     }
 
     /// A call without a fault, whose numbers are from -0.5 to 0.5 and whose retarded operands are it.
@@ -175,6 +220,7 @@ impl Source {
             hopping: [self.any(), self.any()],
             charge: self.any(),
             observable: self.block_numbers([orbitals; 2], observable),
+            counter: Counter::Of(0),
         }
     }
 
@@ -218,6 +264,7 @@ impl Source {
                 *[re, im, &mut call.charge][self.below(3)] = self.pick(&NOT_FINITE);
             }
             Fault::Shape => self.damage_shape(&mut call.observable),
+            Fault::Counter => call.counter = self.full_counter(),
             Fault::Points => {
                 call.points = self.pick(&[&[0, 1, 257], &VAST[..]].concat());
                 self.follow(f, call);

@@ -1,7 +1,7 @@
 //! What a call is lent in slices laid out for a capacity of points. What stands beyond the points is room: numbers of any kind, which no call asks, and
 //! which stay.
 use crate::inputs::{wrapped, Call};
-use crate::sides::{block_outcome, held, judged, ours, outcome, Outcome};
+use crate::sides::{block_outcome, counted, held, judged, ours, outcome, Outcome};
 use crate::source::Source;
 use judge::{Held, Shape, Slices};
 
@@ -55,50 +55,60 @@ fn ours_of(shape: Shape) -> here::Shape {
     here::Shape { points: shape.points, capacity: shape.capacity, orbitals: shape.orbitals }
 }
 
-pub type Ours = fn(&[f64], &[f64], &[f64], &[f64], here::Shape, f64, [&mut [f64]; 4]) -> here::Answer;
-type Theirs = fn(Shape, &[f64], [&[f64]; 3], f64, [&[f64]; 4]) -> Held;
+pub type Ours = fn(&mut u64, here::Lent, [&mut [f64]; 4]) -> here::Answer;
+type Theirs = fn(u64, Shape, &[f64], [&[f64]; 3], f64, [&[f64]; 4]) -> Held;
+
+/// What the slices for G^R, G^<, K and X hold after a call, and the session's counter.
+pub struct Left {
+    pub slices: Slices<4>,
+    pub counter: u64,
+}
 
 impl Laid {
     fn operands<const COUNT: usize>(&self) -> [&[f64]; COUNT] {
         std::array::from_fn(|operand| &self.operands[operand][..])
     }
 
-    /// The answer of a call here, and what its slices hold afterwards.
-    pub fn solved(&self, solve: Ours) -> (here::Answer, Slices<4>) {
-        let ([free, self_energy, lesser_self_energy], mut made) = (self.operands(), self.before.clone());
-        let out = made.each_mut().map(|xs| &mut xs[..]);
-        (solve(&self.times, free, self_energy, lesser_self_energy, ours_of(self.shape), self.call.tolerance, out), made)
+    /// The answer of a call here in a session with this on its counter, and what is left.
+    pub fn solved(&self, solve: Ours, mut counter: u64) -> (here::Answer, Left) {
+        let mut slices = self.before.clone();
+        let lent = here::Lent { times: &self.times, operands: self.operands(), shape: ours_of(self.shape), tolerance: self.call.tolerance };
+        let answer = solve(&mut counter, lent, slices.each_mut().map(|xs| &mut xs[..]));
+        (answer, Left { slices, counter })
     }
 
     /// The same of the judge, begun on these slices.
-    fn judged(&self, solve: Theirs, before: &Slices<4>) -> Held {
-        solve(self.shape, &self.times, self.operands(), self.call.tolerance, before.each_ref().map(|xs| &xs[..]))
+    fn judged(&self, solve: Theirs, counter: u64, before: &Slices<4>) -> Held {
+        solve(counter, self.shape, &self.times, self.operands(), self.call.tolerance, before.each_ref().map(|xs| &xs[..]))
     }
 
-    pub fn run(&self) -> (Outcome, Slices<4>) {
-        let (answer, made) = self.solved(here::transient_run);
-        (held(answer, &made, &self.judged(judge::transient_run_in_capacity, &self.before)), made)
+    pub fn run(&self, counter: u64) -> (Outcome, Left) {
+        let (answer, left) = self.solved(here::transient_run, counter);
+        (held(answer, &left.slices, left.counter, &self.judged(judge::transient_run_in_capacity, counter, &self.before)), left)
     }
 
     /// An append beside the port's operations on blocks, and where its work stops.
-    pub fn append(&self) -> (Outcome, Slices<4>, Option<judge::stages::Stage>) {
-        let (answer, made) = self.solved(here::append_point);
-        let theirs = self.judged(judge::append_point, &self.before);
-        (held(answer, &made, &theirs), made, theirs.stage)
+    pub fn append(&self, counter: u64) -> (Outcome, Left, Option<judge::stages::Stage>) {
+        let (answer, left) = self.solved(here::append_point, counter);
+        let theirs = self.judged(judge::append_point, counter, &self.before);
+        (held(answer, &left.slices, left.counter, &theirs), left, theirs.stage)
     }
 
-    /// The slices of an append beside the port's run over all points, begun on what stood before the first call of the history. Of a refused append the
-    /// answer alone is compared.
-    pub fn whole(&self, appended: &Outcome, made: &Slices<4>, before: &Slices<4>) -> Outcome {
+    /// What an append leaves beside the port's run over all points, begun on the slices and the counter before the first call of the history. Of a
+    /// refused append the answer alone is compared.
+    pub fn whole(&self, appended: &Outcome, left: &Left, before: &Left) -> Outcome {
         let shape = Shape { points: self.shape.points + 1, ..self.shape };
-        let theirs = Self { shape, ..self.clone() }.judged(judge::transient_run_in_capacity, before);
-        let number = theirs.judged.answer.map_or_else(|refused| refused.number, |()| 0);
+        let theirs = Self { shape, ..self.clone() }.judged(judge::transient_run_in_capacity, before.counter, &before.slices);
+        let number = theirs.judged.answer.map_or_else(|refused| refused.number, |_| 0);
         let (listed, agrees) = (theirs.judged.listed, theirs.judged.agrees);
-        let (ours, run) = (made.iter().flatten(), theirs.slices.iter().flatten());
-        let unequal = if number == 0 { ours.zip(run).filter(|(x, y)| x.to_bits() != y.to_bits()).count() } else { 0 };
-        let compared = if number == 0 { made.iter().flatten().count() } else { 1 };
         let differs = usize::from(number != appended.number) + usize::from(!agrees);
-        Outcome { listed, ..Outcome::of(judge::Refused::by(number), compared, unequal + differs) }
+        if number != 0 {
+            return Outcome { listed, ..Outcome::of(judge::Refused::by(number), 1, differs) };
+        }
+        let pairs = || left.slices.iter().flatten().zip(theirs.slices.iter().flatten());
+        let unequal = pairs().filter(|(x, y)| x.to_bits() != y.to_bits()).count();
+        let whole = Outcome { listed, ..Outcome::of(judge::Refused::by(0), pairs().count(), unequal + differs) };
+        whole.and(&counted(left.counter, theirs.counter))
     }
 
     pub fn density_matrix(&self) -> Outcome {

@@ -61,6 +61,7 @@ fn jobs(calls: u64, seed: u64) -> Vec<Job> {
         written::jobs(seed),
         histories::jobs(calls / 2, seed),
         capacities::jobs(calls, seed),
+        capacities::sessions(calls / 4, seed),
         random::jobs(calls, seed),
     ];
     parts.into_iter().flatten().collect()

@@ -81,13 +81,19 @@ pub fn filled<const COUNT: usize>(answer: here::Answer, lent: Slices<COUNT>, por
     judged(Err(answer), port, made).and(&Outcome::of(Refused::by(0), lent.iter().flatten().count(), left))
 }
 
-/// The same of a call whose slices are to hold what the judge has them hold, in all bits: what is not made is left, a NaN's bits too.
-pub fn held(answer: here::Answer, slices: &Slices<4>, judged_by: &Held) -> Outcome {
-    let here = if answer.number == 0 { Ok(()) } else { Err(answer) };
+/// A session's counter, and the judge's.
+pub fn counted(counter: u64, theirs: u64) -> Outcome {
+    Outcome::of(Refused::by(0), 1, usize::from(counter != theirs))
+}
+
+/// The same of a call in a session whose slices are to hold what the judge has them hold, in all bits: what is not made is left, a NaN's bits too.
+pub fn held(answer: here::Answer, slices: &Slices<4>, counter: u64, judged_by: &Held) -> Outcome {
+    let here = if answer.number == 0 { Ok(0) } else { Err(answer) };
     let (ours, theirs) = (slices.iter().flatten(), judged_by.slices.iter().flatten());
     assert_eq!(ours.clone().count(), theirs.clone().count());
     let unequal = ours.clone().zip(theirs).filter(|(x, y)| x.to_bits() != y.to_bits()).count();
-    judged(here, judged_by.judged.clone(), |()| vec![]).and(&Outcome::of(Refused::by(0), ours.count(), unequal))
+    let answered = judged(here, judged_by.judged.clone(), |_| vec![]);
+    answered.and(&counted(counter, judged_by.counter)).and(&Outcome::of(Refused::by(0), ours.count(), unequal))
 }
 
 /// A decision as a number.

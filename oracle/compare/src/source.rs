@@ -71,6 +71,10 @@ impl Source {
         Self { state, call }
     }
 
+    pub fn bits(&mut self) -> u64 {
+        self.state.bits()
+    }
+
     pub fn below(&mut self, count: usize) -> usize {
         ((self.state.bits() >> 16) % count as u64) as usize
     }

@@ -5,7 +5,7 @@ use crate::calls;
 use crate::sides::{self, ours, same, Outcome, LENT};
 use crate::source::Source;
 use crate::Job;
-use here::Shape;
+use here::{Lent, Shape};
 use judge::{Judged, Refused};
 
 const PART: &str = "written";
@@ -131,6 +131,52 @@ fn is_consistent(index: u64) -> Outcome {
     outcome(number, vec![decided, numbers(&places), part], vec![(PLACE as f64, written)], theirs)
 }
 
+/// A call in a session, whose counter is a slice of one: the points that it is told of a call's, how many products it forms, and both sides.
+struct Booked {
+    name: &'static str,
+    told: fn(usize) -> usize,
+    products: fn(usize) -> u64,
+    ours: fn(&mut [u64], Lent, [&mut [f64]; 4], &mut [usize], &mut [f64]) -> u8,
+    theirs: fn(u64, judge::Shape, &[f64], [&[f64]; 3], f64, [&[f64]; 4]) -> judge::Held,
+}
+
+const RUN: Booked = Booked {
+    name: "transient_run",
+    told: |points| points,
+    products: judge::products,
+    ours: here::transient_run_written,
+    theirs: judge::transient_run_in_capacity,
+};
+
+const APPEND: Booked = Booked {
+    name: "append_point",
+    told: |points| points.wrapping_sub(1),
+    products: judge::appended_products,
+    ours: here::append_point_written,
+    theirs: judge::append_point,
+};
+
+/// Line 3 asks the counter's length alone; what it holds is compared beside the numbers, a whole word.
+fn in_session(seed: u64, x: Booked, index: u64) -> Outcome {
+    let (mut lengths, f) = (Lengths(index), calls::function("transient_run"));
+    let (length, (mut places, mut part)) = (lengths.next(1), lengths.places_and_part());
+    let (call, _) = Source::of(seed, [PART, x.name], index).faulty_call(f);
+    let (points, capacity, orbitals) = ((x.told)(call.points), call.points, call.orbitals);
+    let (before, held) = (call.counter.before((x.products)(points)), call.made::<4>().map(|length| vec![LENT; length]));
+    let (mut counter, mut made) = (vec![before; length], held.clone());
+    let lent =
+        Lent { times: &call.times, operands: call.operands(), shape: Shape { points, capacity, orbitals }, tolerance: call.tolerance };
+    let number = (x.ours)(&mut counter, lent, made.each_mut().map(|xs| &mut xs[..]), &mut places, &mut part);
+    let shape = judge::Shape { points, capacity, orbitals };
+    let theirs = (x.theirs)(before, shape, &call.times, call.operands(), call.tolerance, held.each_ref().map(|xs| &xs[..]));
+    let due = if length == 1 { theirs.counter } else { before };
+    let unequal = counter.iter().filter(|x| **x != due).count();
+    let written = theirs.slices.into_iter().map(|xs| (LENT, xs));
+    let slices = [vec![vec![0.0; length]], made.into(), vec![numbers(&places), part]].concat();
+    let outcome = outcome(number, slices, [(0.0, vec![0.0])].into_iter().chain(written).collect(), theirs.judged);
+    outcome.and(&Outcome::of(Refused::by(0), length, unequal))
+}
+
 pub fn jobs(seed: u64) -> Vec<Job> {
     vec![
         Job::of(PART, "block_trace", 64 * TURNS, move |index| block_trace(seed, index)),
@@ -138,5 +184,7 @@ pub fn jobs(seed: u64) -> Vec<Job> {
         Job::of(PART, "density_matrix", 256 * TURNS, move |index| density_matrix(seed, index)),
         Job::of(PART, "consistency_report", 64 * TURNS, move |index| consistency_report(seed, index)),
         Job::of(PART, "is_consistent", 256 * TURNS, is_consistent),
+        Job::of(PART, RUN.name, 64 * TURNS, move |index| in_session(seed, RUN, index)),
+        Job::of(PART, APPEND.name, 64 * TURNS, move |index| in_session(seed, APPEND, index)),
     ]
 }

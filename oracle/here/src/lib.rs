@@ -1,4 +1,4 @@
-//! The functions that `crates/two_time_exports` and `crates/block_exports` export, over slices.
+//! The functions that `crates/two_time_exports`, `crates/run_exports` and `crates/block_exports` export, over slices.
 mod blocks;
 mod keldysh;
 mod norm;
@@ -79,6 +79,8 @@ type Convolution = unsafe extern "C" fn(
 ) -> u8;
 
 type Solve = unsafe extern "C" fn(
+    counter: *mut u64,
+    counter_len: usize,
     times: *const f64,
     times_len: usize,
     free: *const f64,
@@ -175,6 +177,8 @@ mod exported {
         ) -> u8;
 
         pub fn leechgrommet_transient_run(
+            counter: *mut u64,
+            counter_len: usize,
             times: *const f64,
             times_len: usize,
             free: *const f64,
@@ -202,6 +206,8 @@ mod exported {
         ) -> u8;
 
         pub fn leechgrommet_append_point(
+            counter: *mut u64,
+            counter_len: usize,
             times: *const f64,
             times_len: usize,
             free: *const f64,
@@ -310,19 +316,27 @@ pub fn retarded_dyson_with_tolerance(
     })
 }
 
-#[allow(clippy::too_many_arguments)]
+/// What a run or an append is lent: the times, the free propagator, the retarded and the lesser self-energy.
+#[derive(Clone, Copy)]
+pub struct Lent<'a> {
+    pub times: &'a [f64],
+    pub operands: [&'a [f64]; 3],
+    pub shape: Shape,
+    pub tolerance: f64,
+}
+
 fn solve(
     call: Solve,
-    times: &[f64],
-    free: &[f64],
-    self_energy: &[f64],
-    lesser_self_energy: &[f64],
-    shape: Shape,
-    tolerance: f64,
+    counter: &mut [u64],
+    Lent { times, operands: [free, self_energy, lesser_self_energy], shape, tolerance }: Lent,
     [retarded, lesser, kernel, lesser_advanced]: [&mut [f64]; 4],
-) -> Answer {
-    answer(|places, part| unsafe {
+    places: &mut [usize],
+    part: &mut [f64],
+) -> u8 {
+    unsafe {
         call(
+            counter.as_mut_ptr(),
+            counter.len(),
             times.as_ptr(),
             times.len(),
             free.as_ptr(),
@@ -348,33 +362,26 @@ fn solve(
             part.as_mut_ptr(),
             part.len(),
         )
-    })
+    }
 }
 
-/// G^R and G^<, and K and X in the scratch.
-pub fn transient_run(
-    times: &[f64],
-    free: &[f64],
-    self_energy: &[f64],
-    lesser_self_energy: &[f64],
-    shape: Shape,
-    tolerance: f64,
-    made: [&mut [f64]; 4],
-) -> Answer {
-    solve(exported::leechgrommet_transient_run, times, free, self_energy, lesser_self_energy, shape, tolerance, made)
+/// G^R and G^<, and K and X in the scratch, in a session with this on its counter.
+pub fn transient_run(counter: &mut u64, lent: Lent, made: [&mut [f64]; 4]) -> Answer {
+    answer(|places, part| transient_run_written(std::slice::from_mut(counter), lent, made, places, part))
 }
 
 /// The same four, with the new row and column of one point more than the shape tells.
-pub fn append_point(
-    times: &[f64],
-    free: &[f64],
-    self_energy: &[f64],
-    lesser_self_energy: &[f64],
-    shape: Shape,
-    tolerance: f64,
-    made: [&mut [f64]; 4],
-) -> Answer {
-    solve(exported::leechgrommet_append_point, times, free, self_energy, lesser_self_energy, shape, tolerance, made)
+pub fn append_point(counter: &mut u64, lent: Lent, made: [&mut [f64]; 4]) -> Answer {
+    answer(|places, part| append_point_written(std::slice::from_mut(counter), lent, made, places, part))
+}
+
+/// The same with slices for the counter, places and part that may have other lengths.
+pub fn transient_run_written(counter: &mut [u64], lent: Lent, made: [&mut [f64]; 4], places: &mut [usize], part: &mut [f64]) -> u8 {
+    solve(exported::leechgrommet_transient_run, counter, lent, made, places, part)
+}
+
+pub fn append_point_written(counter: &mut [u64], lent: Lent, made: [&mut [f64]; 4], places: &mut [usize], part: &mut [f64]) -> u8 {
+    solve(exported::leechgrommet_append_point, counter, lent, made, places, part)
 }
 
 /// The numbers that the call writes, or the refusal: after 10 they are +0, after another number as they were.
@@ -404,7 +411,7 @@ fn decided(call: impl FnOnce(&mut [u8; 1], &mut [usize; 3], &mut [f64; 1]) -> u8
 #[cfg(test)]
 mod tests {
     use super::{append_point, causal_volterra_convolution, check_retarded_support, particle_number};
-    use super::{retarded_dyson_with_tolerance, transient_run, Answer, Shape};
+    use super::{retarded_dyson_with_tolerance, transient_run, Answer, Lent, Shape};
 
     const ACCEPTED: Answer = Answer::ACCEPTED;
 
@@ -453,13 +460,16 @@ mod tests {
     fn transient() {
         let (times, step, shape) = ([0.0, 1.0], [1.0, 0.0, 0.0, 0.0, 1.0, 0.0, 1.0, 0.0], Shape::of(2, 1));
         let mut made = [[5.0; 8], [6.0; 8], [7.0; 8], [8.0; 8]];
+        let mut counter = 0;
         let mut run = |lesser_self_energy: &[f64]| {
-            transient_run(&times, &step, &step, lesser_self_energy, shape, 0.5, made.each_mut().map(|xs| &mut xs[..]))
+            let lent = Lent { times: &times, operands: [&step, &step, lesser_self_energy], shape, tolerance: 0.5 };
+            transient_run(&mut counter, lent, made.each_mut().map(|xs| &mut xs[..]))
         };
         let mut lesser_self_energy = [0.0, 1.0, 0.0, 1.0, 0.0, 1.0, 0.0, f64::NAN];
         assert_eq!(run(&lesser_self_energy), Answer { number: 7, operand: 2, first: 7, ..ACCEPTED });
         lesser_self_energy[7] = 1.0;
         assert_eq!(run(&lesser_self_energy), ACCEPTED);
+        assert_eq!(counter, 11);
         let [retarded, lesser, kernel, lesser_advanced] = made;
         assert_eq!(kernel, [0.0, 0.0, 0.0, 0.0, 1.0, 0.0, 0.0, 0.0]);
         assert_eq!(retarded, [1.0, 0.0, 0.0, 0.0, 1.5, 0.0, 1.0, 0.0]);
@@ -476,13 +486,18 @@ mod tests {
         let step: [f64; 18] = std::array::from_fn(|at| f64::from(u8::from(at % 2 == 0 && at / 2 % 3 <= at / 6)));
         let lesser_self_energy: [f64; 18] = std::array::from_fn(|at| (at % 2) as f64);
         let mut made = [[5.0; 18]; 4];
-        let mut call = |append: bool| {
+        let lent = Lent { times: &times, operands: [&step, &step, &lesser_self_energy], shape, tolerance: 0.5 };
+        let mut call = |counter: &mut u64, append: bool| {
             let made = made.each_mut().map(|xs| &mut xs[..]);
             let solve = if append { append_point } else { transient_run };
-            solve(&times, &step, &step, &lesser_self_energy, shape, 0.5, made)
+            solve(counter, lent, made)
         };
-        assert_eq!(call(false), ACCEPTED);
-        assert_eq!(call(true), ACCEPTED);
+        let mut counter = u64::MAX - 41;
+        assert_eq!(call(&mut counter, false), ACCEPTED);
+        assert_eq!(call(&mut counter, true), ACCEPTED);
+        assert_eq!(counter, u64::MAX);
+        assert_eq!(call(&mut counter, true), Answer { number: 17, ..ACCEPTED });
+        assert_eq!(counter, u64::MAX);
         let full = Shape { points: 3, ..shape };
         let numbers = [0, 1, 2].map(|time| particle_number(&made[1], full, time, 0.5));
         assert_eq!(numbers, [Ok(0.0), Ok(1.5625), Ok(14.0625)]);

@@ -1,7 +1,8 @@
 //! Calls on slices laid out for a capacity of points (document 02, L1). Over the points' entries the answers are the port's. It has no append: the new row
-//! and column are made by its operations on blocks, of what the slices hold at old places.
+//! and column are made by its operations on blocks, of what the slices hold at old places. Runs and appends are in a session (L3).
 use crate::functions;
 use crate::lines::{functions_of_times, lengths, refusal, require};
+use crate::session::{appended_products, products};
 use crate::sums::{OnePoint, Stage, Work};
 use crate::{Answer, Block, Judged, Refused, Slices};
 use keldysh_green::kept;
@@ -68,27 +69,36 @@ impl Shape {
     }
 }
 
-/// The answer to a run or an append, where an append's 10 is met, and what the four slices hold afterwards: G^R, G^<, K, X.
+/// The answer to a run or an append, with the count of its products, where an append's 10 is met, and what the four slices, G^R, G^<, K, X, and the session's
+/// counter hold afterwards.
 pub struct Held {
-    pub judged: Judged<()>,
+    pub judged: Judged<u64>,
     pub stage: Option<Stage>,
     pub slices: Slices<4>,
+    pub counter: u64,
 }
 
 impl Held {
-    fn of(judged: Judged<Slices<4>>, before: [&[f64]; 4], stage: Option<Stage>, after_10: impl Fn(&[f64]) -> Vec<f64>) -> Self {
+    fn of((judged, counter): (Judged<Slices<4>>, u64), count: u64, before: [&[f64]; 4], after_10: impl Fn(&[f64]) -> Vec<f64>) -> Self {
         let Judged { answer, listed, agrees } = judged;
         let slices = match &answer {
             Ok(slices) => slices.clone(),
             Err(Refused { number: 10, .. }) => before.map(after_10),
             Err(_) => before.map(<[f64]>::to_vec),
         };
-        Self { judged: Judged { answer: answer.map(|_| ()), listed, agrees }, stage, slices }
+        Self { judged: Judged { answer: answer.map(|_| count), listed, agrees }, stage: None, slices, counter }
     }
 }
 
 /// The port's run over the points; room stays, but for 10, after which all is +0. Operands: free propagator, retarded self-energy, Σ^<.
-pub fn transient_run_in_capacity(shape: Shape, times: &[f64], operands: [&[f64]; 3], tolerance: f64, before: [&[f64]; 4]) -> Held {
+pub fn transient_run_in_capacity(
+    counter: u64,
+    shape: Shape,
+    times: &[f64],
+    operands: [&[f64]; 3],
+    tolerance: f64,
+    before: [&[f64]; 4],
+) -> Held {
     let judged = match shape.lines(Some(times), &operands, &before.map(<[f64]>::len), &[]) {
         Ok(()) => {
             let entries = operands.map(|xs| shape.within(xs));
@@ -101,7 +111,8 @@ pub fn transient_run_in_capacity(shape: Shape, times: &[f64], operands: [&[f64];
     let laid = |made: Slices<4>| std::array::from_fn(|at| shape.written(before[at], &made[at], |_, _| true));
     let judged =
         Judged { answer: judged.answer.map(laid).map_err(|refused| shape.lent(3, refused)), listed: judged.listed, agrees: judged.agrees };
-    Held::of(judged, before, None, |xs| vec![0.0; xs.len()])
+    let count = products(shape.points);
+    Held::of(judged.booked(counter, count), count, before, |xs| vec![0.0; xs.len()])
 }
 
 /// The new row and column, or where they are not finite: an old entry of X, or of G^R on or below its diagonal, that is not finite is read.
@@ -128,7 +139,7 @@ fn appended(shape: Shape, times: &[f64], operands: [&[f64]; 3], tolerance: f64, 
 }
 
 /// The append to the points that the shape tells. After 10 its new row and column are +0.
-pub fn append_point(shape: Shape, times: &[f64], operands: [&[f64]; 3], tolerance: f64, before: [&[f64]; 4]) -> Held {
+pub fn append_point(counter: u64, shape: Shape, times: &[f64], operands: [&[f64]; 3], tolerance: f64, before: [&[f64]; 4]) -> Held {
     let new = shape.points;
     // The largest count and one more is above every capacity.
     let shape = Shape { points: new.saturating_add(1), ..shape };
@@ -137,10 +148,12 @@ pub fn append_point(shape: Shape, times: &[f64], operands: [&[f64]; 3], toleranc
         Ok(Err(stage)) => (Err(Refused::by(10)), Some(stage)),
         Err(refused) => (Err(refused), None),
     };
-    Held::of(answer.into(), before, stage, |xs| {
+    let count = appended_products(new);
+    let held = Held::of(Judged::from(answer).booked(counter, count), count, before, |xs| {
         let none = vec![0.0; shape.points * shape.points * shape.block()];
         shape.written(xs, &none, |t, u| t.max(u) == new)
-    })
+    });
+    Held { stage: stage.filter(|_| held.judged.answer == Err(Refused::by(10))), ..held }
 }
 
 /// A question to the points' entries of a lesser function.

@@ -1,6 +1,6 @@
 //! One call of the list: its inputs in the list's order, and the judge's answer.
 use crate::inputs::Inputs;
-use crate::text::{accepted, answered, block, decided, filled, held, number, numbers, observed};
+use crate::text::{accepted, answered, block, booked, decided, filled, held, number, numbers, observed};
 use judge::{Answer, Block, Held, Judged, Shape, Slices};
 
 /// The answer to the function of this number.
@@ -42,12 +42,14 @@ pub fn answer(function: u64, x: &mut Inputs) -> String {
         33 => half_step(x),
         34 => full_weight(x),
         35 => interval_weight(x),
-        36 => solved(x, judge::transient_run_in_capacity),
-        37 => solved(x, judge::append_point),
+        36 => held(opened_at_0(x, judge::transient_run_in_capacity)),
+        37 => held(opened_at_0(x, judge::append_point)),
         38 => density_matrix_in_capacity(x),
         39 => particle_number_in_capacity(x),
         40 => one_body_expectation_in_capacity(x),
         41 => bond_flow_into_in_capacity(x),
+        42 => booked(in_session(x, judge::transient_run_in_capacity)),
+        43 => booked(in_session(x, judge::append_point)),
         function => panic!("no function {function}"),
     }
 }
@@ -173,13 +175,24 @@ fn shape(x: &mut Inputs) -> Shape {
     Shape { points: x.points, capacity: x.place(), orbitals: x.orbitals }
 }
 
-type Solve = fn(Shape, &[f64], [&[f64]; 3], f64, [&[f64]; 4]) -> Held;
+type Solve = fn(u64, Shape, &[f64], [&[f64]; 3], f64, [&[f64]; 4]) -> Held;
 
 /// The operands, then what the four slices hold before.
-fn solved(x: &mut Inputs, judged: Solve) -> String {
-    let (shape, [free, self_energy, lesser_self_energy, retarded, lesser, kernel, lesser_advanced]) = (shape(x), x.operands());
+fn solved(x: &Inputs, counter: u64, shape: Shape, judged: Solve) -> Held {
+    let [free, self_energy, lesser_self_energy, retarded, lesser, kernel, lesser_advanced] = x.operands();
     let before = [retarded, lesser, kernel, lesser_advanced];
-    held(judged(shape, &x.times, [free, self_energy, lesser_self_energy], x.tolerance, before))
+    judged(counter, shape, &x.times, [free, self_energy, lesser_self_energy], x.tolerance, before)
+}
+
+fn opened_at_0(x: &mut Inputs, judged: Solve) -> Held {
+    let shape = shape(x);
+    solved(x, 0, shape, judged)
+}
+
+/// The session's counter is the word after the capacity.
+fn in_session(x: &mut Inputs, judged: Solve) -> Held {
+    let (shape, counter) = (shape(x), x.word());
+    solved(x, counter, shape, judged)
 }
 
 fn density_matrix_in_capacity(x: &mut Inputs) -> String {

@@ -42,7 +42,7 @@ impl<'a, 'b> Inputs<'a, 'b> {
         x
     }
 
-    fn word(&mut self) -> u64 {
+    pub fn word(&mut self) -> u64 {
         self.words.next().expect("one more word")
     }
 

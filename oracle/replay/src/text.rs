@@ -75,8 +75,17 @@ pub fn filled<const COUNT: usize>(judged: impl Into<Judged<Slices<COUNT>>>, held
     slices.fold(verdict, |text, slice| text + " " + &slice)
 }
 
+fn with_slices(verdict: String, slices: &Slices<4>) -> String {
+    slices.iter().map(|xs| numbers(xs)).filter(|text| !text.is_empty()).fold(verdict, |text, slice| text + " " + &slice)
+}
+
 /// The verdict of a run or an append in a capacity, and what its four slices hold.
 pub fn held(x: Held) -> String {
-    let verdict = accepted(x.judged.agreed());
-    x.slices.iter().map(|xs| numbers(xs)).filter(|text| !text.is_empty()).fold(verdict, |text, slice| text + " " + &slice)
+    with_slices(verdict(&x.judged.agreed()), &x.slices)
+}
+
+/// The same in a session: an accepted call has its count, and the counter comes before the slices.
+pub fn booked(x: Held) -> String {
+    let verdict = answered(x.judged.agreed(), |count| format!("accepted {count}"));
+    with_slices(format!("{verdict} {}", x.counter), &x.slices)
 }

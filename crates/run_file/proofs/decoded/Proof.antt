@@ -8,8 +8,11 @@ use Rattle.run_file.proofs.decoded.Statement.{statement}
 use Rattle.run_file.proofs.decoded.Tie as tie
 
 -- the places before the buffers
+abbrev session : tie.After-retarded → tie.After-open
+session c = c .before .before .before .before .before
+
 abbrev fourth : tie.After-retarded → tie.After-numbers4
-fourth c = c .before .before .before .before .before .before .before
+fourth c = session c .before .before .before
 
 abbrev third : tie.After-retarded → tie.After-numbers3
 third c = fourth c .before .before .before .before
@@ -37,7 +40,7 @@ returns c =
     let each = sized g .body-length .ensures in
     let starts : ℕ → ℕ = λ e. 40 + 8 * s .args .points + e in
     as-text
-    (ap runAnswer (decoded-run (s .pre .0) (same-numbers _ (first g .numbers .ensures) refl (long .0)) (same-numbers _ (second g .numbers2 .ensures) refl (long .1))
+    (ap runAnswer (decoded-run (s .pre .0) (session g .«open» .ensures) (same-numbers _ (first g .numbers .ensures) refl (long .0)) (same-numbers _ (second g .numbers2 .ensures) refl (long .1))
     (same-numbers _ (third g .numbers3 .ensures) (ap (λ (e : ℕ). starts (8 * e)) (each .0)) (long .2)) (same-numbers _ (fourth g .numbers4 .ensures) (ap (λ (e : ℕ). starts (16 * e)) (each .0)) (long .3))
     (part-zero 512 each)))
     (c .before .before .before .before .before .before .solve .ensures)
@@ -57,6 +60,7 @@ decoded-spec =
     (λ c. search needs)  -- mul-numbers-2
     (λ c. search needs)  -- add-numbers-2
     (λ c κs. search needs)  -- numbers-requires-4
+    (λ c κs. search needs)  -- open-requires
     (λ c. search needs)  -- array-borrow-prefix-retarded
     (λ c. part-whole 512 (sized c .body-length .ensures))  -- slice-aggregate-solve
     (λ c. search needs)  -- array-borrow-prefix-lesser

@@ -9,7 +9,7 @@ abbrev ran : tie.After-slice-known10 → tie.After-transient-run
 ran c = c .before .before .before .before .before .before .before .before .before .before .before .before .before
 
 returns : tie.Need-returns
-returns c = let made = ran c .transient-run .ensures in as-text (answer-printed _ (made .0) (made .2)) (c .before .before .answer-text .ensures)
+returns c = let made = ran c .transient-run .ensures in as-text (answer-printed _ (made .0) (made .3)) (c .before .before .answer-text .ensures)
 
 pub solve-spec : {M : Type 1} → statement M
 solve-spec =
@@ -17,9 +17,9 @@ solve-spec =
     (tie.spec
     (λ c κs. search needs)  -- transient-run-requires
     (λ c κs. search needs)  -- answer-text-requires
-    (λ c. ran c .transient-run .kept .1 .1 .1 .1 .1 .1 .0)  -- same-length
-    (λ c. ran c .transient-run .kept .1 .1 .1 .1 .1 .1 .1 .0)  -- same-length-2
-    (λ c. ran c .transient-run .kept .1 .1 .1 .1 .1 .1 .1 .1 .0)  -- same-length-3
-    (λ c. ran c .transient-run .kept .1 .1 .1 .1 .1 .1 .1 .1 .1 .0)  -- same-length-4
+    (λ c. ran c .transient-run .kept .1 .1 .1 .1 .1 .1 .1 .0)  -- same-length
+    (λ c. ran c .transient-run .kept .1 .1 .1 .1 .1 .1 .1 .1 .0)  -- same-length-2
+    (λ c. ran c .transient-run .kept .1 .1 .1 .1 .1 .1 .1 .1 .1 .0)  -- same-length-3
+    (λ c. ran c .transient-run .kept .1 .1 .1 .1 .1 .1 .1 .1 .1 .1 .0)  -- same-length-4
     (λ c. c .before .before .answer-text .kept .1 .1 .1 .1 .0)  -- same-length-5
     returns)

@@ -1,8 +1,10 @@
 -- `transient_run::checks` meets its contract: it makes the checks in their order. Assumes nothing.
-use Rattle.lists.specs.Prelude.{_≡_, List, [], _∷_, Float, now, needs}
+use Rattle.lists.specs.Prelude.{_≡_, sym, ap, _∙_, List, [], _∷_, Float, now, needs}
+use Rattle.refusal.specs.Checks.{counterHolds}
 use Rattle.two_time.specs.Calls.{allFit}
 use Rattle.two_time.specs.SizeChecks.{fits-more}
 use Rattle.two_time.specs.CapacityChecks.{capacity-asked}
+use Rattle.transient_run.specs.Past.{sizes-least}
 use Rattle.transient_run.specs.Calls.{Run, runOf}
 use Rattle.transient_run.specs.Checks.{slices, sizesAsked, sizes-refused, checks-asked}
 use Rattle.transient_run.proofs.checks.Statement.{statement}
@@ -16,7 +18,7 @@ start c = lengths c .before .before .before .before .before .before .before
 
 module _ (retarded lesser kernel lesserAdvanced : List Float) where
   abbrev run : tie.After-check-capacity → Run
-  run c = let x = start c .args in runOf (x .shape) (x .tolerance) (now (x .times)) (now (x .free)) (now (x .self-energy)) (now (x .lesser-self-energy)) retarded lesser kernel lesserAdvanced
+  run c = let x = start c .args in runOf (x .session) (x .shape) (x .tolerance) (now (x .times)) (now (x .free)) (now (x .self-energy)) (now (x .lesser-self-energy)) retarded lesser kernel lesserAdvanced
 
   -- the sizes
   sized : (c : tie.After-check-capacity) → let x = start c .args in x .fits ≡ allFit (x .shape .capacity) (x .shape .orbitals) (retarded ∷ lesser ∷ kernel ∷ lesserAdvanced ∷ [])
@@ -29,22 +31,32 @@ module _ (retarded lesser kernel lesserAdvanced : List Float) where
       (c .check-capacity .ensures)
 
 returns : tie.Need-returns
-returns c old retarded lesser kernel lesserAdvanced fits =
+returns c retarded lesser kernel lesserAdvanced fits =
     let v = c .before .before in
-    sizes-refused (start v .args .shape .points) (run retarded lesser kernel lesserAdvanced v) old (sized retarded lesser kernel lesserAdvanced v fits) (c .enum-told2 .given .1)
+    sizes-refused (start v .args .shape .points) (run retarded lesser kernel lesserAdvanced v) (start v .args .old) (sized retarded lesser kernel lesserAdvanced v fits) (c .enum-told2 .given .1)
 
 returns-2 : tie.Need-returns-2
-returns-2 c old retarded lesser kernel lesserAdvanced fits =
+returns-2 c retarded lesser kernel lesserAdvanced fits =
     let rest = c .before in
-    let grid = rest .before in
-    let support = grid .before in
+    let last = rest .before in
+    let grid = last .before in
+    let holds = grid .before in
+    let support = holds .before .before in
     let entries = support .before in
     let later = entries .before .before in
     let told = later .before .before .before in
     let v = told .before .before in
-    checks-asked (start v .args .shape .points) (run retarded lesser kernel lesserAdvanced v) old (sized retarded lesser kernel lesserAdvanced v fits) (told .enum-told .given .1)
+    checks-asked (start v .args .shape .points) (run retarded lesser kernel lesserAdvanced v) (start v .args .old) (sized retarded lesser kernel lesserAdvanced v fits) (told .enum-told .given .1)
     (grid .check-grid .ensures) (entries .before .check-points3 .ensures) (later .before .before .check-points .ensures) (later .before .check-points2 .ensures) (support .check-retarded-inputs .ensures)
-    (later .then .ensures) (entries .then2 .ensures) (rest .then3 .ensures) (c .then4 .ensures)
+    (holds .counter-holds .ensures ∙ ap (counterHolds (start v .args .session .products)) (holds .before .formed .ensures)) (later .then .ensures) (entries .then2 .ensures) (last .then3 .ensures) (rest .then4 .ensures) (c .then5 .ensures)
+
+-- once the sizes pass, whatever the outputs are, the points are at most 256
+formed-requires : tie.Need-formed-requires
+formed-requires c κs =
+    let told = c .before .before .before .before .before .before in
+    let v = told .before .before in
+    let z = sizes-least (start v .args .shape .points) _ _ _ (sym (v .check-capacity .ensures) ∙ told .enum-told .given .1) in
+    (start v .pre, z)
 
 pub checks-spec : {M : Type 1} → statement M
 checks-spec =
@@ -63,7 +75,10 @@ checks-spec =
     (λ c κs. search needs)  -- check-points-requires-3
     (λ c κs. search needs)  -- then-requires-2
     (λ c κs. search needs)  -- check-retarded-inputs-requires
+    formed-requires
+    (λ c κs. search needs)  -- counter-holds-requires
     (λ c κs. search needs)  -- check-grid-requires
     (λ c κs. search needs)  -- then-requires-3
     (λ c κs. search needs)  -- then-requires-4
+    (λ c κs. search needs)  -- then-requires-5
     returns-2)

@@ -1,5 +1,5 @@
 -- `transient_run::transient_run` meets its contract: from 0 on, and 10 clears all four slices throughout. Assumes nothing.
-use Rattle.lists.specs.Prelude.{_≡_, sym, _∙_, true, false, List, eqb, eq-eqb, ne-eqb, Float, now, needs}
+use Rattle.lists.specs.Prelude.{_≡_, refl, sym, ap, _∙_, Bool, true, false, cond, List, ℕ, eqb, eq-eqb, ne-eqb, arith, Float, now, needs}
 use Rattle.refusal.specs.declared.Refusal.{Refusal}
 use Rattle.refusal.specs.declared.Verdict.{Verdict}
 use Rattle.refusal.specs.declared.Verdict.the-variants.{Pass, Refused}
@@ -7,7 +7,7 @@ use Rattle.refusal.specs.Verdict.{zeroed, afterwards}
 use Rattle.two_time.specs.New.{clearedNew}
 use Rattle.two_time.specs.Checks.{cleared}
 use Rattle.transient_run.specs.Calls.{Run, runOf, verdictOf, worked, transientRun}
-use Rattle.transient_run.specs.Checks.{accepted, refused}
+use Rattle.transient_run.specs.Checks.{accepted-with, refused}
 use Rattle.transient_run.proofs.transient_run.Statement.{statement}
 use Rattle.transient_run.proofs.transient_run.Tie as tie
 
@@ -32,7 +32,7 @@ start c = c .before .before .before .before .before .before .before .before .bef
 abbrev run : tie.After-solve → Run
 run c =
     let x = start c .args in
-    runOf (x .shape) (x .tolerance) (now (x .times)) (now (x .free)) (now (x .self-energy)) (now (x .lesser-self-energy)) (now (x .retarded)) (now (x .lesser)) (now (x .kernel)) (now (x .lesser-advanced))
+    runOf (x .session) (x .shape) (x .tolerance) (now (x .times)) (now (x .free)) (now (x .self-energy)) (now (x .lesser-self-energy)) (now (x .retarded)) (now (x .lesser)) (now (x .kernel)) (now (x .lesser-advanced))
 
 abbrev verdict : tie.After-solve → Verdict
 verdict c = verdictOf 0 (run c .points) (run c)
@@ -46,11 +46,12 @@ solving c = c .before .before .before .before .before .before .before .before
 returns : tie.Need-returns
 unfolding transientRun worked
 returns c =
-    let s = solving (c .before .before) in
+    let a = c .before in
+    let s = solving (a .before .before .before) in
     let o = s .solve .ensures in
-    let told = c .enum-told .given .1 in
-    let p = accepted (verdict s) (sym (o .0) ∙ told) in
-    (sym told ∙ o .0, stays (clear s) (verdict s) _ _ (o .1) p, stays (clear s) (verdict s) _ _ (o .2) p, stays (clear s) (verdict s) _ _ (o .3) p, stays (clear s) (verdict s) _ _ (o .4) p)
+    let told = a .answer .given .1 in
+    let p = accepted-with (verdict s) _ _ (sym (o .0) ∙ told) .0 in
+    (sym told ∙ o .0, o .1, stays (clear s) (verdict s) _ _ (o .2) p, stays (clear s) (verdict s) _ _ (o .3) p, stays (clear s) (verdict s) _ _ (o .4) p, stays (clear s) (verdict s) _ _ (o .5) p)
 
 returns-2 : tie.Need-returns-2
 unfolding transientRun worked
@@ -61,14 +62,15 @@ returns-2 c =
     let first = second .before .before .before .before in
     let test = first .before .before in
     let k = test .before .before in
-    let s = solving (k .before .before .before) in
+    let s = solving (k .before .before .before .before) in
     let o = s .solve .ensures in
-    let told = k .before .solved .given .1 in
-    let x = k .before .solved .given .0 .0 in
-    let p = refused (verdict s) x (sym (o .0) ∙ told) in
+    let told = k .before .answer2 .given .1 in
+    let x = k .before .answer2 .given .0 .0 in
+    let p = refused (verdict s) x _ (sym (o .0) ∙ told) in
     let n = eq-eqb (x .number) 10 (test .if1 .taken) in
-    let kept = s .solve .kept .1 .1 .1 .1 .1 .1 .1 in (
+    let kept = s .solve .kept .1 .1 .1 .1 .1 .1 .1 .1 in (
       sym told ∙ o .0,
+      o .1,
       ten (verdict s) _ _ x p n (cleared (first .clear .ensures) (kept .0)),
       ten (verdict s) _ _ x p n (cleared (second .clear2 .ensures) (kept .1 .0)),
       ten (verdict s) _ _ x p n (cleared (third .clear3 .ensures) (kept .1 .1 .0)),
@@ -79,13 +81,13 @@ returns-3 : tie.Need-returns-3
 unfolding transientRun worked
 returns-3 c =
     let k = c .before .before in
-    let s = solving (k .before .before .before) in
+    let s = solving (k .before .before .before .before) in
     let o = s .solve .ensures in
-    let told = k .before .solved .given .1 in
-    let x = k .before .solved .given .0 .0 in
-    let p = refused (verdict s) x (sym (o .0) ∙ told) in
+    let told = k .before .answer2 .given .1 in
+    let x = k .before .answer2 .given .0 .0 in
+    let p = refused (verdict s) x _ (sym (o .0) ∙ told) in
     let n = ne-eqb (x .number) 10 (c .if1 .left) in
-    (sym told ∙ o .0, not-ten (clear s) (verdict s) _ _ (o .1) x p n, not-ten (clear s) (verdict s) _ _ (o .2) x p n, not-ten (clear s) (verdict s) _ _ (o .3) x p n, not-ten (clear s) (verdict s) _ _ (o .4) x p n)
+    (sym told ∙ o .0, o .1, not-ten (clear s) (verdict s) _ _ (o .2) x p n, not-ten (clear s) (verdict s) _ _ (o .3) x p n, not-ten (clear s) (verdict s) _ _ (o .4) x p n, not-ten (clear s) (verdict s) _ _ (o .5) x p n)
 
 pub transient-run-spec : {M : Type 1} → statement M
 transient-run-spec =

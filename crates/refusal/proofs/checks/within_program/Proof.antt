@@ -1,16 +1,12 @@
 -- `refusal::checks::within_program` meets its contract: N·n is at most 16 where n is 0, and where N is at most 16 / n. Assumes nothing.
-use Rattle.lists.specs.Prelude.{_≡_, refl, sym, _∙_, Bool, true, false, ℕ, _*_, _/_, _<_, le-div-iff-mul-le, mul-zero, arith, leb, needs, leb-true, le-leb}
+use Rattle.lists.specs.Prelude.{_≡_, _∙_, ℕ, _*_, _/_, _<_, le-div-iff-mul-le, mul-zero, arith, leb, needs, leb-true, le-leb}
 use Rattle.refusal.specs.Checks.{withinProgram}
+use Rattle.refusal.specs.Agreement.{same-test}
 use Rattle.refusal.proofs.checks.within_program.Statement.{statement}
 use Rattle.refusal.proofs.checks.within_program.Tie as tie
 
 divided : (p n k : ℕ) → 0 < n → leb p (k / n) ≡ leb (p * n) k
-divided p n k h = level (leb p (k / n)) (leb (p * n) k) (λ e. le-leb _ _ (le-div-iff-mul-le h .0 (leb-true _ _ e))) (λ e. le-leb _ _ (le-div-iff-mul-le h .1 (leb-true _ _ e)))
-  where
-    level : (x y : Bool) → (x ≡ true → y ≡ true) → (y ≡ true → x ≡ true) → x ≡ y
-    level true y f g = sym (f refl)
-    level false true f g = g refl
-    level false false f g = refl
+divided p n k h = same-test _ _ (λ e. le-leb _ _ (le-div-iff-mul-le h .0 (leb-true _ _ e))) (λ e. le-leb _ _ (le-div-iff-mul-le h .1 (leb-true _ _ e)))
 
 pub within-program-spec : {M : Type 1} → statement M
 unfolding withinProgram
