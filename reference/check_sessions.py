@@ -1,5 +1,5 @@
-"""Asserts cases of document 02's L3: the count of products place by place against the formula, for all N to 256,
-and against the products that the reading forms; the session's counter and question 17. Prints what it held."""
+"""Asserts cases of document 02's L3 and L13: the count of products place by place against the formula, for all N to
+256, and against the products that the reading forms; the desks' counters and questions 17 and 22. Prints what it held."""
 
 import math
 
@@ -7,7 +7,7 @@ import document01
 from bits import same_bits
 from document01 import ACCEPTED, LARGEST, MOST_POINTS, Refusal, function_length
 from document02 import (
-    LARGEST_COUNT, Formed, Session, append_in_session, append_point, append_products, formula, places, run_in_session, run_products,
+    DESKS, LARGEST_COUNT, Formed, append_in_session, append_point, append_products, formula, opened, places, run_in_session, run_products,
     transient_run,
 )
 
@@ -100,26 +100,34 @@ def check_formed():
 # ---- The session -----------------------------------------------------------------
 
 
+def with_desk(desk, counter, other=0):
+    """A session in which every other desk has another counter."""
+    return opened([counter if at == desk else other for at in range(DESKS)])
+
+
 def check_counter():
-    """A run over 3 points carries 41; at 2^64 - 1 - 41 it is let through, and one more is 17."""
-    for counter in (0, 1, 2**63, LARGEST_COUNT - 41):
-        outcome, session = run_in_session(Session(counter), 3, *told(4))
-        assert outcome.answer == Formed(41) and session == Session(counter + 41)
+    """A run over 3 points carries 41; at 2^64 - 1 - 41 it is let through, and one more is 17. The other desks are full."""
+    for desk, counter in enumerate((0, 1, 2**32 - 1, 2**53, 2**63 - 1, 2**63, LARGEST_COUNT - 42, LARGEST_COUNT - 41)):
+        outcome, session = run_in_session(with_desk(desk, counter, LARGEST_COUNT), desk, 3, *told(4))
+        assert outcome.answer == Formed(41) and session == with_desk(desk, counter + 41, LARGEST_COUNT)
         plain = transient_run(3, *told(4))
         assert plain.answer == ACCEPTED and stands(outcome, slices_of(plain))
-    assert session == Session(LARGEST_COUNT)
+    assert session.counters == (LARGEST_COUNT,) * DESKS
     left = slices_of(outcome)
-    for call, points in ((run_in_session, 3), (run_in_session, 2), (append_in_session, 3), (append_in_session, 1)):
-        again, after = call(session, points, *told(4, lent=left))
-        assert again.answer == Refusal(17) and after == session and stands(again, left)
-    outcome, session = run_in_session(Session(LARGEST_COUNT - 40), 3, *told(4))
-    assert outcome.answer == Refusal(17) and session == Session(LARGEST_COUNT - 40) and stands(outcome, before(4))
+    for desk in range(DESKS):
+        full = with_desk(desk, LARGEST_COUNT)
+        for call, points in ((run_in_session, 3), (run_in_session, 2), (append_in_session, 3), (append_in_session, 1)):
+            again, after = call(full, desk, points, *told(4, lent=left))
+            assert again.answer == Refusal(17) and after == full and stands(again, left)
+        before_it = with_desk(desk, LARGEST_COUNT - 40)
+        outcome, session = run_in_session(before_it, desk, 3, *told(4))
+        assert outcome.answer == Refusal(17) and session == before_it and stands(outcome, before(4))
     lent = [[0.5] * 32] * 4
-    outcome, session = append_in_session(Session(LARGEST_COUNT - 11), 1, *told(4, lent=lent))
-    assert outcome.answer == Formed(11) and session == Session(LARGEST_COUNT)
-    outcome, session = append_in_session(Session(LARGEST_COUNT - 10), 1, *told(4, lent=lent))
+    outcome, session = append_in_session(with_desk(2, LARGEST_COUNT - 11), 2, 1, *told(4, lent=lent))
+    assert outcome.answer == Formed(11) and session == with_desk(2, LARGEST_COUNT)
+    outcome, session = append_in_session(with_desk(2, LARGEST_COUNT - 10), 2, 1, *told(4, lent=lent))
     assert outcome.answer == Refusal(17) and stands(outcome, lent)
-    print("a counter comes to 2^64 - 1 and no further: 17, with every slice and the counter as they were")
+    print("a desk's counter comes to 2^64 - 1 and no further: 17, with every slice and all counters as they were; no other desk's is asked")
 
 
 def refused_before_17():
@@ -133,34 +141,62 @@ def refused_before_17():
 
 
 def check_order():
-    """9 before 17, 17 before 10; a refused call adds nothing."""
-    full, room = Session(LARGEST_COUNT), Session(LARGEST_COUNT - 41)
+    """22 before all others, 9 before 17, 17 before 10; a refused call adds nothing."""
+    full, room = with_desk(3, LARGEST_COUNT), with_desk(3, LARGEST_COUNT - 41, LARGEST_COUNT)
     overflowing = told(4, free=[LARGEST * x for x in ones(4)], self_energy=[2.0 * x for x in ones(4)])
     for call, points in ((run_in_session, 3), (append_in_session, 2)):
         cases = [(number, points, arguments) for number, arguments in refused_before_17().items()]
         cases += [(1, 0, told(4)), (16, 5, told(4)), (16, LARGEST_COUNT, told(4))]
         for session in (full, room):
             for number, points_told, arguments in cases:
-                outcome, after = call(session, points_told, *arguments)
+                outcome, after = call(session, 3, points_told, *arguments)
                 assert outcome.answer.number == number and after == session and stands(outcome, before(4))
-        (outcome, after), count = formed(call, full, points, *overflowing)
+                for desk in (8, 9, 256, 2**32, LARGEST_COUNT):
+                    outcome, after = call(session, desk, points_told, *arguments)
+                    assert outcome.answer == Refusal(22) and after == session and stands(outcome, before(4))
+            (outcome, after), count = formed(call, session, 8, points, *overflowing)
+            assert outcome.answer == Refusal(22) and after == session and stands(outcome, before(4)) and count == 0
+        (outcome, after), count = formed(call, full, 3, points, *overflowing)
         assert outcome.answer == Refusal(17) and after == full and stands(outcome, before(4)) and count == 0
-        (outcome, after), count = formed(call, room, points, *overflowing)
+        (outcome, after), count = formed(call, room, 3, points, *overflowing)
         assert outcome.answer == Refusal(10) and after == room and not stands(outcome, before(4)) and count > 0
-    print("17 comes after 1, 2, 3, 16 and 4 to 9 and before any product; 10 adds nothing")
+    print("22 comes before 1, 2, 3, 16, 4 to 10 and 17; 17 after 1, 2, 3, 16 and 4 to 9 and before any product; 10 adds nothing")
 
 
 def check_histories():
-    """A run and its appends count like the run over all points."""
+    """A run and its appends count like the run over all points, whatever desks they name."""
     total, most = 2**64 - 12345, 9
     for first in range(2, most + 1):
-        session = Session(total)
-        outcome, session = run_in_session(session, first, *told(most))
+        session = opened([total] * DESKS)
+        outcome, session = run_in_session(session, first % DESKS, first, *told(most))
         for points in range(first, most):
-            outcome, session = append_in_session(session, points, *told(most, lent=slices_of(outcome)))
-        whole, after = run_in_session(Session(total), most, *told(most))
-        assert session == after == Session(total + formula(most)) and stands(outcome, slices_of(whole))
-    print(f"a run and its appends count like the run over all points: runs over 2 to {most} points and appends up to {most}")
+            outcome, session = append_in_session(session, 5 * points % DESKS, points, *told(most, lent=slices_of(outcome)))
+        whole, after = run_in_session(with_desk(4, total), 4, most, *told(most))
+        assert sum(session.counters) - DESKS * total == after.counters[4] - total == formula(most)
+        assert stands(outcome, slices_of(whole))
+    print(f"a run and its appends count like the run over all points: runs over 2 to {most} points and appends up to {most}, at several desks")
+
+
+def check_desks():
+    """From zero, runs over 3 points at 0 and 7: 41, 0, .., 41; desk 3 full and a run at 4; the eight sum to the accepted counts."""
+    session = opened([0] * DESKS)
+    for desk in (0, 7):
+        _, session = run_in_session(session, desk, 3, *told(4))
+    assert session.counters == (41, 0, 0, 0, 0, 0, 0, 41)
+    outcome, session = run_in_session(with_desk(3, LARGEST_COUNT), 4, 3, *told(4))
+    assert outcome.answer == Formed(41) and session.counters == (0, 0, 0, LARGEST_COUNT, 41, 0, 0, 0)
+    assert run_in_session(session, 8, 0, *told(4))[0].answer == Refusal(22)
+    # Some of these are told too few points or too many, or name desk 8.
+    session, counts = opened([0] * DESKS), [0] * DESKS
+    lent = [[0.5] * 32] * 4
+    for index in range(60):
+        call, points, desk = (run_in_session, append_in_session)[index % 2], index % 5, 7 * index % 9
+        outcome, session = call(session, desk, points, *told(4, lent=lent))
+        if isinstance(outcome.answer, Formed):
+            counts[desk] += outcome.answer.products
+        assert session.counters == tuple(counts)
+    assert sum(session.counters) == sum(counts) > 0
+    print("a desk's counter is that of its own accepted calls, and from zero the eight sum to the accepted counts: a list of 60 calls")
 
 
 def main():
@@ -169,6 +205,7 @@ def main():
     check_counter()
     check_order()
     check_histories()
+    check_desks()
     print("sessions: ok")
 
 

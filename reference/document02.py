@@ -1,5 +1,5 @@
-"""A plain reading of document 02's L1, appending a time point, and L3, work in the
-answer, over that of document 01.
+"""A plain reading of document 02's L1, appending a time point, L3, work in the
+answer, and L13, a counter for each desk, over that of document 01.
 
 Slices are "laid out for a capacity of points (row t begins at t times capacity
 blocks)": entry (a, b) of block (t, u) begins at `place(capacity, n, t, u, a, b)`,
@@ -257,15 +257,23 @@ def formula(points):
 
 
 # ---- Sessions ---------------------------------------------------------------------
-# A call in a session takes the session first, and gives it back beside its outcome.
+# A call in a session takes the session and its desk first, and gives the session back
+# beside its outcome.
 
 LARGEST_COUNT = 2**64 - 1
+DESKS = 8
 
 
 class Session(NamedTuple):
-    """"One 64-bit counter, opened at the total carried over from the session before"."""
+    """L13: "eight counters, one for each desk numbered 0 to 7, in place of the session's one"."""
 
-    counter: int
+    counters: tuple
+
+
+def opened(totals):
+    """Each counter is "opened at the total its own desk carries over"."""
+    assert len(totals) == DESKS and all(0 <= total <= LARGEST_COUNT for total in totals)
+    return Session(tuple(totals))
 
 
 class Formed(NamedTuple):
@@ -274,13 +282,26 @@ class Formed(NamedTuple):
     products: int
 
 
-def line_17(session, count):
-    """Document 02: "17 if the session counter would pass 2^64 - 1"; it may come to that."""
-    if session.counter + count > LARGEST_COUNT:
+def line_22(desk):
+    """L13: "22 if the desk is above 7, before line 1"."""
+    if desk > 7:
+        return Refusal(22)
+
+
+def line_17(session, desk, count):
+    """L3: "17 if the session counter would pass 2^64 - 1"; it may come to that. L13: "that desk's counter"."""
+    if session.counters[desk] + count > LARGEST_COUNT:
         return Refusal(17)
 
 
-def in_session(session, call, count, points, all_points, told):
+def with_count(session, desk, count):
+    """L13: "no other desk's counter changes"."""
+    counters = list(session.counters)
+    counters[desk] += count
+    return Session(tuple(counters))
+
+
+def in_session(session, desk, call, count, points, all_points, told):
     """17 comes "after line 9 and before any product"; a call that is refused adds nothing.
 
     `count` gives the products by the points that the call is told; `all_points` has an append's
@@ -288,24 +309,24 @@ def in_session(session, call, count, points, all_points, told):
     """
     capacity, orbitals, times, free, self_energy, lesser_self_energy, tolerance, *slices = told
     operands = [free, self_energy, lesser_self_energy]
-    refusal = solve_lines(all_points, capacity, orbitals, times, operands, slices, tolerance)
-    refusal = refusal or line_17(session, count(points))
+    refusal = line_22(desk) or solve_lines(all_points, capacity, orbitals, times, operands, slices, tolerance)
+    refusal = refusal or line_17(session, desk, count(points))
     if refusal:
         return Outcome(refusal, unchanged(dict(zip(("retarded", "lesser", "kernel", "sums"), slices)))), session
     outcome = call(points, *told)
     if outcome.answer != ACCEPTED:
         return outcome, session
     formed = count(points)
-    return Outcome(Formed(formed), outcome.lent), Session(session.counter + formed)
+    return Outcome(Formed(formed), outcome.lent), with_count(session, desk, formed)
 
 
-def run_in_session(session, points, *told):
-    return in_session(session, transient_run, run_products, points, points, told)
+def run_in_session(session, desk, points, *told):
+    return in_session(session, desk, transient_run, run_products, points, points, told)
 
 
-def append_in_session(session, points, *told):
+def append_in_session(session, desk, points, *told):
     """An append adds what it forms: "A run and its appends count like the run over all points"."""
-    return in_session(session, append_point, append_products, points, points + 1, told)
+    return in_session(session, desk, append_point, append_products, points, points + 1, told)
 
 
 # ---- Observables ------------------------------------------------------------------

@@ -106,12 +106,12 @@ OUTCOME = {
 
 
 def in_session(solve):
-    """A run or an append in a session that has its counter before: the outcome, and the session after."""
+    """A run or an append at a desk, in a session that has these counters before: the outcome, and the session after."""
 
     def booked(call):
-        capacity, counter = call.more
+        capacity, desk, *counters = call.more
         told = (call.points, capacity, call.orbitals, *call.slices[:4], call.tolerance, *call.slices[4:])
-        return solve(document02.Session(counter), *told)
+        return solve(document02.opened(counters), desk, *told)
 
     return booked
 
@@ -119,10 +119,10 @@ def in_session(solve):
 BOOKED = {RUN_BOOKED: in_session(document02.run_in_session), APPEND_BOOKED: in_session(document02.append_in_session)}
 
 
-def with_counter(outcome, session):
-    """An answer, then the counter after the call, then each output and scratch slice."""
+def with_counters(outcome, session):
+    """An answer, then the eight counters after the call, then each output and scratch slice."""
     text, *numbers = with_slices(outcome)
-    return [text, str(session.counter), *numbers]
+    return [text, *map(str, session.counters), *numbers]
 
 
 # ---- Other calls ---------------------------------------------------------------
@@ -275,7 +275,7 @@ def weighed_unasked(call):
 
 
 ANSWER = {function: (lambda call, outcome=outcome: with_slices(outcome(call))) for function, outcome in OUTCOME.items()} | {
-    function: (lambda call, booked=booked: with_counter(*booked(call))) for function, booked in BOOKED.items()
+    function: (lambda call, booked=booked: with_counters(*booked(call))) for function, booked in BOOKED.items()
 } | {
     SUPPORT: supported, DENSITY: dense, NUMBER: counted, EXPECTATION: expected, FLOW: flowed, REPORT: reported,
     CONSISTENT: decided, NORM: normed, FROM_NUMBERS: built, IDENTITY: one_on_diagonal, ADJOINT: made_block(adjoint),
