@@ -24,11 +24,12 @@
  * question asks and an accepted call leaves. Questions 2 and 3 read C for N; the others are about the N points, and a position is that in the slice
  * as it is passed. With a capacity of N the layout is that of the other calls.
  *
- * Sessions. The transient run and the append are calls of a session, which counts the products of blocks that its accepted calls form. Its counter crosses
- * as `counter`, a slice of 1, in and out: before the first call it holds the total that is carried over, 0 if none. An accepted call adds its count, and
- * nothing else writes it, so that the count of a call is the counter after it less the counter before. A run over N points has
+ * Sessions. The transient run and the append are calls at a desk of a session, which counts the products of blocks that its accepted calls form, for each
+ * of eight desks by itself. Its counters cross as `counters`, a slice of 8, desk 0's first, in and out: before the first call each holds the total that its
+ * desk carries over, 0 if none. `desk`, 0 to 7, names the desk of a call. An accepted call adds its count to that desk's counter; no other counter changes,
+ * and no other call writes any, so that the count of a call is its desk's counter after it less that before. A run over N points has
  * N(N+1)(2N+1)/6 + N*N*(N+1) - 3N, an append what the run over all points has more: a run and its appends count like the run over all points. A caller
- * that does not book passes a counter of 0 to each call.
+ * that does not book passes eight counters of 0 and desk 0 to each call.
  *
  * Blocks. A block crosses as its rows, its columns and the address of LEECHGROMMET_BLOCK_NUMBERS numbers, of which the first 2*rows*columns
  * are its entries, row by row, real part before imaginary. A block that is made is the answer's own: it is written as rows and columns to
@@ -44,8 +45,9 @@
  *     5   each time above the one before: first            13  hopping and charge factor finite
  *     6   all full weights finite                          14  the imaginary part's size at most the tolerance: part
  *     7   all entries finite: operand, first = position    16  N at most the capacity: asked after 3
- *     8   the tolerance finite and above 0                 17  counter and count together at most 2^64 - 1: asked after 9, before any product
- * Question 3 is asked, after 1 and 2, by every call that is passed a slice: also of what is passed for a value, residuals, a decision, a block or a counter.
+ *     8   the tolerance finite and above 0                 17  the desk's counter plus the count at most 2^64 - 1: asked after 9, before any product
+ *                                                          22  the desk at most 7: asked before 1
+ * Question 3 is asked, after 1 and 2, by every call that is passed a slice: also of what is passed for a value, residuals, a decision, a block or counters.
  * Operands count from 0 in the order of the parameters, times not counted. After 10 every output and scratch slice, one for a value or
  * residuals too, holds +0 throughout, room included, but for an append's, where the new row and column hold +0 and the rest is as it was; after any
  * other number nothing passed has changed.
@@ -81,6 +83,7 @@
 #define LEECHGROMMET_NOT_REAL 14
 #define LEECHGROMMET_NO_ROOM 16
 #define LEECHGROMMET_COUNTER_FULL 17
+#define LEECHGROMMET_NO_SUCH_DESK 22
 
 #ifdef __cplusplus
 extern "C" {
@@ -215,9 +218,9 @@ uint8_t leechgrommet_retarded_dyson_with_tolerance(
     size_t *places, size_t places_len, double *part, size_t part_len);
 
 /* The transient run of a device that starts empty, of its free propagator and the retarded and the lesser self-energy of its leads: retarded = G^R and
- * lesser = G^<; kernel = K and lesser_advanced = X, the lesser self-energy times the advanced function, are scratch. Asks 1, 2, 3, 16, 4 to 9, 17, 10. */
+ * lesser = G^<; kernel = K and lesser_advanced = X, the lesser self-energy times the advanced function, are scratch. Asks 22, 1, 2, 3, 16, 4 to 9, 17, 10. */
 uint8_t leechgrommet_transient_run(
-    uint64_t *counter, size_t counter_len,
+    uint64_t *counters, size_t counters_len, size_t desk,
     const double *times, size_t times_len,
     const double *free_propagator, size_t free_propagator_len,
     const double *self_energy, size_t self_energy_len,
@@ -232,10 +235,10 @@ uint8_t leechgrommet_transient_run(
 /* Appends one time point. `points` are those before the append, one or more, and the new point's index; times and the three inputs have it too. The new
  * row and column of all four are worked out, of what retarded and lesser_advanced hold at old places, whatever that is: an old number of theirs that is
  * read and not finite gives 10. What the four hold at old places stays. After a run and appends, each with the points that the call before it left, the
- * same capacity and inputs that are the same at old points, the four hold what the run over all points leaves. Asks 1, 2, 3, 16, 4 to 9, 17,
- * 10, all of points + 1. */
+ * same capacity and inputs that are the same at old points, the four hold what the run over all points leaves. Asks 22, then of points + 1
+ * points 1, 2, 3, 16, 4 to 9, 17, 10. */
 uint8_t leechgrommet_append_point(
-    uint64_t *counter, size_t counter_len,
+    uint64_t *counters, size_t counters_len, size_t desk,
     const double *times, size_t times_len,
     const double *free_propagator, size_t free_propagator_len,
     const double *self_energy, size_t self_energy_len,

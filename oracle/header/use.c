@@ -11,6 +11,7 @@
 #define CAPACITY 4
 #define WITH_ROOM (2 * CAPACITY * CAPACITY)
 #define LENT (-7.25)
+#define DESKS 8
 
 static size_t places[3];
 static double part[1];
@@ -37,10 +38,14 @@ static void print_answer(const char *call, uint8_t answer, const double *passed,
     printf("\n");
 }
 
-/* What a session's counter holds. */
-static void print_counter(uint64_t counter)
+/* What a session's counters hold. */
+static void print_counters(const uint64_t *counters)
 {
-    printf("counter: %" PRIu64 "\n", counter);
+    size_t desk;
+    printf("counters:");
+    for (desk = 0; desk < DESKS; desk++)
+        printf(" %" PRIu64, counters[desk]);
+    printf("\n");
 }
 
 static void particle_number(const char *call, const double *lesser, size_t points, size_t time, double *value, size_t value_len)
@@ -49,13 +54,13 @@ static void particle_number(const char *call, const double *lesser, size_t point
     print_answer(call, leechgrommet_particle_number(lesser, NUMBERS, points, POINTS, 1, time, 1e-12, value, value_len, places, 3, part, 1), value, 1);
 }
 
-/* P12 to two points in a capacity of four, then by appends to three, to four and beyond: what is in room stays as it was passed. The session begins where
- * the 98 products of the run over four points fill its counter. */
+/* P12 to two points in a capacity of four, then by appends to three, to four and beyond: what is in room stays as it was passed. All are at
+ * desk 3, whose counter begins where the 98 products of the run over four points fill it; that of desk 4 is full. */
 static void appends(void)
 {
     double times[CAPACITY] = {0, 1, 2, 3}, step[WITH_ROOM] = {0}, lesser_self_energy[WITH_ROOM] = {0}, value[1];
     double retarded[WITH_ROOM], lesser[WITH_ROOM], kernel[WITH_ROOM], lesser_advanced[WITH_ROOM];
-    uint64_t counter[1] = {UINT64_MAX - 98}, unbooked[2] = {0, 0};
+    uint64_t counters[DESKS + 1] = {0, 0, 0, UINT64_MAX - 98, UINT64_MAX, 0, 0, 0, 0};
     size_t t, u, points;
     uint8_t answer;
 
@@ -66,35 +71,38 @@ static void appends(void)
             step[2 * (t * CAPACITY + u)] = u <= t;
             lesser_self_energy[2 * (t * CAPACITY + u) + 1] = 1;
         }
-    answer = leechgrommet_transient_run(counter, 1, times, CAPACITY, step, WITH_ROOM, step, WITH_ROOM, lesser_self_energy, WITH_ROOM, 2, CAPACITY, 1,
+    answer = leechgrommet_transient_run(counters, DESKS, 3, times, CAPACITY, step, WITH_ROOM, step, WITH_ROOM, lesser_self_energy, WITH_ROOM, 2, CAPACITY, 1,
         1e-12, retarded, WITH_ROOM, lesser, WITH_ROOM, kernel, WITH_ROOM, lesser_advanced, WITH_ROOM, places, 3, part, 1);
     print_answer("transient_run in a capacity", answer, lesser, WITH_ROOM);
-    print_counter(counter[0]);
+    print_counters(counters);
     for (points = 2; points <= CAPACITY; points++) {
         /* The last of these is one too many. */
-        answer = leechgrommet_append_point(counter, 1, times, CAPACITY, step, WITH_ROOM, step, WITH_ROOM, lesser_self_energy, WITH_ROOM, points, CAPACITY,
-            1, 1e-12, retarded, WITH_ROOM, lesser, WITH_ROOM, kernel, WITH_ROOM, lesser_advanced, WITH_ROOM, places, 3, part, 1);
+        answer = leechgrommet_append_point(counters, DESKS, 3, times, CAPACITY, step, WITH_ROOM, step, WITH_ROOM, lesser_self_energy, WITH_ROOM, points,
+            CAPACITY, 1, 1e-12, retarded, WITH_ROOM, lesser, WITH_ROOM, kernel, WITH_ROOM, lesser_advanced, WITH_ROOM, places, 3, part, 1);
         print_answer("append_point", answer, lesser, WITH_ROOM);
-        print_counter(counter[0]);
+        print_counters(counters);
         answer = leechgrommet_particle_number(lesser, WITH_ROOM, points + 1, CAPACITY, 1, points, 1e-12, value, 1, places, 3, part, 1);
         print_answer("particle_number in a capacity", answer, value, answer == LEECHGROMMET_ACCEPTED);
     }
 
-    /* The new point again, with a free propagator that overflows: 17 at the full counter, which comes before; 3 with two counters; in a session of its
-     * own 10, and its row and column are +0. */
+    /* The new point again, with a free propagator that overflows: 17 at the desk that is full now, which comes before; 3 with nine counters, and 22 at
+     * desk 8 even then; at desk 0 10, and its row and column are +0. */
     for (u = 0; u < CAPACITY; u++)
         step[2 * ((CAPACITY - 1) * CAPACITY + u)] = DBL_MAX;
-    answer = leechgrommet_append_point(counter, 1, times, CAPACITY, step, WITH_ROOM, step, WITH_ROOM, lesser_self_energy, WITH_ROOM, CAPACITY - 1, CAPACITY,
-        1, 1e-12, retarded, WITH_ROOM, lesser, WITH_ROOM, kernel, WITH_ROOM, lesser_advanced, WITH_ROOM, places, 3, part, 1);
+    answer = leechgrommet_append_point(counters, DESKS, 3, times, CAPACITY, step, WITH_ROOM, step, WITH_ROOM, lesser_self_energy, WITH_ROOM, CAPACITY - 1,
+        CAPACITY, 1, 1e-12, retarded, WITH_ROOM, lesser, WITH_ROOM, kernel, WITH_ROOM, lesser_advanced, WITH_ROOM, places, 3, part, 1);
     print_answer("append_point at a full counter", answer, lesser, WITH_ROOM);
-    print_counter(counter[0]);
-    answer = leechgrommet_append_point(unbooked, 2, times, CAPACITY, step, WITH_ROOM, step, WITH_ROOM, lesser_self_energy, WITH_ROOM, CAPACITY - 1, CAPACITY,
-        1, 1e-12, retarded, WITH_ROOM, lesser, WITH_ROOM, kernel, WITH_ROOM, lesser_advanced, WITH_ROOM, places, 3, part, 1);
-    print_answer("append_point with two counters", answer, lesser, WITH_ROOM);
-    answer = leechgrommet_append_point(unbooked, 1, times, CAPACITY, step, WITH_ROOM, step, WITH_ROOM, lesser_self_energy, WITH_ROOM, CAPACITY - 1, CAPACITY,
-        1, 1e-12, retarded, WITH_ROOM, lesser, WITH_ROOM, kernel, WITH_ROOM, lesser_advanced, WITH_ROOM, places, 3, part, 1);
+    answer = leechgrommet_append_point(counters, DESKS + 1, 0, times, CAPACITY, step, WITH_ROOM, step, WITH_ROOM, lesser_self_energy, WITH_ROOM,
+        CAPACITY - 1, CAPACITY, 1, 1e-12, retarded, WITH_ROOM, lesser, WITH_ROOM, kernel, WITH_ROOM, lesser_advanced, WITH_ROOM, places, 3, part, 1);
+    print_answer("append_point with nine counters", answer, lesser, WITH_ROOM);
+    answer = leechgrommet_append_point(counters, DESKS + 1, 8, times, CAPACITY, step, WITH_ROOM, step, WITH_ROOM, lesser_self_energy, WITH_ROOM,
+        CAPACITY - 1, CAPACITY, 1, 1e-12, retarded, WITH_ROOM, lesser, WITH_ROOM, kernel, WITH_ROOM, lesser_advanced, WITH_ROOM, places, 3, part, 1);
+    print_answer("append_point at desk 8 with nine counters", answer, lesser, WITH_ROOM);
+    print_counters(counters);
+    answer = leechgrommet_append_point(counters, DESKS, 0, times, CAPACITY, step, WITH_ROOM, step, WITH_ROOM, lesser_self_energy, WITH_ROOM, CAPACITY - 1,
+        CAPACITY, 1, 1e-12, retarded, WITH_ROOM, lesser, WITH_ROOM, kernel, WITH_ROOM, lesser_advanced, WITH_ROOM, places, 3, part, 1);
     print_answer("append_point that overflows", answer, lesser, WITH_ROOM);
-    print_counter(unbooked[0]);
+    print_counters(counters);
 }
 
 int main(void)
@@ -103,7 +111,7 @@ int main(void)
     double retarded[NUMBERS], lesser[NUMBERS], kernel[NUMBERS], lesser_advanced[NUMBERS], value[2] = {LENT, LENT}, residuals[7] = {0};
     double numbers[LEECHGROMMET_BLOCK_NUMBERS], two_orbitals[32] = {0};
     size_t t, u, shape[2] = {7, 7};
-    uint64_t counter[1] = {0};
+    uint64_t counters[DESKS] = {0};
     uint8_t decided[1] = {7}, answer;
 
     for (t = 0; t < POINTS; t++)
@@ -122,10 +130,10 @@ int main(void)
     number(leechgrommet_norm(3, 4));
     printf("\n");
 
-    answer = leechgrommet_transient_run(counter, 1, times, POINTS, step, NUMBERS, step, NUMBERS, lesser_self_energy, NUMBERS, POINTS, POINTS, 1, 1e-12,
+    answer = leechgrommet_transient_run(counters, DESKS, 0, times, POINTS, step, NUMBERS, step, NUMBERS, lesser_self_energy, NUMBERS, POINTS, POINTS, 1, 1e-12,
         retarded, NUMBERS, lesser, NUMBERS, kernel, NUMBERS, lesser_advanced, NUMBERS, places, 3, part, 1);
     print_answer("transient_run", answer, lesser, NUMBERS);
-    print_counter(counter[0]);
+    print_counters(counters);
     for (t = 0; t <= POINTS; t++)
         particle_number("particle_number", lesser, POINTS, t, value, 1);
     particle_number("particle_number of a longer slice", lesser, POINTS, POINTS, value, 2);

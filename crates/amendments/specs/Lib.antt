@@ -1,5 +1,5 @@
 -- What the requests of document 02 keep of document 01. A definition as document 01 first had it stands in the file of its law alone.
--- L1: in slices whose capacity is the points; L3: at a counter with room.
+-- L1: in slices whose capacity is the points; L3 and L13: at a desk whose counter has room.
 pub mod WholeCapacity
 -- L2: no product where an interval has one point; each call on slices of N, then the transient run.
 pub mod OnePoint

@@ -1,11 +1,11 @@
 -- Document 02, L1: "lines 2 and 3 read the capacity as N". In slices whose capacity is the points, the run and the checks of a lesser function are those
--- of document 01: no room is left, 16 passes, and the places are all. L3: 17 stands between the run's 9 and 10, and where the counter has room for the
--- count it changes nothing. Assumes nothing.
-use Rattle.lists.specs.Prelude.{_≡_, refl, sym, ap, ap₂, _∙_, Bool, true, _&&_, List, [], _∷_, ℕ, zero, suc, _+_, _*_, le-refl, zero-add, suc-add, add-comm, suc-mul, zero-mul, eqb, length, leb, _≤_, le-leb, eqb-true, Float}
+-- of document 01: no room is left, 16 passes, and the places are all. L3 and L13: 22 stands before the run's 1 and 17 between its 9 and 10, and at a desk
+-- whose counter has room for the count they change nothing. Assumes nothing.
+use Rattle.lists.specs.Prelude.{_≡_, refl, sym, ap, ap₂, _∙_, Bool, true, _&&_, List, [], _∷_, ℕ, zero, suc, _+_, _*_, le-refl, zero-add, suc-add, add-comm, suc-mul, zero-mul, eqb, length, le-leb, eqb-true, Float, _<_, _≤_, leb, ltb, lt-ltb}
 use Rattle.lists.specs.Agreement.{both}
 use Rattle.refusal.specs.declared.Verdict.{Verdict}
 use Rattle.refusal.specs.Verdict.{by, _then_, askAll, zeroed, afterwards}
-use Rattle.refusal.specs.Checks.{largeEnough, notEmpty, withinLimits, withinBlock, fitting, finiteAt, finiteEntries, finiteWork, withinCapacity, counterHolds}
+use Rattle.refusal.specs.Checks.{largeEnough, notEmpty, withinLimits, withinBlock, fitting, finiteAt, finiteEntries, finiteWork, withinCapacity, counterHolds, deskKnown}
 use Rattle.refusal.specs.Agreement.{ask-pass, ask-yes, then-agree, then-assoc, then-after, then-end}
 use Rattle.matrix.specs.declared.DenseMatrix.{DenseMatrix}
 use Rattle.matrix.specs.Dense.{countOf}
@@ -22,7 +22,7 @@ use Rattle.dyson.specs.Calls.{Equation, equationOf, kernelOf, retardedOf, solve
 use Rattle.dyson.specs.NewSolved.{finite-all, green-all}
 use Rattle.transient_run.specs.declared.Session.{Session}
 use Rattle.transient_run.specs.Products.{formed}
-use Rattle.transient_run.specs.Calls.{Run, Outcome, runOf, retardedMade, lesserAdvancedMade, lesserMade, madeFinite, checksOf, verdictOf, worked, solved, transientRun}
+use Rattle.transient_run.specs.Calls.{Run, Outcome, counterOf, runOf, retardedMade, lesserAdvancedMade, lesserMade, madeFinite, checksOf, verdictOf, worked, solved, transientRun}
 use Rattle.observables.specs.Calls.{lesserChecks, lesserBlockChecks}
 
 -- ---- check 7, row by row
@@ -74,9 +74,9 @@ module _ (points n : ℕ) (lesser : List Float) where
 
 -- ---- the run
 
-module _ (session : Session) (points n : ℕ) (tolerance : Float) (times free selfEnergy lesserSelfEnergy retarded lesser kernel lesserAdvanced : List Float) where
+module _ (session : Session) (desk points n : ℕ) (tolerance : Float) (times free selfEnergy lesserSelfEnergy retarded lesser kernel lesserAdvanced : List Float) where
   abbrev run : Run
-  run = runOf session (record { points = points; capacity = points; orbitals = n }) tolerance times free selfEnergy lesserSelfEnergy retarded lesser kernel lesserAdvanced
+  run = runOf session desk (record { points = points; capacity = points; orbitals = n }) tolerance times free selfEnergy lesserSelfEnergy retarded lesser kernel lesserAdvanced
 
   -- document 01's: K and G^R as Dyson makes them, X of Σ^< and G^R, G^< of G^R and X
   abbrev q : Equation
@@ -91,9 +91,12 @@ module _ (session : Session) (points n : ℕ) (tolerance : Float) (times free se
   abbrev finiteBefore : Bool
   finiteBefore = solvedFinite q && (sumsFinite LesserAdvanced points n times lesserSelfEnergy (retardedOf q) && sumsFinite Lesser points n times (retardedOf q) lesserAdvancedBefore)
 
-  -- checks 1 to 9, then 17 of document 02, then 10
+  -- 22 of document 02, then checks 1 to 9, then 17 of document 02, then 10
+  abbrev asked : Verdict
+  asked = deskKnown desk then checksBefore q tolerance (lesserSelfEnergy ∷ []) (retarded ∷ lesser ∷ kernel ∷ lesserAdvanced ∷ []) then counterHolds (counterOf session desk) (formed 0 points)
+
   abbrev verdictBefore : Verdict
-  verdictBefore = (checksBefore q tolerance (lesserSelfEnergy ∷ []) (retarded ∷ lesser ∷ kernel ∷ lesserAdvanced ∷ []) then counterHolds (session .products) (formed 0 points)) then finiteWork finiteBefore
+  verdictBefore = asked then finiteWork finiteBefore
 
   abbrev pub runBefore : Outcome
   runBefore =
@@ -108,14 +111,16 @@ module _ (session : Session) (points n : ℕ) (tolerance : Float) (times free se
   abbrev slices : List (List Float)
   slices = free ∷ selfEnergy ∷ lesserSelfEnergy ∷ retarded ∷ lesser ∷ kernel ∷ lesserAdvanced ∷ []
 
-  checks-all : checksOf 0 points run ≡ (checksBefore q tolerance (lesserSelfEnergy ∷ []) (retarded ∷ lesser ∷ kernel ∷ lesserAdvanced ∷ []) then counterHolds (session .products) (formed 0 points))
+  checks-all : checksOf 0 points run ≡ asked
   unfolding checksOf inputChecks
   checks-all =
-      then-agree _ _ _ _ (capacity-points points n (eqb (length times) points) slices) (λ p.
+      then-assoc (deskKnown desk) _ _
+      ∙ ap (λ (v : Verdict). deskKnown desk then v)
+      (then-agree _ _ _ _ (capacity-points points n (eqb (length times) points) slices) (λ p.
       let z = sizes-passed points n (eqb (length times) points) slices (sym (capacity-points points n (eqb (length times) points) slices) ∙ p) in
       let l = lengths z in
       then-agree _ _ _ _ refl (λ g. then-agree _ _ _ _ (operands-all points n 0 (free ∷ selfEnergy ∷ lesserSelfEnergy ∷ []) (l .0, (l .1 .0, (l .1 .1 .0, tt)))) (λ o. refl)))
-      ∙ simp then-assoc
+      ∙ simp then-assoc)
 
   green : retardedMade 0 points run ≡ retardedOf q
   green = green-all points n times free selfEnergy retarded kernel
@@ -144,9 +149,12 @@ module _ (session : Session) (points n : ℕ) (tolerance : Float) (times free se
   unfolding transientRun worked
   run-all = rw (verdict-all, lesser-all, lesser-advanced-all, green, all-numbers Causal points n times free selfEnergy kernel)
 
-  pub with-room : session .products + formed 0 points ≤ 0xffff_ffff_ffff_ffff
+  -- at one of the eight desks whose counter has room for the count, 22 and 17 change nothing
+  pub with-room : desk < 8 → counterOf session desk + formed 0 points ≤ 0xffff_ffff_ffff_ffff
       → verdictBefore ≡ (checksBefore q tolerance (lesserSelfEnergy ∷ []) (retarded ∷ lesser ∷ kernel ∷ lesserAdvanced ∷ []) then finiteWork finiteBefore)
-  unfolding counterHolds
-  with-room h =
-      let holds = ask-yes (leb (session .products + formed 0 points) 0xffff_ffff_ffff_ffff) (by 17) (le-leb _ _ h) in
-      rw (holds, then-end (checksBefore q tolerance (lesserSelfEnergy ∷ []) (retarded ∷ lesser ∷ kernel ∷ lesserAdvanced ∷ [])))
+  unfolding counterHolds deskKnown
+  with-room known h =
+      let named = ask-yes (ltb desk 8) (by 22) (lt-ltb desk 8 known) in
+      let holds = ask-yes (leb (counterOf session desk + formed 0 points) 0xffff_ffff_ffff_ffff) (by 17) (le-leb _ _ h) in
+      ap (λ (v : Verdict). v then finiteWork finiteBefore)
+      (then-after (deskKnown desk) _ named ∙ rw (holds, then-end (checksBefore q tolerance (lesserSelfEnergy ∷ []) (retarded ∷ lesser ∷ kernel ∷ lesserAdvanced ∷ []))))

@@ -1,10 +1,10 @@
 -- The law of appends: calls leave what the run over all points leaves, and count like it. What an append reads at old places is what that run makes there,
 -- by the theorem on which demand 3 rests. Assumes nothing.
-use Rattle.lists.specs.Prelude.{_≡_, refl, sym, ap, subst, _∙_, true, List, ℕ, suc, _+_, _-_, _≤_, _<_, max, le-refl, le-leb, decLt, arith, Float}
+use Rattle.lists.specs.Prelude.{_≡_, refl, sym, ap, subst, _∙_, true, List, ℕ, suc, _-_, _≤_, _<_, max, le-refl, le-leb, lt-ltb, decLt, arith, getD-replicate, Float}
 use Rattle.refusal.specs.declared.Verdict.{Verdict}
 use Rattle.refusal.specs.declared.Verdict.the-variants.{Pass}
-use Rattle.refusal.specs.Verdict.{by, zeroed, _then_, afterwards}
-use Rattle.refusal.specs.Checks.{finiteWork, counterHolds}
+use Rattle.refusal.specs.Verdict.{by, zeroed, _then_}
+use Rattle.refusal.specs.Checks.{finiteWork, counterHolds, deskKnown}
 use Rattle.refusal.specs.Agreement.{ask-yes, then-pass, then-after}
 use Rattle.two_time.specs.Sums.{newNumbers}
 use Rattle.two_time.specs.NewPlaces.{at-once}
@@ -14,13 +14,14 @@ use Rattle.dyson.specs.Retarded.{newRetarded}
 use Rattle.transient_run.specs.declared.Solved.the-variants.{Accepted}
 use Rattle.transient_run.specs.declared.Session.{Session}
 use Rattle.transient_run.specs.Products.{formed, countOf, formed-count, formed-on, steps}
-use Rattle.transient_run.specs.Calls.{Run, runOf, Outcome, solved, isAccepted, kernelMade, retardedMade, lesserAdvancedMade, lesserMade, madeFinite, checksOf, verdictOf, worked, transientRun, appendPoint}
+use Rattle.transient_run.specs.Calls.{Run, counterOf, runOf, Outcome, isAccepted, kernelMade, retardedMade, lesserAdvancedMade, lesserMade, madeFinite, checksOf, verdictOf, worked, transientRun, appendPoint}
 use Rattle.transient_run.specs.Checks.{accepted, accepted-with, sizesAsked, slices}
+use Rattle.transient_run.specs.Ends.{work-end}
 use Rattle.causality.specs.Statement.{SameTo, Demanded}
 use Rattle.causality.specs.Made.{HeldTo, none-held, MadeTo, made-agree, fine-agree, made-fine, fine-made}
 use Rattle.causality.specs.Solvers.{sizes}
 use Rattle.causality.specs.Theorem.{all-finite, demand-3}
-use Rattle.causality.specs.Sessions.{inSession}
+use Rattle.causality.specs.Sessions.{opened, inSession, Room}
 use Rattle.causality.specs.History.{Onto, longer, History, together, LikeRun}
 use Rattle.causality.specs.History.History.{ran, appended}
 
@@ -35,10 +36,15 @@ otherwise a a' b c d e e' h ha he =
     let w = then-pass d _ (x .1) in
     then-after a' _ ha ∙ then-after b _ (y .0) ∙ then-after c _ (x .0) ∙ then-after d _ (w .0) ∙ he
 
--- the counter has room
-holds : (session : Session) (count : ℕ) → session .products + count ≤ 0xffff_ffff_ffff_ffff → counterHolds (session .products) count ≡ Pass
-unfolding counterHolds
-holds session count room = ask-yes _ (by 17) (le-leb _ _ room)
+-- 22 and 17 of a desk with room
+module _ (session : Session) (desk count : ℕ) (space : Room session desk count) where
+  known : deskKnown desk ≡ Pass
+  unfolding deskKnown
+  known = ask-yes _ (by 22) (lt-ltb _ _ (space .known))
+
+  holds : counterHolds (counterOf session desk) count ≡ Pass
+  unfolding counterHolds
+  holds = ask-yes _ (by 17) (le-leb _ _ (space .fits))
 
 -- an accepted call leaves what it made
 module _ (old points : ℕ) (r : Run) where
@@ -53,39 +59,40 @@ module _ (old points : ℕ) (r : Run) where
       }
 
   made-left : (cleared : List Float → List Float) → verdictOf old points r ≡ Pass → worked old points r cleared ≡ madeBy
-  unfolding worked afterwards solved
-  made-left cleared passed = rw passed
+  unfolding verdictOf
+  made-left cleared passed = work-end old points r cleared (then-pass (checksOf old points r) _ passed .0) (all-finite old points r passed)
 
--- ---- a run in another session
+-- ---- a run at another desk
 
-module _ (r : Run) (passed : verdictOf 0 (r .points) r ≡ Pass) (session : Session) (space : session .products + formed 0 (r .points) ≤ 0xffff_ffff_ffff_ffff) where
-  again : verdictOf 0 (r .points) (inSession session r) ≡ Pass
+module _ (r : Run) (passed : verdictOf 0 (r .points) r ≡ Pass) (session : Session) (desk : ℕ) (space : Room session desk (formed 0 (r .points))) where
+  again : verdictOf 0 (r .points) (inSession session desk r) ≡ Pass
   unfolding verdictOf checksOf finiteWork madeFinite
   again =
       let asked = then-pass (checksOf 0 (r .points) r) _ passed in
-      then-after (checksOf 0 (r .points) (inSession session r)) _
-      (otherwise (sizesAsked (r .points) r) (sizesAsked (r .points) r) _ _ _ _ _ (asked .0) (then-pass (sizesAsked (r .points) r) _ (asked .0) .0) (holds session _ space)) ∙ asked .1
+      let sized = then-pass (deskKnown (r .desk)) _ (then-pass (sizesAsked (r .points) r) _ (asked .0) .0) .1 in
+      then-after (checksOf 0 (r .points) (inSession session desk r)) _
+      (otherwise (sizesAsked (r .points) r) (sizesAsked (r .points) (inSession session desk r)) _ _ _ _ _ (asked .0) (then-after (deskKnown desk) _ (known session desk _ space) ∙ sized) (holds session desk _ space)) ∙ asked .1
 
-  pub any-session : transientRun (inSession session r) ≡ together (formed 0 (r .points)) (transientRun r)
+  any-desk : transientRun (inSession session desk r) ≡ together (formed 0 (r .points)) (transientRun r)
   unfolding transientRun
-  any-session = made-left 0 (r .points) (inSession session r) zeroed again ∙ ap (together (formed 0 (r .points))) (sym (made-left 0 (r .points) r zeroed passed))
+  any-desk = made-left 0 (r .points) (inSession session desk r) zeroed again ∙ ap (together (formed 0 (r .points))) (sym (made-left 0 (r .points) r zeroed passed))
 
--- ---- one append, with the inputs of c, onto what the run r made of its p points; and the run over one point more, in whatever session
+-- ---- one append, with the inputs of c, onto what the run r made of its p points; and the run over one point more, at whatever desk
 
-module _ (r c : Run) (session : Session) where
+module _ (r c : Run) (session : Session) (desk : ℕ) where
   abbrev p : ℕ
   p = r .points
 
   abbrev append : Run
   append =
-      runOf (record { products = c .counter }) (record { points = p; capacity = r .capacity; orbitals = r .orbitals }) (c .tolerance) (c .times) (c .free) (c .selfEnergy) (c .lesserSelfEnergy) (retardedMade 0 p r) (lesserMade 0 p r)
+      runOf (c .session) (c .desk) (record { points = p; capacity = r .capacity; orbitals = r .orbitals }) (c .tolerance) (c .times) (c .free) (c .selfEnergy) (c .lesserSelfEnergy) (retardedMade 0 p r) (lesserMade 0 p r)
       (kernelMade 0 p r) (lesserAdvancedMade 0 p r)
 
   abbrev whole : Run
-  whole = inSession session (longer r append)
+  whole = inSession session desk (longer r append)
 
   module _ (passed : verdictOf 0 p r ≡ Pass) (inputs : (k : ℕ) → k < p → SameTo k r append) (passed' : verdictOf p (suc p) append ≡ Pass)
-      (space : session .products + formed 0 (suc p) ≤ 0xffff_ffff_ffff_ffff) where
+      (space : Room session desk (formed 0 (suc p))) where
     room : p ≤ r .capacity
     room = sizes 0 p r passed .1
 
@@ -148,12 +155,12 @@ module _ (r c : Run) (session : Session) where
     unfolding verdictOf checksOf
     checks =
         let asked = then-pass (checksOf p (suc p) append) _ passed' .0 in
-        let z = capacity-passed (r .capacity) (suc p) (r .orbitals) _ (slices (suc p) append) (then-pass (sizesAsked (suc p) append) _ asked .0) in
+        let z = capacity-passed (r .capacity) (suc p) (r .orbitals) _ (slices (suc p) append) (then-pass (deskKnown (c .desk)) _ (then-pass (sizesAsked (suc p) append) _ asked .0) .1) in
         let i = lengths (z .2) in
         let o = lengths (sizes 0 p r passed .2) .1 .1 .1 in
         let long = also-asked (i .0) (also-asked (i .1 .0) (also-asked (i .1 .1 .0) (also-asked (o .0) (also-asked (o .1 .0) (also-asked (o .1 .1 .0) (also-asked (o .1 .1 .1 .0) (none-asked (z .2)))))))) in
-        let sized : sizesAsked (suc p) whole ≡ Pass = rw (z .2 .others) (capacity-pass (z .0) (z .1) long) in
-        otherwise (sizesAsked (suc p) append) (sizesAsked (suc p) whole) _ _ _ _ _ asked sized (holds session _ space)
+        let sized : sizesAsked (suc p) whole ≡ Pass = then-after (deskKnown desk) _ (known session desk _ space) ∙ rw (z .2 .others) (capacity-pass (z .0) (z .1) long) in
+        otherwise (sizesAsked (suc p) append) (sizesAsked (suc p) whole) _ _ _ _ _ asked sized (holds session desk _ space)
 
     verdict : verdictOf 0 (suc p) whole ≡ Pass
     unfolding verdictOf finiteWork
@@ -176,25 +183,27 @@ module _ (r c : Run) (session : Session) where
 
 -- ---- the law
 
--- the session is free where two calls agree
-same-in : {k : ℕ} {r r' : Run} (session session' : Session) → SameTo k r r' → SameTo k (inSession session r) (inSession session' r')
-same-in session session' s = record { orbitals = s .orbitals; times = s .times; free = s .free; selfEnergy = s .selfEnergy; lesserSelfEnergy = s .lesserSelfEnergy }
+-- session and desk are free where two calls agree
+same-in : {k : ℕ} {r r' : Run} (session session' : Session) (desk desk' : ℕ) → SameTo k r r' → SameTo k (inSession session desk r) (inSession session' desk' r')
+same-in session session' desk desk' s = record { orbitals = s .orbitals; times = s .times; free = s .free; selfEnergy = s .selfEnergy; lesserSelfEnergy = s .lesserSelfEnergy }
 
-abbrev empty : Session
-empty = record { products = 0 }
+-- at desk 0 of a session opened at zero
+abbrev alone : Run → Run
+alone = inSession opened 0
 
 -- an accepted append onto what an accepted run left: the run over one point more leaves what it leaves
-append-one : {r : Run} {o : Outcome} {c : Run} {count more : ℕ} → transientRun (inSession empty r) ≡ together count o → Onto r o c → appendPoint c .answer ≡ Accepted more
-    → (session : Session) → session .products + formed 0 (suc (r .points)) ≤ 0xffff_ffff_ffff_ffff → transientRun (inSession session (longer r c)) ≡ together (formed 0 (suc (r .points))) (appendPoint c)
+append-one : {r : Run} {o : Outcome} {c : Run} {count more : ℕ} → transientRun (alone r) ≡ together count o → Onto r o c → appendPoint c .answer ≡ Accepted more
+    → (session : Session) (desk : ℕ) → Room session desk (formed 0 (suc (r .points))) → transientRun (inSession session desk (longer r c)) ≡ together (formed 0 (suc (r .points))) (appendPoint c)
 unfolding transientRun appendPoint worked isAccepted
-append-one {r} {o} {c} {count} {more} e f ok session space =
-    let r' = inSession empty r in
+append-one {r} {o} {c} {count} {more} e f ok session desk space =
+    let r' = alone r in
     let passed : verdictOf 0 (r .points) r' ≡ Pass = accepted _ _ (ap (λ (x : Outcome). isAccepted (x .answer)) e) in
     let least = sizes 0 (r .points) r' passed .0 in
     let made = sym (made-left 0 (r .points) r' zeroed passed) ∙ e in
-    let it : append r' c session ≡ c = λ i.
+    let it : append r' c session desk ≡ c = λ i.
     record {
-      counter = c .counter;
+      session = c .session;
+      desk = c .desk;
       points = f .points i;
       capacity = f .capacity i;
       orbitals = f .inputs 0 (omega arith) .orbitals i;
@@ -208,26 +217,28 @@ append-one {r} {o} {c} {count} {more} e f ok session space =
       kernel = (ap (λ (x : Outcome). x .kernel) made ∙ f .kernel) i;
       lesserAdvanced = (ap (λ (x : Outcome). x .lesserAdvanced) made ∙ f .lesserAdvanced) i;
     } in
-    subst (λ (x : Run). ((k : ℕ) → k < r .points → SameTo k r' x) → appendPoint x .answer ≡ Accepted more → transientRun (inSession session (longer r x)) ≡ together (formed 0 (suc (r .points))) (appendPoint x)) it
-    (λ inputs ok'. one-more r' c session passed inputs (accepted-with (verdictOf (r .points) (suc (r .points)) (append r' c session)) _ _ ok' .0) space) (λ k l. same-in empty (record { products = c .counter }) (f .inputs k l)) ok
+    subst (λ (x : Run). ((k : ℕ) → k < r .points → SameTo k r' x) → appendPoint x .answer ≡ Accepted more → transientRun (inSession session desk (longer r x)) ≡ together (formed 0 (suc (r .points))) (appendPoint x)) it
+    (λ inputs ok'. one-more r' c session desk passed inputs (accepted-with (verdictOf (r .points) (suc (r .points)) (append r' c session desk)) _ _ ok' .0) space) (λ k l. same-in opened (c .session) 0 (c .desk) (f .inputs k l)) ok
 
--- to 256 points a session opened at 0 has room
+-- to 256 points a counter at 0 has room
 most : (n : ℕ) → n ≤ 256 → countOf n ≤ 0xffff_ffff_ffff_ffff
 most n h = let s = steps n h in omega arith
 
--- what the run over all points makes, in each session with room for it
+-- what the run over all points makes, at each desk with room for it
 like-run : {r : Run} {o : Outcome} {count : ℕ} → r .points ≤ 256 → count ≡ formed 0 (r .points)
-    → ((session : Session) → session .products + formed 0 (r .points) ≤ 0xffff_ffff_ffff_ffff → transientRun (inSession session r) ≡ together (formed 0 (r .points)) o) → LikeRun r o count
+    → ((session : Session) (desk : ℕ) → Room session desk (formed 0 (r .points)) → transientRun (inSession session desk r) ≡ together (formed 0 (r .points)) o) → LikeRun r o count
 like-run {r} small e law =
     let number = formed-count (r .points) in
     let fits = most (r .points) small in
-    record { counts = e ∙ number; fits = omega arith; leaves = λ session room. rw e (law session (omega arith)) }
+    record { counts = e ∙ number; fits = omega arith; leaves = λ session desk room. rw e (law session desk (rw e at room)) }
 
--- such as one opened at 0
-pub in-empty : {r : Run} {o : Outcome} {count : ℕ} → LikeRun r o count → transientRun (inSession empty r) ≡ together count o
-in-empty law = let fits = law .fits in law .leaves empty (omega arith)
+-- as each desk of a session opened at zero has
+pub in-opened : {r : Run} {o : Outcome} {count : ℕ} → LikeRun r o count → (desk : ℕ) → desk < 8 → transientRun (inSession opened desk r) ≡ together count o
+in-opened law desk known =
+    let fits = law .fits in
+    let none = getD-replicate {A = ℕ} 8 desk 0 0 known in
+    law .leaves opened desk (record { known = known; fits = omega arith })
 
--- the calls count like that run, and leave what it leaves
 pub append-law : {r : Run} {o : Outcome} {count : ℕ} → History r o count → LikeRun r o count
 unfolding transientRun appendPoint worked
 append-law (ran r ok) =
@@ -235,7 +246,7 @@ append-law (ran r ok) =
     let z = sizes 0 (r .points) r (s .0) in
     let room = z .1 in
     let limit = z .2 .points-most in
-    like-run (omega arith) (s .1) (any-session r (s .0))
+    like-run (omega arith) (s .1) (any-desk r (s .0))
 append-law (appended {r} {o} {count} {more} h c f ok) =
     let law = append-law h in
     let p = r .points in
@@ -248,17 +259,17 @@ append-law (appended {r} {o} {count} {more} h c f ok) =
     let number = formed-count p in
     let more-is : more ≡ formed p (suc p) = rw told (s .1) in
     let sum = formed-on p (suc p) (omega arith) in
-    like-run (omega arith) (omega arith) (append-one (in-empty law) f ok)
+    like-run (omega arith) (omega arith) (append-one (in-opened law 0 (omega arith)) f ok)
 
--- "and demand 3 holds of them as of that run": any two histories, of any points, capacities and sessions
+-- "and demand 3 holds of them as of that run": any two histories, of any points, capacities, sessions and desks
 pub histories-demand : {r r' : Run} {o o' : Outcome} {count count' : ℕ} → History r o count → History r' o' count' → Demanded r r' o o'
 histories-demand {r} {r'} {o} {o'} {count} {count'} h h' =
     let law = append-law h in
     let law' = append-law h' in
-    let demand : Demanded (inSession empty r) (inSession empty r') (together count o) (together count' o') = rw (← (in-empty law), ← (in-empty law')) (demand-3 (inSession empty r) (inSession empty r')) in
+    let demand : Demanded (alone r) (alone r') (together count o) (together count' o') = rw (← (in-opened law 0 (omega arith)), ← (in-opened law' 0 (omega arith))) (demand-3 (alone r) (alone r')) in
     record {
       blind = λ k c.
-          let rows = demand .blind k (record { within = c .within; within' = c .within'; accepted = unfold isAccepted in refl; accepted' = unfold isAccepted in refl; same = same-in empty empty (c .same) }) in
+          let rows = demand .blind k (record { within = c .within; within' = c .within'; accepted = unfold isAccepted in refl; accepted' = unfold isAccepted in refl; same = same-in opened opened 0 0 (c .same) }) in
           record { retarded = rows .retarded; lesser = rows .lesser; particles = rows .particles; expectations = rows .expectations; flows = rows .flows };
       above = λ _. demand .above (unfold isAccepted in refl);
       above' = λ _. demand .above' (unfold isAccepted in refl);

@@ -1,5 +1,5 @@
 -- Demand 3 of Dyson calls: in slices laid out for its points, G is the G^R of a run that is given the same. Assumes nothing.
-use Rattle.lists.specs.Prelude.{_≡_, sym, subst, _∙_, List, [], ℕ, le-refl, arith, Float}
+use Rattle.lists.specs.Prelude.{_≡_, sym, subst, _∙_, List, [], ℕ, le-refl, arith, replicate, Float}
 use Rattle.refusal.specs.declared.Verdict.the-variants.{Pass}
 use Rattle.refusal.specs.Verdict.{zeroed}
 use Rattle.dyson.specs.Retarded.{newRetarded}
@@ -14,7 +14,7 @@ use Rattle.causality.specs.Solvers.{left-made, equal-n, Inside, read-lef
 -- what a Dyson call is given, as a run in slices laid out for its points, with no lesser self-energy, no lesser output and no scratch X
 abbrev pub callOf : ℕ → ℕ → Float → List Float → List Float → List Float → List Float → List Float → Run
 callOf points n tolerance times free selfEnergy retarded kernel =
-    runOf (record { products = 0 }) (record { points = points; capacity = points; orbitals = n }) tolerance times free selfEnergy [] retarded [] kernel []
+    runOf (record { products = replicate 8 0 }) 0 (record { points = points; capacity = points; orbitals = n }) tolerance times free selfEnergy [] retarded [] kernel []
 
 abbrev pub dysonOf : Run → Solved
 dysonOf r = dysonWithTolerance (r .points) (r .orbitals) (r .tolerance) (r .times) (r .free) (r .selfEnergy) (r .retarded) (r .kernel)

@@ -1,41 +1,35 @@
--- A session that is filled: "17 if the session counter would pass 2^64 − 1", which exactly 2^64 − 1 does not. Assumes nothing.
-use Rattle.lists.specs.Prelude.{_≡_, refl, ap, _∙_, [], _∷_, _+_, _-_, _≤_, arith}
+-- A desk's counter that is filled: "17 if the session counter would pass 2^64 − 1", which exactly 2^64 − 1 does not; "Number 17 then concerns that desk's
+-- counter"; "22 if the desk is above 7, before line 1". Assumes nothing.
+use Rattle.lists.specs.Prelude.{_≡_, refl, List, [], _∷_, ℕ, _-_, replicate, set}
 use Rattle.complex.specs.Arithmetic.{one}
 use Rattle.refusal.specs.Verdict.{by}
 use Rattle.transient_run.specs.declared.Solved.the-variants.{Accepted, Refused as NotSolved}
 use Rattle.transient_run.specs.declared.Session.{Session}
-use Rattle.transient_run.specs.Products.{formed, formed-count}
-use Rattle.transient_run.specs.Calls.{Outcome, booked}
-use Rattle.transient_run.specs.Cases.{runComputation}
-use Rattle.causality.specs.Sessions.{Call, answerIn, after}
+use Rattle.transient_run.specs.Calls.{booked}
+use Rattle.transient_run.specs.Computation.{runComputation}
+use Rattle.causality.specs.Sessions.{opened, inSession, Call, deskOf, answerIn, after}
 use Rattle.causality.specs.Sessions.Call.{run}
-use Rattle.causality.specs.Appends.{any-session}
-use Rattle.causality.specs.Prefix.{short, short-passes}
+use Rattle.causality.specs.Prefix.{short}
 
--- with room for the run of two points, and for no product more
-abbrev opened : Session
-opened = record { products = 0xffff_ffff_ffff_ffff - 11 }
+-- the run of two points, which counts 11, at a desk
+abbrev atDesk : ℕ → Call
+atDesk desk = run (inSession opened desk (short one))
 
-abbrev full : Session
-full = record { products = 0xffff_ffff_ffff_ffff }
+-- a session whose desk 2 stands at so much, and the others at 0
+abbrev standing : ℕ → Session
+standing products = record { products = set (replicate 8 0) 2 products }
 
-abbrev call : Call
-call = run (short one)
-
--- the run fills it
-pub fills : answerIn opened call ≡ Accepted 11
-unfolding answerIn
-fills =
-    let count : formed 0 2 ≡ 11 = formed-count 2 in
-    let room : opened .products + formed 0 2 ≤ 0xffff_ffff_ffff_ffff = omega arith in
-    ap (λ (o : Outcome). o .answer) (any-session (short one) (short-passes .0) opened room) ∙ ap Accepted count
-
--- the next is refused
-pub passes-it : answerIn full call ≡ NotSolved (by 17)
+-- with room for that run at desk 2 and for no product more: the run is accepted there and fills the counter, then refused there, and accepted at desk 5; 8 is
+-- no desk
+pub filled : (answerIn (standing (0xffff_ffff_ffff_ffff - 11)) (atDesk 2) ≡ Accepted 11) × (answerIn (standing 0xffff_ffff_ffff_ffff) (atDesk 2) ≡ NotSolved (by 17))
+    × (answerIn (standing 0xffff_ffff_ffff_ffff) (atDesk 5) ≡ Accepted 11) × (answerIn (standing 0xffff_ffff_ffff_ffff) (atDesk 8) ≡ NotSolved (by 22))
 unfolding runComputation answerIn
-passes-it = refl
+filled = (refl, refl, refl, refl)
 
--- and adds nothing
-pub filled : after opened (call ∷ call ∷ []) ≡ full
-unfolding after booked
-filled = rw (fills, passes-it)
+-- one after another
+abbrev calls : List Call
+calls = atDesk 2 ∷ atDesk 2 ∷ atDesk 5 ∷ atDesk 8 ∷ []
+
+pub each-own : after (standing (0xffff_ffff_ffff_ffff - 11)) calls .products ≡ 0 ∷ 0 ∷ 0xffff_ffff_ffff_ffff ∷ 0 ∷ 0 ∷ 11 ∷ 0 ∷ 0 ∷ []
+unfolding runComputation deskOf answerIn after booked
+each-own = refl

@@ -7,11 +7,11 @@ use Rattle.transient_run.specs.declared.Session.{Session}
 use Rattle.transient_run.specs.Products.{countOf}
 use Rattle.transient_run.specs.Calls.{Run, runOf, Outcome, transientRun, appendPoint}
 use Rattle.causality.specs.Statement.{SameTo}
-use Rattle.causality.specs.Sessions.{inSession}
+use Rattle.causality.specs.Sessions.{inSession, Room}
 
 -- An append, given as c, after calls that were those of the run r and left o: it is told the points and the capacity that they left; its n is theirs, and
--- its inputs agree with theirs up to every old index, as demand 3 supposes it; its outputs and scratch are what they left. The session and the
--- tolerance are free, and so are inputs at new points and in the room beyond.
+-- its inputs agree with theirs up to every old index, as demand 3 supposes it; its outputs and scratch are what they left. The session, the desk and
+-- the tolerance are free, and so are inputs at new points and in the room beyond.
 pub record Onto (r : Run) (o : Outcome) (c : Run) : Type 0 where
   pub points : r .points ≡ c .points
   pub capacity : r .capacity ≡ c .capacity
@@ -24,11 +24,11 @@ pub record Onto (r : Run) (o : Outcome) (c : Run) : Type 0 where
 -- the run over one point more: the append's inputs and tolerance, on what r's outputs and scratch held
 abbrev pub longer : Run → Run → Run
 longer r c =
-    runOf (record { products = r .counter }) (record { points = suc (r .points); capacity = c .capacity; orbitals = c .orbitals }) (c .tolerance) (c .times) (c .free) (c .selfEnergy) (c .lesserSelfEnergy) (r .retarded) (r .lesser)
+    runOf (r .session) (r .desk) (record { points = suc (r .points); capacity = c .capacity; orbitals = c .orbitals }) (c .tolerance) (c .times) (c .free) (c .selfEnergy) (c .lesserSelfEnergy) (r .retarded) (r .lesser)
     (r .kernel) (r .lesserAdvanced)
 
 -- An accepted run and any list of accepted appends, which left o and whose counts sum to `count`. They are the calls of the run r: over all points, with the
--- last call's inputs and tolerance, on what the outputs and the scratch held before the first call, in the first call's session.
+-- last call's inputs and tolerance, on what the outputs and the scratch held before the first call, in the first call's session and at its desk.
 pub data History : Run → Outcome → ℕ → Type 0 where
   ran : (r : Run) {count : ℕ} → transientRun r .answer ≡ Accepted count → History r (transientRun r) count
   appended : {r : Run} {o : Outcome} {count more : ℕ} → History r o count → (c : Run) → Onto r o c → appendPoint c .answer ≡ Accepted more → History (longer r c) (appendPoint c) (count + more)
@@ -37,9 +37,9 @@ pub data History : Run → Outcome → ℕ → Type 0 where
 abbrev pub together : ℕ → Outcome → Outcome
 together count o = record { answer = Accepted count; retarded = o .retarded; lesser = o .lesser; kernel = o .kernel; lesserAdvanced = o .lesserAdvanced }
 
--- The law of appends, of such calls: they count like the run over all points, and that run, in any session with room for its count (one opened at 0 has),
--- is accepted and leaves what they left.
+-- The law of appends, of such calls: they count like the run over all points, and that run, at any desk with room for its count (each desk of a session
+-- opened at zero has), is accepted, carries that count and leaves what they left.
 pub record LikeRun (r : Run) (o : Outcome) (count : ℕ) : Type 0 where
   pub counts : count ≡ countOf (r .points)
   pub fits : count ≤ 0xffff_ffff_ffff_ffff
-  pub leaves : (session : Session) → session .products + count ≤ 0xffff_ffff_ffff_ffff → transientRun (inSession session r) ≡ together count o
+  pub leaves : (session : Session) (desk : ℕ) → Room session desk count → transientRun (inSession session desk r) ≡ together count o

@@ -9,13 +9,13 @@ pub mod Observables
 pub mod Solvers
 pub mod Theorem
 pub mod Dyson
--- Document 02, L3: lists of calls in a session, and what its counter holds.
+-- Document 02, L3 and L13: lists of calls in a session, and what the counters of its desks hold.
 pub mod Sessions
 pub mod Counter
 -- L1: a run and any list of appends leave what the run over all points leaves and count like it, so demand 3 holds of them too.
 pub mod History
 pub mod Appends
--- Closed cases: two accepted runs to which the demand applies; a session that is filled to its last product; a run with an append to which the law of
+-- Closed cases: two accepted runs to which the demand applies; a desk's counter that is filled to its last product; a run with an append to which the law of
 -- appends does; two wrong solvers that meet the demand; one that it excludes.
 pub mod Prefix
 pub mod Full

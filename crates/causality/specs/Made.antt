@@ -44,7 +44,7 @@ module _ (n k capacity capacity' old points points' : ℕ) (f f' : TwoTime) (bef
 
 -- a run of another shape, and one with another n
 abbrev pub withShape : Run → Shape → Run
-withShape r shape = runOf (record { products = r .counter }) shape (r .tolerance) (r .times) (r .free) (r .selfEnergy) (r .lesserSelfEnergy) (r .retarded) (r .lesser) (r .kernel) (r .lesserAdvanced)
+withShape r shape = runOf (r .session) (r .desk) shape (r .tolerance) (r .times) (r .free) (r .selfEnergy) (r .lesserSelfEnergy) (r .retarded) (r .lesser) (r .kernel) (r .lesserAdvanced)
 
 abbrev pub withOrbitals : Run → ℕ → Run
 withOrbitals r n = withShape r (record { points = r .points; capacity = r .capacity; orbitals = n })

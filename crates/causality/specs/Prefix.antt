@@ -1,5 +1,5 @@
 -- P12's run and the run of its first two points: both are accepted and agree up to 1, so what demand 3 supposes can be met, by runs of different
--- N, capacity and session too. Assumes nothing.
+-- N, capacity, session and desk too. Assumes nothing.
 use Rattle.lists.specs.Prelude.{_≡_, refl, true, [], _∷_, ℕ, zero, suc, _≤_, arith, getD, replicate, Float, nan, binary64}
 use lib.Ieee as Ieee
 use Rattle.complex.specs.Arithmetic.{plusZero, one}
@@ -10,7 +10,7 @@ use Rattle.two_time.specs.Layout.{TwoTime, readAs}
 use Rattle.dyson.specs.Calls.{supportChecks}
 use Rattle.dyson.specs.Cases.{dysonComputation}
 use Rattle.transient_run.specs.Calls.{Run, runOf, solved, isAccepted, verdictOf, worked, transientRun}
-use Rattle.transient_run.specs.Cases.{runComputation}
+use Rattle.transient_run.specs.Computation.{runComputation}
 use Rattle.transient_run.specs.P12 as P12
 use Rattle.causality.specs.Statement.{of, SameTo, Comparable}
 use Rattle.causality.specs.Stages.{SquareTo}
@@ -30,7 +30,7 @@ passes = P12.verdict one (replicate 18 one) refl inputs-pass
 abbrev pub short : Float → Run
 short x =
     let before = replicate 8 one in
-    runOf (record { products = 7 }) (record { points = 2; capacity = 2; orbitals = 1 }) one (plusZero ∷ one ∷ []) (one ∷ plusZero ∷ plusZero ∷ plusZero ∷ one ∷ plusZero ∷ x ∷ plusZero ∷ [])
+    runOf (record { products = replicate 8 7 }) 2 (record { points = 2; capacity = 2; orbitals = 1 }) one (plusZero ∷ one ∷ []) (one ∷ plusZero ∷ plusZero ∷ plusZero ∷ one ∷ plusZero ∷ x ∷ plusZero ∷ [])
     (one ∷ plusZero ∷ plusZero ∷ plusZero ∷ one ∷ plusZero ∷ one ∷ plusZero ∷ []) (plusZero ∷ one ∷ plusZero ∷ one ∷ plusZero ∷ one ∷ plusZero ∷ one ∷ []) before before before before
 
 abbrev pub two : Float

@@ -22,8 +22,8 @@ abbrev pub of : Run → List Float → TwoTime
 of r xs = readAs (r .capacity) (r .orbitals) xs
 
 -- Two runs of equal n agree in bits up to index k: in times to k, in both retarded inputs on and below the diagonal in rows to k, and in the
--- lesser self-energy with both indices to k. All else is free: the session, the tolerance, the point counts and capacities, numbers past k or
--- above the diagonal, the room beyond the points, and what outputs and scratch held.
+-- lesser self-energy with both indices to k. All else is free: the session and the desk, the tolerance, the point counts and capacities, numbers past k
+-- or above the diagonal, the room beyond the points, and what outputs and scratch held.
 pub record SameTo (k : ℕ) (r r' : Run) : Type 0 where
   pub orbitals : r .orbitals ≡ r' .orbitals
   pub times : AgreeTo k (r .times) (r' .times)

@@ -1,4 +1,4 @@
--- Answers that leave a lent slice as it was: a refusal is by one of the checks 1 to 17, and never by 10. Assumes nothing.
+-- Answers that leave a lent slice as it was: a refusal is by one of the checks to 22, and never by 10. Assumes nothing.
 use Rattle.lists.specs.Prelude.{_≡_, refl, Bool, true, false, not, _&&_, List, ℕ, zero, suc, _≤_, arith, leb, eqb, Float, leb-true}
 use Rattle.lists.specs.Agreement.{never, both}
 use Rattle.refusal.specs.declared.Refusal.{Refusal}
@@ -8,7 +8,7 @@ use Rattle.refusal.specs.Verdict.{ask, _then_, askAll, numberOf, zeroed,
 
 -- a check's number other than 10
 abbrev keeps : ℕ → Bool
-keeps number = leb number 17 && not (eqb number 10)
+keeps number = leb number 22 && not (eqb number 10)
 
 pub data Keeping : Verdict → Type 0 where
   passed : Keeping Pass
@@ -36,7 +36,7 @@ no false h = refl
 -- the refusal clears no slice
 pub keeping-clears : {v : Verdict} → Keeping v → (r : Refusal) → v ≡ Refused r → clears (r .number) ≡ false
 keeping-clears passed r h = absurd (let z : _≡_ {A = ℕ} 0 1 = cc in omega arith)
-keeping-clears (refused s e) r h = let n : s .number ≡ r .number = cc in rw n at (no (eqb (s .number) 10) (both (leb (s .number) 17) _ e .1))
+keeping-clears (refused s e) r h = let n : s .number ≡ r .number = cc in rw n at (no (eqb (s .number) 10) (both (leb (s .number) 22) _ e .1))
 
 pub keeping-slice : {v : Verdict} → Keeping v → (r : Refusal) (made before : List Float) → v ≡ Refused r → afterwards zeroed v made before ≡ before
 unfolding afterwards

@@ -9,6 +9,7 @@ use refusal::Measured;
 use refusal::Refusal;
 use refusal::Verdict;
 use transient_run::Booked;
+use transient_run::Session;
 use transient_run::Solved;
 
 pub(crate) fn text(bytes: &[u8]) {
@@ -70,7 +71,15 @@ pub(crate) fn verdict(v: Verdict) {
     }
 }
 
-// The answer of a run or an append; with the count that an accepted one carries and the counter after any, if they are told.
+// A session's counters.
+fn counters(session: Session) {
+    let products = session.products;
+    for i in 0..8 {
+        decimal(products[i]);
+    }
+}
+
+// The answer of a run or an append; with the count that an accepted one carries and the counters after any, if they are told.
 pub(crate) fn booked(told: bool, booked: Booked) {
     let answer = booked.answer;
     match answer {
@@ -83,7 +92,7 @@ pub(crate) fn booked(told: bool, booked: Booked) {
         Solved::Refused(r) => refused(r),
     }
     if told {
-        decimal(booked.session.products);
+        counters(booked.session);
     }
 }
 

@@ -1,7 +1,7 @@
 // Functions 0, 1, 3 to 5, 12, 36, 37, 42 and 43, which leave functions: the convolutions, the Dyson equation, the transient run, the Langreth product and,
-// in a capacity, the run and the append, 42 and 43 in a session. Times, the operands; then the length of each of four outputs, 0 for those that the
-// function has not. 36, 37, 42 and 43 have their capacity there, the latter two their session's counter after it, and what their outputs hold before
-// stands in four more slices.
+// in a capacity, the run and the append, 42 and 43 at a desk of a session. Times, the operands; then the length of each of four outputs, 0 for those that
+// the function has not. 36, 37, 42 and 43 have their capacity there, the latter two their desk and their session's eight counters after it, and what their
+// outputs hold before stands in four more slices.
 use crate::lent::Head;
 use crate::lent::Places;
 use crate::lent::output_of;

@@ -1,5 +1,5 @@
-// Functions 5, 36, 37, 42 and 43: the transient run, and in a capacity the run and the append of a point, in a session that is opened at 0, and in one
-// whose counter is the next word.
+// Functions 5, 36, 37, 42 and 43: the transient run, and in a capacity the run and the append of a point, at desk 0 of a session that is opened at
+// zeros, and at the desk that the next word names, of one whose eight counters follow.
 use crate::lent::Head;
 use crate::lent::Places;
 use crate::lent::part;
@@ -10,16 +10,36 @@ use transient_run::append_point;
 use transient_run::transient_run;
 use two_time::capacity::Shape;
 
-// Whether a function is told its session's counter.
+// Whether a function is told its desk and its session's counters.
 pub(crate) fn in_session(function: u64) -> bool {
     function >= 42
 }
 
-fn session(function: u64) -> Session {
-    if in_session(function) {
-        return Session::open(words::whole() as u64);
+// A session, and the desk that a call is at.
+struct AtDesk {
+    session: Session,
+    desk: usize,
+}
+
+// The session whose counters are the next eight words, desk 0's first.
+fn session() -> Session {
+    let mut totals = [0u64; 8];
+    for i in 0..8 {
+        totals[i] = words::whole() as u64;
     }
-    Session::open(0)
+    Session::open(totals)
+}
+
+fn at_desk(function: u64) -> AtDesk {
+    if in_session(function) {
+        let desk = words::whole();
+        let session = session();
+        return AtDesk { session, desk };
+    }
+    AtDesk {
+        session: Session::open([0; 8]),
+        desk: 0,
+    }
 }
 
 // Free, both self-energies; G^R, G^<, K and X.
@@ -33,8 +53,10 @@ fn run(
     c: &mut [f64],
     d: &mut [f64],
 ) -> Booked {
+    let named = at_desk(head.function);
     transient_run(
-        session(head.function),
+        named.session,
+        named.desk,
         part(numbers, at, 0),
         part(numbers, at, 1),
         part(numbers, at, 2),
@@ -59,8 +81,10 @@ fn append(
     c: &mut [f64],
     d: &mut [f64],
 ) -> Booked {
+    let named = at_desk(head.function);
     append_point(
-        session(head.function),
+        named.session,
+        named.desk,
         part(numbers, at, 0),
         part(numbers, at, 1),
         part(numbers, at, 2),

@@ -3,7 +3,7 @@ use Rattle.lists.specs.Prelude.{_≡_, refl, List, [], _∷_, _++_, map, ℕ, _
 use Rattle.two_time.specs.Example.{floats, bits}
 use Rattle.complex.specs.Arithmetic.{plusZero, one}
 use Rattle.transient_run.specs.Calls.{Run, runOf, Outcome, solvedNumber, appendPoint}
-use Rattle.transient_run.specs.Cases.{runComputation}
+use Rattle.transient_run.specs.Computation.{runComputation}
 use Rattle.transient_run.specs.P12 as P12
 
 -- 1 on and below the diagonal, +0 above, and i everywhere, for two points in a capacity of 2
@@ -20,7 +20,8 @@ held x = x ∷ floats (0 ∷ 0x401c000000000000 ∷ 0x401c000000000000 ∷ 0x401
 abbrev onto : ℕ → ℕ → Float → Float → Float → Float → Run
 onto points capacity g l k x =
     record {
-      counter = 0;
+      session = P12.opened;
+      desk = 0;
       points = points;
       capacity = capacity;
       orbitals = 1;
@@ -71,7 +72,7 @@ abbrev nanAt : ℕ → List Float
 nanAt i = replicate i plusZero ++ nan ∷ replicate (17 - i) plusZero
 
 abbrev ontoTwo : List Float → List Float → List Float → List Float → Run
-ontoTwo = runOf (record { products = 0 }) (record { points = 2; capacity = 3; orbitals = 1 }) one P12.times P12.lower P12.lower P12.imaginary
+ontoTwo = runOf (record { products = replicate 8 0 }) 0 (record { points = 2; capacity = 3; orbitals = 1 }) one P12.times P12.lower P12.lower P12.imaginary
 
 abbrev zeros : List Float
 zeros = replicate 18 plusZero

@@ -1,3 +1,3 @@
--- A run or an append as it leaves, with its session's counter. Agreement: with document 01's numbers, and with the session.
-pub mod Counter
+-- A run or an append as it leaves, with its session's counters. Agreement: with document 01's numbers.
+pub mod Counters
 pub mod Agreement

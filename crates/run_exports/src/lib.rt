@@ -1,13 +1,14 @@
 // The transient run and the append, for a program in C or Rust to link: `scripts/archive`. How an answer leaves is in `answers`. A session crosses as its
-// counter, a slice of one number.
-ghost use Rattle.lists.specs.Prelude.{_≡_, false, length};
+// counters, a slice of eight numbers, one for each desk.
+ghost use Rattle.lists.specs.Prelude.{_≡_, _<_, true, false, length};
 ghost use Rattle.refusal.specs.Verdict.{_then_};
-ghost use Rattle.refusal.specs.Checks.{largeEnough, withinLimits, fitting};
-ghost use Rattle.transient_run.specs.Calls.{runOf, booked};
+ghost use Rattle.refusal.specs.Checks.{largeEnough, withinLimits, fitting, deskKnown};
+ghost use Rattle.transient_run.specs.Calls.{runOf, isAccepted, booked};
 ghost use Rattle.answers.specs.Answer.{after, answers};
-ghost use Rattle.run_exports.specs.Counter.{sessionOf, solvedVerdict, countedRun, countedAppend, counterAfter};
+ghost use Rattle.run_exports.specs.Counters.{sessionOf, solvedVerdict, countedRun, countedAppend};
 use answers::write_answer;
 use refusal::Verdict;
+use refusal::checks::desk_known;
 use refusal::checks::fitting;
 use refusal::checks::large_enough;
 use refusal::checks::least;
@@ -17,35 +18,62 @@ use transient_run::Session;
 use transient_run::Solved;
 use two_time::capacity::Shape;
 
-// The answer of a run or an append, which leaves the counter in its slice if it is accepted.
-fn write_booked(made: Booked, counter: &mut [u64], places: &mut [usize], part: &mut [f64]) -> u8
-    requires { ⌜ (length (now counter) ≡ 1) × (made .session ≡ booked (sessionOf (now counter)) (made .answer)) ⌝ }
+// The session whose counters the slice holds.
+fn session_of(counters: &[u64]) -> Session
+    requires { ⌜ length (now counters) ≡ 8 ⌝ }
+    ensures { λ r. ⌜ r ≡ sessionOf (now (counters .entry)) ⌝ }
+{
+    Session {
+        products: [
+            counters[0],
+            counters[1],
+            counters[2],
+            counters[3],
+            counters[4],
+            counters[5],
+            counters[6],
+            counters[7],
+        ],
+    }
+}
+
+// The answer of a run or an append at a desk, which leaves the desk's counter in the slice if it is accepted.
+fn write_booked(
+    made: Booked,
+    counters: &mut [u64],
+    desk: usize,
+    places: &mut [usize],
+    part: &mut [f64],
+) -> u8
+    requires { ⌜ (length (now counters) ≡ 8) × (made .session ≡ booked (sessionOf (now counters)) desk (made .answer)) × (isAccepted (made .answer) ≡ true → desk < 8) ⌝ }
     ensures { λ r. ⌜ (after r places part ≡ answers (solvedVerdict (made .answer)) places part)
-        × (now (counter .exit) ≡ counterAfter (now (counter .entry)) (made .answer)) ⌝ }
+        × (now (counters .exit) ≡ booked (sessionOf (now (counters .entry))) desk (made .answer) .products) ⌝ }
 {
     let answer = made.answer;
     let session = made.session;
     match answer {
         Solved::Accepted(_) => {
-            counter[0] = session.products;
+            counters[desk] = session.products[desk];
             0
         }
         Solved::Refused(r) => write_answer(Verdict::Refused(r), places, part),
     }
 }
 
-// Checks 1 and 2, then 3 of a counter that is not one number.
-fn no_counter(points: usize, capacity: usize, orbitals: usize) -> Verdict
-    ensures { λ r. ⌜ r ≡ (largeEnough points orbitals then withinLimits capacity orbitals then fitting false) ⌝ }
+// Checks 22, 1 and 2, then 3 of counters that are not eight.
+fn no_counters(desk: usize, points: usize, capacity: usize, orbitals: usize) -> Verdict
+    ensures { λ r. ⌜ r ≡ (deskKnown desk then largeEnough points orbitals then withinLimits capacity orbitals then fitting false) ⌝ }
 {
     let lengths = within_limits(capacity, orbitals).then(fitting(false));
-    large_enough(points, orbitals).then(lengths)
+    let sizes = large_enough(points, orbitals).then(lengths);
+    desk_known(desk).then(sizes)
 }
 
 // The transient run over the points: G^R and G^< in the outputs, K and X in the scratch.
 #[no_mangle]
 pub extern "C" fn leechgrommet_transient_run(
-    counter: &mut [u64],
+    counters: &mut [u64],
+    desk: usize,
     times: &[f64],
     free: &[f64],
     self_energy: &[f64],
@@ -61,29 +89,28 @@ pub extern "C" fn leechgrommet_transient_run(
     places: &mut [usize],
     part: &mut [f64],
 ) -> u8
-    ensures { λ r. ⌜ (let counted = now (counter .entry) in
-        let made = countedRun counted (runOf (sessionOf counted) (record { points = points; capacity = capacity; orbitals = orbitals }) tolerance (now (times .entry)) (now (free .entry)) (now («self_energy» .entry))
+    ensures { λ r. ⌜ (let session = sessionOf (now (counters .entry)) in
+        let made = countedRun (runOf session desk (record { points = points; capacity = capacity; orbitals = orbitals }) tolerance (now (times .entry)) (now (free .entry)) (now («self_energy» .entry))
         (now («lesser_self_energy» .entry)) (now (retarded .entry)) (now (lesser .entry)) (now (kernel .entry)) (now («lesser_advanced» .entry))) in
         (after r places part ≡ answers (solvedVerdict (made .answer)) places part)
-        × (now (counter .exit) ≡ counterAfter counted (made .answer))
+        × (now (counters .exit) ≡ booked session desk (made .answer) .products)
         × (now (retarded .exit) ≡ made .retarded)
         × (now (lesser .exit) ≡ made .lesser)
         × (now (kernel .exit) ≡ made .kernel)
         × (now («lesser_advanced» .exit) ≡ made .lesserAdvanced)) ⌝ }
 {
-    if counter.len() != 1 {
-        return write_answer(no_counter(points, capacity, orbitals), places, part);
+    if counters.len() != 8 {
+        return write_answer(no_counters(desk, points, capacity, orbitals), places, part);
     }
     let layout = Shape {
         points,
         capacity,
         orbitals,
     };
-    let session = Session {
-        products: counter[0],
-    };
+    let session = session_of(counters);
     let made = transient_run::transient_run(
         session,
+        desk,
         times,
         free,
         self_energy,
@@ -95,13 +122,14 @@ pub extern "C" fn leechgrommet_transient_run(
         kernel,
         lesser_advanced,
     );
-    write_booked(made, counter, places, part)
+    write_booked(made, counters, desk, places, part)
 }
 
 // The append of one point to those that it is told.
 #[no_mangle]
 pub extern "C" fn leechgrommet_append_point(
-    counter: &mut [u64],
+    counters: &mut [u64],
+    desk: usize,
     times: &[f64],
     free: &[f64],
     self_energy: &[f64],
@@ -117,19 +145,19 @@ pub extern "C" fn leechgrommet_append_point(
     places: &mut [usize],
     part: &mut [f64],
 ) -> u8
-    ensures { λ r. ⌜ (let counted = now (counter .entry) in
-        let made = countedAppend counted (runOf (sessionOf counted) (record { points = points; capacity = capacity; orbitals = orbitals }) tolerance (now (times .entry)) (now (free .entry)) (now («self_energy» .entry))
+    ensures { λ r. ⌜ (let session = sessionOf (now (counters .entry)) in
+        let made = countedAppend (runOf session desk (record { points = points; capacity = capacity; orbitals = orbitals }) tolerance (now (times .entry)) (now (free .entry)) (now («self_energy» .entry))
         (now («lesser_self_energy» .entry)) (now (retarded .entry)) (now (lesser .entry)) (now (kernel .entry)) (now («lesser_advanced» .entry))) in
         (after r places part ≡ answers (solvedVerdict (made .answer)) places part)
-        × (now (counter .exit) ≡ counterAfter counted (made .answer))
+        × (now (counters .exit) ≡ booked session desk (made .answer) .products)
         × (now (retarded .exit) ≡ made .retarded)
         × (now (lesser .exit) ≡ made .lesser)
         × (now (kernel .exit) ≡ made .kernel)
         × (now («lesser_advanced» .exit) ≡ made .lesserAdvanced)) ⌝ }
 {
-    if counter.len() != 1 {
+    if counters.len() != 8 {
         return write_answer(
-            no_counter(least(points, 256) + 1, capacity, orbitals),
+            no_counters(desk, least(points, 256) + 1, capacity, orbitals),
             places,
             part,
         );
@@ -139,11 +167,10 @@ pub extern "C" fn leechgrommet_append_point(
         capacity,
         orbitals,
     };
-    let session = Session {
-        products: counter[0],
-    };
+    let session = session_of(counters);
     let made = transient_run::append_point(
         session,
+        desk,
         times,
         free,
         self_energy,
@@ -155,5 +182,5 @@ pub extern "C" fn leechgrommet_append_point(
         kernel,
         lesser_advanced,
     );
-    write_booked(made, counter, places, part)
+    write_booked(made, counters, desk, places, part)
 }

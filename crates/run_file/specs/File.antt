@@ -17,9 +17,9 @@ use Rattle.run_file.specs.Bytes.{u32, numbers}
 abbrev pub shapeOf : ℕ → ℕ → Shape
 shapeOf points orbitals = record { points = points; capacity = points; orbitals = orbitals }
 
--- the program's session is opened at 0
+-- the program's session: every desk's counter is opened at 0, and its run is at desk 0
 abbrev pub opened : Session
-opened = record { products = 0 }
+opened = record { products = replicate 8 0 }
 
 module _ (bytes : List ℕ) where
   abbrev pub pointsOf : ℕ
@@ -55,5 +55,5 @@ module _ (bytes : List ℕ) where
       let each = lengthOf pointsOf orbitalsOf in
       let free = 40 + 8 * pointsOf in
       let zeros = replicate each plusZero in
-      runOf opened (shapeOf pointsOf orbitalsOf) defaultTolerance (numbers 40 pointsOf bytes)
+      runOf opened 0 (shapeOf pointsOf orbitalsOf) defaultTolerance (numbers 40 pointsOf bytes)
       (numbers free each bytes) (numbers (free + 8 * each) each bytes) (numbers (free + 16 * each) each bytes) zeros zeros zeros zeros

@@ -65,7 +65,7 @@ fn answer_text(
     }
 }
 
-// The text of a run, with slices for its outputs and scratch.
+// The text of a run at desk 0, with slices for its outputs and scratch.
 fn solve(
     session: Session,
     times: &[f64],
@@ -81,7 +81,7 @@ fn solve(
     out: &mut [u8],
 ) -> usize
     requires { ⌜ (points ≤ 16) × (orbitals ≤ 16) × (512 ≤ length (now out)) ⌝ }
-    ensures { λ r. ⌜ Appended (now (out .entry)) (now (out .exit)) 0 r (runAnswer (runOf session (shapeOf points orbitals) defaultTolerance (now (times .entry)) (now (free .entry)) (now («self_energy» .entry)) (now («lesser_self_energy» .entry))
+    ensures { λ r. ⌜ Appended (now (out .entry)) (now (out .exit)) 0 r (runAnswer (runOf session 0 (shapeOf points orbitals) defaultTolerance (now (times .entry)) (now (free .entry)) (now («self_energy» .entry)) (now («lesser_self_energy» .entry))
         (now (retarded .entry)) (now (lesser .entry)) (now (kernel .entry)) (now («lesser_advanced» .entry)))) ⌝ }
 {
     let shape = Shape {
@@ -91,6 +91,7 @@ fn solve(
     };
     let booked = transient_run(
         session,
+        0,
         times,
         free,
         self_energy,
@@ -106,7 +107,7 @@ fn solve(
     answer_text(points, orbitals, solved, lesser, out)
 }
 
-// The text of a file's run, in a session opened at 0, with slices for its four bodies: times, free, retarded self-energy, Σ^<.
+// The text of a file's run, in a session whose eight counters are opened at 0, with slices for its four bodies: times, free, retarded self-energy, Σ^<.
 fn decoded(
     bytes: &[u8],
     points: usize,
@@ -133,7 +134,7 @@ fn decoded(
     let mut kernel = [0.0; 512];
     let mut lesser_advanced = [0.0; 512];
     solve(
-        Session::open(0),
+        Session::open([0; 8]),
         times,
         free,
         self_energy,

@@ -1,10 +1,10 @@
 -- Document 01, transient: the outcome of a transient run, "The device starts empty."; document 02, L1: in slices
--- laid out for a capacity, and of an append; L3: with the count of its products, in a session.
-use Rattle.lists.specs.Prelude.{ℕ, suc, _+_, Bool, true, false, _&&_, List, [], _∷_, eqb, length, Float}
+-- laid out for a capacity, and of an append; L3: with the count of its products, in a session; L13: at a desk.
+use Rattle.lists.specs.Prelude.{ℕ, suc, _+_, Bool, true, false, _&&_, List, [], _∷_, eqb, length, getD, set, Float}
 use Rattle.refusal.specs.declared.Verdict.{Verdict}
 use Rattle.refusal.specs.declared.Verdict.the-variants.{Pass, Refused}
 use Rattle.refusal.specs.Verdict.{_then_, zeroed, afterwards}
-use Rattle.refusal.specs.Checks.{finiteWork, counterHolds}
+use Rattle.refusal.specs.Checks.{finiteWork, counterHolds, deskKnown}
 use Rattle.grid.specs.Calls.{gridChecks}
 use Rattle.two_time.specs.declared.capacity.Shape.{Shape}
 use Rattle.two_time.specs.declared.sums.Sums.the-variants.{LesserAdvanced, Lesser}
@@ -18,9 +18,11 @@ use Rattle.transient_run.specs.declared.Session.{Session}
 use Rattle.transient_run.specs.declared.Solved.the-variants.{Accepted, Refused as NotSolved}
 use Rattle.transient_run.specs.Products.{formed}
 
--- What a call is given: the counter of its session, how many points it is told, the capacity, "Operands: free, retarded self-energy, Σ^<", and what its outputs and scratch hold before
+-- What a call is given: its session and its desk, how many points it is told, the capacity, "Operands: free, retarded self-energy, Σ^<", and what
+-- its outputs and scratch hold before
 pub record Run : Type 0 where
-  pub counter : ℕ
+  pub session : Session
+  pub desk : ℕ
   pub points : ℕ
   pub capacity : ℕ
   pub orbitals : ℕ
@@ -34,11 +36,16 @@ pub record Run : Type 0 where
   pub kernel : List Float
   pub lesserAdvanced : List Float
 
+-- "Keep eight counters, one for each desk numbered 0 to 7"
+abbrev pub counterOf : Session → ℕ → ℕ
+counterOf session desk = getD (session .products) desk 0
+
 -- the run of a call
-abbrev pub runOf : Session → Shape → Float → List Float → List Float → List Float → List Float → List Float → List Float → List Float → List Float → Run
-runOf session shape tolerance times free selfEnergy lesserSelfEnergy retarded lesser kernel lesserAdvanced =
+abbrev pub runOf : Session → ℕ → Shape → Float → List Float → List Float → List Float → List Float → List Float → List Float → List Float → List Float → Run
+runOf session desk shape tolerance times free selfEnergy lesserSelfEnergy retarded lesser kernel lesserAdvanced =
     record {
-      counter = session .products;
+      session = session;
+      desk = desk;
       points = shape .points;
       capacity = shape .capacity;
       orbitals = shape .orbitals;
@@ -76,10 +83,10 @@ unfoldable pub solvedNumber : Solved → ℕ
 solvedNumber (Accepted count) = 0
 solvedNumber (NotSolved r) = r .number
 
--- "and a session adds it to one 64-bit counter ... A refused run adds nothing"
-unfoldable pub booked : Session → Solved → Session
-booked session (Accepted count) = record { products = session .products + count }
-booked session (NotSolved r) = session
+-- "a session adds it to one 64-bit counter ... A refused run adds nothing"; of L13: "A run or append names its desk; no other desk's counter changes"
+unfoldable pub booked : Session → ℕ → Solved → Session
+booked session desk (Accepted count) = record { products = set (session .products) desk (counterOf session desk + count) }
+booked session desk (NotSolved r) = session
 
 -- A call that works out the places whose larger index is at least `old` and below `points`. Document 02, L1: "Old entries of K, G^R, X and G^< are read
 -- as the buffers hold them, whatever that is, and stay": each of the four is made of what stands in the slices before it.
@@ -103,14 +110,15 @@ module _ (old points : ℕ) (r : Run) where
       && (newFinite LesserAdvanced (r .capacity) (r .orbitals) old points (r .times) (r .lesserSelfEnergy) retardedMade
       && newFinite Lesser (r .capacity) (r .orbitals) old points (r .times) retardedMade lesserAdvancedMade)
 
-  -- checks 1, 2, 3 and 16; "Lines 4 to 9 are asked over all points": 4 to 7, then as Dyson asks: 8, 9 for free, 9 for the retarded self-energy; then 17
+  -- checks 22, 1, 2, 3 and 16; "Lines 4 to 9 are asked over all points": 4 to 7, then as Dyson asks: 8, 9 for free, 9 for the retarded self-energy; then 17
   unfoldable pub checksOf : Verdict
   checksOf =
-      capacityChecks (r .capacity) points (r .orbitals) (eqb (length (r .times)) (r .capacity))
-      (r .free ∷ r .selfEnergy ∷ r .lesserSelfEnergy ∷ r .retarded ∷ r .lesser ∷ r .kernel ∷ r .lesserAdvanced ∷ [])
+      (deskKnown (r .desk)
+      then capacityChecks (r .capacity) points (r .orbitals) (eqb (length (r .times)) (r .capacity))
+      (r .free ∷ r .selfEnergy ∷ r .lesserSelfEnergy ∷ r .retarded ∷ r .lesser ∷ r .kernel ∷ r .lesserAdvanced ∷ []))
       then gridChecks points (r .times) then pointOperands (r .capacity) points (r .orbitals) 0 (r .free ∷ r .selfEnergy ∷ r .lesserSelfEnergy ∷ [])
       then supportChecks points (r .orbitals) (r .tolerance) (readAs (r .capacity) (r .orbitals) (r .free)) (readAs (r .capacity) (r .orbitals) (r .selfEnergy))
-      then counterHolds (r .counter) (formed old points)
+      then counterHolds (counterOf (r .session) (r .desk)) (formed old points)
 
   -- and 10
   unfoldable pub verdictOf : Verdict

@@ -1,10 +1,10 @@
 -- The checks of a call as the code makes them, what it says that they pass, and what an answer says of the verdict. Assumes nothing.
-use Rattle.lists.specs.Prelude.{_≡_, refl, sym, ap, _∙_, ⊎-elim, Bool, true, List, [], _∷_, ℕ, suc, _+_, _≤_, _<_, min, min-eq-left, min-eq-right, le-trans, le-refl, decLt, arith, add-one, leb-true, eqb, length, Float}
+use Rattle.lists.specs.Prelude.{_≡_, refl, sym, ap, _∙_, ⊎-elim, Bool, true, List, [], _∷_, ℕ, suc, _+_, _≤_, _<_, min, min-eq-left, min-eq-right, le-trans, le-refl, decLt, arith, add-one, leb-true, ltb-true, eqb, length, Float}
 use Rattle.refusal.specs.declared.Refusal.{Refusal}
 use Rattle.refusal.specs.declared.Verdict.{Verdict}
 use Rattle.refusal.specs.declared.Verdict.the-variants.{Pass, Refused}
 use Rattle.refusal.specs.Verdict.{by, ask, _then_, afterwards}
-use Rattle.refusal.specs.Checks.{counterHolds}
+use Rattle.refusal.specs.Checks.{counterHolds, deskKnown}
 use Rattle.refusal.specs.Agreement.{ask-pass, then-pass, then-after, then-refused}
 use Rattle.refusal.specs.Unchanged.{Keeping, ask-keeping, then-keeping}
 use Rattle.grid.specs.Calls.{gridChecks}
@@ -20,7 +20,7 @@ use Rattle.dyson.specs.Calls.{supportChecks}
 use Rattle.dyson.specs.Checks.{support-keeping}
 use Rattle.transient_run.specs.Products.{formed}
 use Rattle.transient_run.specs.declared.Solved.the-variants.{Accepted, Refused as NotSolved}
-use Rattle.transient_run.specs.Calls.{Run, Outcome, solved, isAccepted, kernelMade, retardedMade, lesserAdvancedMade, lesserMade, madeFinite, checksOf, verdictOf, worked, appendPoint}
+use Rattle.transient_run.specs.Calls.{Run, Outcome, counterOf, solved, isAccepted, kernelMade, retardedMade, lesserAdvancedMade, lesserMade, madeFinite, checksOf, verdictOf, worked, appendPoint}
 
 -- the verdict of a call, by its answer
 pub accepted : (v : Verdict) (count : ℕ) → isAccepted (solved v count) ≡ true → v ≡ Pass
@@ -47,26 +47,31 @@ module _ (points : ℕ) (r : Run) where
   slices = r .free ∷ r .selfEnergy ∷ r .lesserSelfEnergy ∷ r .retarded ∷ r .lesser ∷ r .kernel ∷ r .lesserAdvanced ∷ []
 
   abbrev pub sizesAsked : Verdict
-  sizesAsked = capacityChecks (r .capacity) points (r .orbitals) (eqb (length (r .times)) (r .capacity)) slices
+  sizesAsked = deskKnown (r .desk) then capacityChecks (r .capacity) points (r .orbitals) (eqb (length (r .times)) (r .capacity)) slices
 
   abbrev pub supportAsked : Verdict
   supportAsked = supportChecks points (r .orbitals) (r .tolerance) (readAs (r .capacity) (r .orbitals) (r .free)) (readAs (r .capacity) (r .orbitals) (r .selfEnergy))
 
   -- the sizes of a call that passes them
   pub sizes-said : sizesAsked ≡ Pass → (2 ≤ points) × (points ≤ r .capacity) × SizesPassed (r .capacity) (r .orbitals) true slices
-  sizes-said h = let z = capacity-passed (r .capacity) points (r .orbitals) _ slices h in (z .0, z .1, others-asked (z .2) slices (z .2 .long))
+  sizes-said h = let z = capacity-passed (r .capacity) points (r .orbitals) _ slices (then-pass (deskKnown (r .desk)) _ h .1) in (z .0, z .1, others-asked (z .2) slices (z .2 .long))
 
   module _ (old : ℕ) where
     pub checks-keeping : Keeping (checksOf old points r)
-    unfolding checksOf counterHolds
+    unfolding checksOf counterHolds deskKnown
     checks-keeping =
-        then-keeping (capacity-keeping (r .capacity) points (r .orbitals) _ slices)
+        then-keeping (then-keeping (ask-keeping _ _ refl) (capacity-keeping (r .capacity) points (r .orbitals) _ slices))
         (then-keeping (times-keeping _ (r .orbitals) (r .times)) (then-keeping (operands-of-points-keeping (r .capacity) points (r .orbitals) 0 operands)
         (then-keeping (support-keeping points (r .orbitals) (r .tolerance) _ _) (ask-keeping _ _ refl))))
 
     pub checks-passed : checksOf old points r ≡ Pass → (2 ≤ points) × (points ≤ r .capacity) × SizesPassed (r .capacity) (r .orbitals) true slices
     unfolding checksOf
     checks-passed h = sizes-said (then-pass sizesAsked _ h .0)
+
+    -- refused by its desk
+    pub desk-refused : {v : Verdict} {x : Refusal} → v ≡ deskKnown (r .desk) → v ≡ Refused x → v ≡ checksOf old points r
+    unfolding checksOf
+    desk-refused e h = h ∙ sym (then-refused sizesAsked _ _ (then-refused (deskKnown (r .desk)) _ _ (sym e ∙ h)))
 
     -- refused by its sizes
     pub sizes-refused : {v : Verdict} {x : Refusal} → v ≡ sizesAsked → v ≡ Refused x → v ≡ checksOf old points r
@@ -78,7 +83,7 @@ module _ (points : ℕ) (r : Run) where
       pub checks-asked : grid ≡ gridChecks points (r .times)
           → first ≡ pointChecks (r .capacity) points (r .orbitals) 0 (r .free) → second ≡ pointChecks (r .capacity) points (r .orbitals) 1 (r .selfEnergy) → third ≡ pointChecks (r .capacity) points (r .orbitals) 2 (r .lesserSelfEnergy)
           → support ≡ checkInputs (r .capacity) points (r .orbitals) (r .free) (r .selfEnergy) (r .tolerance)
-          → holds ≡ counterHolds (r .counter) (formed old points) → later ≡ (second then third) → entries ≡ (first then later) → last ≡ (support then holds) → rest ≡ (entries then last) → all ≡ (grid then rest)
+          → holds ≡ counterHolds (counterOf (r .session) (r .desk)) (formed old points) → later ≡ (second then third) → entries ≡ (first then later) → last ≡ (support then holds) → rest ≡ (entries then last) → all ≡ (grid then rest)
           → all ≡ checksOf old points r
       unfolding checksOf checkInputs
       checks-asked g a b c s h el ee es er e =
@@ -92,6 +97,11 @@ module _ (points : ℕ) (r : Run) where
           e ∙ rw (g, er, es, operands-are, support-is, h) (sym (then-after sizesAsked _ (sym asked ∙ passed)))
 
   -- the counter of a call that passes holds its count
-  pub counter-room : (old : ℕ) → checksOf old points r ≡ Pass → r .counter + formed old points ≤ 0xffff_ffff_ffff_ffff
+  pub counter-room : (old : ℕ) → checksOf old points r ≡ Pass → counterOf (r .session) (r .desk) + formed old points ≤ 0xffff_ffff_ffff_ffff
   unfolding checksOf counterHolds
   counter-room old h = leb-true _ _ (ask-pass _ (by 17) (then-pass _ _ (then-pass _ _ (then-pass _ _ (then-pass sizesAsked _ h .1) .1) .1) .1))
+
+  -- and its desk is one of the eight
+  pub desk-below : (old : ℕ) → checksOf old points r ≡ Pass → r .desk < 8
+  unfolding checksOf deskKnown
+  desk-below old h = ltb-true _ _ (ask-pass _ (by 22) (then-pass _ _ (then-pass sizesAsked _ h .0) .0))

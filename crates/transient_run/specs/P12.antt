@@ -1,8 +1,8 @@
 -- P12 of document 01, made stage by stage: each stage is computed from what the stage before it left. Assumes nothing.
-use Rattle.lists.specs.Prelude.{_≡_, refl, ap, _∙_, true, List, [], _∷_, ℕ, length, Float}
+use Rattle.lists.specs.Prelude.{_≡_, refl, ap, _∙_, true, List, [], _∷_, ℕ, length, replicate, Float}
 use Rattle.refusal.specs.declared.Verdict.the-variants.{Pass, Refused}
 use Rattle.refusal.specs.Verdict.{by, ask, _then_, afterwards}
-use Rattle.refusal.specs.Checks.{finiteWork, withinCapacity, counterHolds}
+use Rattle.refusal.specs.Checks.{finiteWork, withinCapacity, counterHolds, deskKnown}
 use Rattle.grid.specs.Calls.{gridChecks}
 use Rattle.two_time.specs.declared.sums.Sums.the-variants.{Causal, LesserAdvanced, Lesser}
 use Rattle.two_time.specs.Layout.{readAs}
@@ -19,7 +19,7 @@ use Rattle.dyson.specs.NewSolved.{finite-all, green-all}
 use Rattle.transient_run.specs.declared.Session.{Session}
 use Rattle.transient_run.specs.declared.Solved.the-variants.{Accepted, Refused as NotSolved}
 use Rattle.transient_run.specs.Products.{total, formed}
-use Rattle.transient_run.specs.Calls.{Run, runOf, solved, madeFinite, checksOf, verdictOf, worked, transientRun}
+use Rattle.transient_run.specs.Calls.{Run, counterOf, runOf, solved, madeFinite, checksOf, verdictOf, worked, transientRun}
 
 -- 0, 1, 2
 abbrev pub times : List Float
@@ -96,12 +96,15 @@ lesser-finite : sumsFinite Lesser 3 1 times (floats retardedBits) (floats lesser
 unfolding computation
 lesser-finite = refl
 
--- the run in a session, with outputs and scratch that hold `before`; in one opened at 0
-abbrev pub runIn : Session → Float → List Float → Run
-runIn session tolerance before = runOf session (record { points = 3; capacity = 3; orbitals = 1 }) tolerance times lower lower imaginary before before before before
+-- the run in a session, with outputs and scratch that hold `before`; at desk 0 of one opened at 0
+abbrev pub runIn : Session → ℕ → Float → List Float → Run
+runIn session desk tolerance before = runOf session desk (record { points = 3; capacity = 3; orbitals = 1 }) tolerance times lower lower imaginary before before before before
+
+abbrev pub opened : Session
+opened = record { products = replicate 8 0 }
 
 abbrev pub run : Float → List Float → Run
-run = runIn (record { products = 0 })
+run = runIn opened 0
 
 sizes : (before : List Float) → length before ≡ 18 → capacityChecks 3 3 1 true (lower ∷ lower ∷ imaginary ∷ before ∷ before ∷ before ∷ before ∷ []) ≡ Pass
 unfolding computation capacityChecks withinCapacity
@@ -111,10 +114,10 @@ inputs : (gridChecks 3 times ≡ Pass) × (pointOperands 3 3 1 0 (lower ∷ lowe
 unfolding computation pointOperands pointEntries
 inputs = (refl, refl)
 
--- "N(N+1)(2N+1)/6 + N·N·(N+1) − 3N" at three points, which a session opened at 0 holds
-counted : (formed 0 3 ≡ 41) × (counterHolds 0 (formed 0 3) ≡ Pass)
-unfolding computation counterHolds formed total isNew
-counted = (refl, refl)
+-- "N(N+1)(2N+1)/6 + N·N·(N+1) − 3N" at three points, which a counter at 0 holds; desk 0 is a desk
+counted : (formed 0 3 ≡ 41) × (counterHolds 0 (formed 0 3) ≡ Pass) × (deskKnown 0 ≡ Pass)
+unfolding computation counterHolds deskKnown formed total isNew
+counted = (refl, refl, refl)
 
 module _ (tolerance : Float) (before : List Float) (long : length before ≡ 18) (passed : supportChecks 3 1 tolerance (readAs 3 1 lower) (readAs 3 1 lower) ≡ Pass) where
   -- all places of slices laid out for the points
@@ -130,31 +133,31 @@ module _ (tolerance : Float) (before : List Float) (long : length before ≡ 18)
   lesser-made : newNumbers Lesser 3 1 0 3 times (floats retardedBits) (floats lesserAdvancedBits) before ≡ floats lesserBits
   lesser-made = all-numbers Lesser 3 1 times (floats retardedBits) (floats lesserAdvancedBits) before ∙ lesser-stage
 
-  finite : (session : Session) → madeFinite 0 3 (runIn session tolerance before) ≡ true
+  finite : (session : Session) (desk : ℕ) → madeFinite 0 3 (runIn session desk tolerance before) ≡ true
   unfolding madeFinite solvedFinite
-  finite session =
+  finite session desk =
       rw (retarded-made, lesser-advanced-made, finite-all 3 1 times lower lower before before, all-finite LesserAdvanced 3 1 times imaginary (floats retardedBits) before)
       (rw (all-finite Lesser 3 1 times (floats retardedBits) (floats lesserAdvancedBits) before, kernel-finite, kernel-stage, retarded-finite, lesser-advanced-finite, lesser-finite))
 
-  verdict-in : (session : Session) → counterHolds (session .products) (formed 0 3) ≡ Pass → verdictOf 0 3 (runIn session tolerance before) ≡ Pass
+  verdict-in : (session : Session) (desk : ℕ) → deskKnown desk ≡ Pass → counterHolds (counterOf session desk) (formed 0 3) ≡ Pass → verdictOf 0 3 (runIn session desk tolerance before) ≡ Pass
   unfolding verdictOf checksOf _then_ finiteWork ask
-  verdict-in session room = rw (finite session, sizes before long, inputs .0, inputs .1, passed, room)
+  verdict-in session desk known room = rw (finite session desk, known, sizes before long, inputs .0, inputs .1, passed, room)
 
   pub verdict : verdictOf 0 3 (run tolerance before) ≡ Pass
-  verdict = verdict-in (record { products = 0 }) (counted .1)
+  verdict = verdict-in opened 0 (counted .2) (counted .1)
 
   -- "G^<(1,1) = 1.5625i, G^<(2,2) = 14.0625i", whatever tolerance passes checks 8 and 9, wherever the counter has room
-  pub outcome-in : (session : Session) → counterHolds (session .products) (formed 0 3) ≡ Pass → transientRun (runIn session tolerance before)
+  pub outcome-in : (session : Session) (desk : ℕ) → deskKnown desk ≡ Pass → counterHolds (counterOf session desk) (formed 0 3) ≡ Pass → transientRun (runIn session desk tolerance before)
       ≡ record { answer = Accepted 41; retarded = floats retardedBits; lesser = floats lesserBits; kernel = floats kernelBits; lesserAdvanced = floats lesserAdvancedBits }
   unfolding transientRun worked afterwards solved
-  outcome-in session room = rw (verdict-in session room, counted .0, retarded-made, lesser-advanced-made, lesser-made, kernel-made)
+  outcome-in session desk known room = rw (verdict-in session desk known room, counted .0, retarded-made, lesser-advanced-made, lesser-made, kernel-made)
 
   pub outcome : transientRun (run tolerance before)
       ≡ record { answer = Accepted 41; retarded = floats retardedBits; lesser = floats lesserBits; kernel = floats kernelBits; lesserAdvanced = floats lesserAdvancedBits }
-  outcome = outcome-in (record { products = 0 }) (counted .1)
+  outcome = outcome-in opened 0 (counted .2) (counted .1)
 
   -- and 17 where it has none: every slice is as it was
-  pub full : (session : Session) → counterHolds (session .products) (formed 0 3) ≡ Refused (by 17) → transientRun (runIn session tolerance before)
+  pub full : (session : Session) (desk : ℕ) → deskKnown desk ≡ Pass → counterHolds (counterOf session desk) (formed 0 3) ≡ Refused (by 17) → transientRun (runIn session desk tolerance before)
       ≡ record { answer = NotSolved (by 17); retarded = before; lesser = before; kernel = before; lesserAdvanced = before }
   unfolding transientRun worked verdictOf checksOf _then_ afterwards solved
-  full session none = rw (sizes before long, inputs .0, inputs .1, passed, none)
+  full session desk known none = rw (known, sizes before long, inputs .0, inputs .1, passed, none)

@@ -1,19 +1,19 @@
 -- Points past every capacity: an append is refused before its work, and by the same number however many there are. Assumes nothing.
-use Rattle.lists.specs.Prelude.{_≡_, refl, sym, _∙_, Bool, true, false, List, ℕ, suc, _+_, _≤_, _<_, min, min-eq-left, min-eq-right, decLt, arith, add-one, leb, leb-true, le-leb, Float}
+use Rattle.lists.specs.Prelude.{_≡_, refl, sym, ap, _∙_, Bool, true, false, List, ℕ, suc, _+_, _≤_, _<_, min, min-eq-left, min-eq-right, decLt, arith, add-one, leb, leb-true, le-leb, Float}
 use Rattle.refusal.specs.declared.Refusal.{Refusal}
 use Rattle.refusal.specs.declared.Verdict.{Verdict}
 use Rattle.refusal.specs.declared.Verdict.the-variants.{Pass, Refused}
-use Rattle.refusal.specs.Verdict.{by, ask, _then_, afterwards}
-use Rattle.refusal.specs.Checks.{largeEnough, withinLimits, fitting, withinCapacity}
+use Rattle.refusal.specs.Verdict.{by, ask, _then_}
+use Rattle.refusal.specs.Checks.{largeEnough, withinLimits, fitting, withinCapacity, deskKnown}
 use Rattle.refusal.specs.Agreement.{ask-pass, then-pass, then-agree, then-refused}
-use Rattle.refusal.specs.Unchanged.{keeping-clears}
 use Rattle.two_time.specs.New.{clearedNew}
 use Rattle.two_time.specs.Calls.{capacityChecks}
 use Rattle.two_time.specs.SizeChecks.{limited}
-use Rattle.two_time.specs.CapacityChecks.{capacity-passed, capacity-keeping}
+use Rattle.two_time.specs.CapacityChecks.{capacity-passed}
 use Rattle.transient_run.specs.declared.Solved.the-variants.{Refused as NotSolved}
 use Rattle.transient_run.specs.Calls.{Run, Outcome, solved, madeFinite, checksOf, verdictOf, worked, appendPoint}
 use Rattle.transient_run.specs.Checks.{slices, sizesAsked}
+use Rattle.transient_run.specs.Ends.{checks-end}
 
 -- 16 of points past the capacity
 past : (points capacity : ℕ) → capacity < points → withinCapacity points capacity ≡ Refused (by 16)
@@ -42,19 +42,16 @@ sizes-alike capacity p q n fits slices hp hq =
 
 -- a call that is refused by its sizes answers the refusal and leaves every slice
 module _ (old points : ℕ) (r : Run) (clear : List Float → List Float) (x : Refusal) (refused : sizesAsked points r ≡ Refused x) where
-  verdict : verdictOf old points r ≡ Refused x
-  unfolding verdictOf checksOf
-  verdict = then-refused _ _ x (then-refused (sizesAsked points r) _ x refused)
-
   sizes-worked : worked old points r clear ≡ record { answer = NotSolved x; retarded = r .retarded; lesser = r .lesser; kernel = r .kernel; lesserAdvanced = r .lesserAdvanced }
-  unfolding worked afterwards solved
-  sizes-worked = rw (verdict, keeping-clears (capacity-keeping (r .capacity) points (r .orbitals) _ (slices points r)) x refused)
+  unfolding checksOf
+  sizes-worked = checks-end old points r clear x (then-refused (sizesAsked points r) _ x refused)
 
 -- the same call that is told other points
 abbrev pub withPoints : Run → ℕ → Run
 withPoints r k =
     record {
-      counter = r .counter;
+      session = r .session;
+      desk = r .desk;
       points = k;
       capacity = r .capacity;
       orbitals = r .orbitals;
@@ -84,9 +81,9 @@ module _ (r : Run) where
   past-alike p q hp hq old old' = by-sizes (sizesAsked p r) refl
     where
       by-sizes : (v : Verdict) → sizesAsked p r ≡ v → appendTo old p ≡ appendTo old' q
-      by-sizes Pass e = let z = capacity-passed (r .capacity) p (r .orbitals) _ (slices p r) e in absurd (let within = z .1 in let most = z .2 .points-most in omega arith)
+      by-sizes Pass e = let z = capacity-passed (r .capacity) p (r .orbitals) _ (slices p r) (then-pass (deskKnown (r .desk)) _ e .1) in absurd (let within = z .1 in let most = z .2 .points-most in omega arith)
       by-sizes (Refused x) e =
-          sizes-worked old p r _ x e ∙ sym (sizes-worked old' q r _ x (sym (sizes-alike (r .capacity) p q (r .orbitals) _ (slices p r) hp hq) ∙ e))
+          sizes-worked old p r _ x e ∙ sym (sizes-worked old' q r _ x (ap (λ v. deskKnown (r .desk) then v) (sym (sizes-alike (r .capacity) p q (r .orbitals) _ (slices p r) hp hq)) ∙ e))
 
   pub append-cut : (k : ℕ) → k ≡ min (r .points) 256 → worked k (k + 1) (withPoints r (k + 1)) (clearedNew (r .capacity) (r .orbitals) k (k + 1)) ≡ appendPoint r
   unfolding appendPoint

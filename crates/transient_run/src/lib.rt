@@ -1,16 +1,18 @@
 // The transient run of a device that starts empty (document 01, transient), and an append of one time point (document 02, L1), each in a session that
-// counts their products (L3): the meaning of the calls is in specs/.
-ghost use Rattle.lists.specs.Prelude.{_≡_, _≤_, min, true, List, [], _∷_, Float};
+// counts their products (L3), a counter for each desk (L13): the meaning of the calls is in specs/.
+ghost use Rattle.lists.specs.Prelude.{_≡_, ℕ, _+_, _<_, _≤_, min, true, List, [], _∷_, Float};
 ghost use Rattle.two_time.specs.New.{clearedNew};
 ghost use Rattle.two_time.specs.Calls.{allFit};
 ghost use Rattle.two_time.specs.SizeChecks.{SizesPassed};
+ghost use Rattle.transient_run.specs.declared.Solved.the-variants.{Accepted};
 ghost use Rattle.transient_run.specs.Products.{formed, countOf};
-ghost use Rattle.transient_run.specs.Calls.{runOf, booked, kernelMade, retardedMade, lesserAdvancedMade, lesserMade, madeFinite, checksOf, worked, transientRun, appendPoint};
+ghost use Rattle.transient_run.specs.Calls.{counterOf, runOf, booked, kernelMade, retardedMade, lesserAdvancedMade, lesserMade, madeFinite, checksOf, worked, transientRun, appendPoint};
 use dyson::solve_new;
 use grid::check_grid;
 use refusal::Refusal;
 use refusal::Verdict;
 use refusal::checks::counter_holds;
+use refusal::checks::desk_known;
 use refusal::checks::least;
 use sums::new_sums;
 use support::check_retarded_inputs;
@@ -30,9 +32,9 @@ pub enum Solved {
     Refused(Refusal),
 }
 
-// What counts the products of accepted runs and appends.
+// What counts the products of accepted runs and appends: a counter for each desk.
 pub struct Session {
-    pub products: u64,
+    pub products: [u64; 8],
 }
 
 // An answer, and the session after it.
@@ -42,12 +44,30 @@ pub struct Booked {
 }
 
 impl Session {
-    // A session opened at the total that is carried over.
-    pub fn open(total: u64) -> Session
-        ensures { λ r. ⌜ r ≡ record { products = total } ⌝ }
+    // A session opened at the totals that the desks carry over.
+    pub fn open(totals: [u64; 8]) -> Session
+        ensures { λ r. ⌜ r ≡ record { products = totals } ⌝ }
     {
-        Session { products: total }
+        Session { products: totals }
     }
+}
+
+// The counter of a desk.
+fn counter_of(session: Session, desk: usize) -> u64
+    requires { ⌜ desk < 8 ⌝ }
+    ensures { λ r. ⌜ r ≡ counterOf session desk ⌝ }
+{
+    session.products[desk]
+}
+
+// The session after an accepted call of that count.
+fn with_count(session: Session, desk: usize, count: u64) -> Session
+    requires { ⌜ (desk < 8) × (counterOf session desk + count ≤ 0xffff_ffff_ffff_ffff) ⌝ }
+    ensures { λ r. ⌜ r ≡ booked session desk (Accepted count) ⌝ }
+{
+    let mut products = session.products;
+    products[desk] += count;
+    Session { products }
 }
 
 // How many products a run over the points forms, cut at 256 points: N(N+1)(2N+1)/6 + N·N·(N+1) − 3N.
@@ -67,9 +87,10 @@ fn formed(old: usize, points: usize) -> u64
     count_of(points) - before
 }
 
-// Checks 1 to 9, 16 and 17, where `fits` says whether the outputs and the scratch have their length.
+// Checks 22, 1 to 9, 16 and 17, where `fits` says whether the outputs and the scratch have their length.
 fn checks(
     session: Session,
+    desk: usize,
     times: &[f64],
     free: &[f64],
     self_energy: &[f64],
@@ -81,8 +102,12 @@ fn checks(
 ) -> Verdict
     requires { ⌜ old ≤ shape .points ⌝ }
     ensures { λ r. ⌜ ((retarded lesser kernel lesserAdvanced : List Float) → fits ≡ allFit (shape .capacity) (shape .orbitals) (retarded ∷ lesser ∷ kernel ∷ lesserAdvanced ∷ [])
-        → r ≡ checksOf old (shape .points) (runOf session shape tolerance (now (times .entry)) (now (free .entry)) (now («self_energy» .entry)) (now («lesser_self_energy» .entry)) retarded lesser kernel lesserAdvanced)) ⌝ }
+        → r ≡ checksOf old (shape .points) (runOf session desk shape tolerance (now (times .entry)) (now (free .entry)) (now («self_energy» .entry)) (now («lesser_self_energy» .entry)) retarded lesser kernel lesserAdvanced)) ⌝ }
 {
+    let named = desk_known(desk);
+    let Verdict::Pass = named else {
+        return named;
+    };
     let free_fits = has_length(shape.capacity, shape.orbitals, free);
     let self_energy_fits = has_length(shape.capacity, shape.orbitals, self_energy);
     let lesser_self_energy_fits = has_length(shape.capacity, shape.orbitals, lesser_self_energy);
@@ -95,7 +120,8 @@ fn checks(
     let later = second.then(check_points(2, lesser_self_energy, shape));
     let entries = check_points(0, free, shape).then(later);
     let support = check_retarded_inputs(free, self_energy, shape, tolerance);
-    let holds = counter_holds(session.products, formed(old, shape.points));
+    let count = formed(old, shape.points);
+    let holds = counter_holds(counter_of(session, desk), count);
     check_grid(times, shape.points).then(entries.then(support.then(holds)))
 }
 
@@ -115,7 +141,7 @@ fn work(
 ) -> bool
     requires { ⌜ (old ≤ shape .points) × (shape .points ≤ shape .capacity)
         × SizesPassed (shape .capacity) (shape .orbitals) true (now free ∷ now «self_energy» ∷ now «lesser_self_energy» ∷ now retarded ∷ now lesser ∷ now kernel ∷ now «lesser_advanced» ∷ []) ⌝ }
-    ensures { λ r. ⌜ ((session : Session) (tolerance : Float) → let run = runOf session shape tolerance (now (times .entry)) (now (free .entry)) (now («self_energy» .entry)) (now («lesser_self_energy» .entry))
+    ensures { λ r. ⌜ ((session : Session) (desk : ℕ) (tolerance : Float) → let run = runOf session desk shape tolerance (now (times .entry)) (now (free .entry)) (now («self_energy» .entry)) (now («lesser_self_energy» .entry))
         (now (retarded .entry)) (now (lesser .entry)) (now (kernel .entry)) (now («lesser_advanced» .entry)) in
         let cleared = clearedNew (shape .capacity) (shape .orbitals) old (shape .points) in
         (r ≡ madeFinite old (shape .points) run)
@@ -152,6 +178,7 @@ fn work(
 // A call that works out the places whose larger index is at least `old` and below the points; 10 leaves +0 there.
 fn solve(
     session: Session,
+    desk: usize,
     times: &[f64],
     free: &[f64],
     self_energy: &[f64],
@@ -165,10 +192,10 @@ fn solve(
     lesser_advanced: &mut [f64],
 ) -> Booked
     requires { ⌜ old ≤ shape .points ⌝ }
-    ensures { λ r. ⌜ (let made = worked old (shape .points) (runOf session shape tolerance (now (times .entry)) (now (free .entry)) (now («self_energy» .entry)) (now («lesser_self_energy» .entry))
+    ensures { λ r. ⌜ (let made = worked old (shape .points) (runOf session desk shape tolerance (now (times .entry)) (now (free .entry)) (now («self_energy» .entry)) (now («lesser_self_energy» .entry))
         (now (retarded .entry)) (now (lesser .entry)) (now (kernel .entry)) (now («lesser_advanced» .entry))) (clearedNew (shape .capacity) (shape .orbitals) old (shape .points)) in
         (r .answer ≡ made .answer)
-        × (r .session ≡ booked session (made .answer))
+        × (r .session ≡ booked session desk (made .answer))
         × (now (retarded .exit) ≡ made .retarded)
         × (now (lesser .exit) ≡ made .lesser)
         × (now (kernel .exit) ≡ made .kernel)
@@ -184,6 +211,7 @@ fn solve(
     );
     let verdict = checks(
         session,
+        desk,
         times,
         free,
         self_energy,
@@ -212,10 +240,10 @@ fn solve(
                 lesser_advanced,
             ) {
                 let count = formed(old, shape.points);
-                let products = session.products + count;
+                let session = with_count(session, desk, count);
                 return Booked {
                     answer: Solved::Accepted(count),
-                    session: Session { products },
+                    session,
                 };
             }
             clear_new(shape, old, retarded);
@@ -235,6 +263,7 @@ fn solve(
 // throughout. N(N+1)(2N+1)/6 − N products of blocks for K and G^R and N·N·(N+1) − 2·N for X and G^<.
 pub fn transient_run(
     session: Session,
+    desk: usize,
     times: &[f64],
     free: &[f64],
     self_energy: &[f64],
@@ -246,10 +275,10 @@ pub fn transient_run(
     kernel: &mut [f64],
     lesser_advanced: &mut [f64],
 ) -> Booked
-    ensures { λ r. ⌜ (let made = transientRun (runOf session shape tolerance (now (times .entry)) (now (free .entry)) (now («self_energy» .entry)) (now («lesser_self_energy» .entry))
+    ensures { λ r. ⌜ (let made = transientRun (runOf session desk shape tolerance (now (times .entry)) (now (free .entry)) (now («self_energy» .entry)) (now («lesser_self_energy» .entry))
         (now (retarded .entry)) (now (lesser .entry)) (now (kernel .entry)) (now («lesser_advanced» .entry))) in
         (r .answer ≡ made .answer)
-        × (r .session ≡ booked session (made .answer))
+        × (r .session ≡ booked session desk (made .answer))
         × (now (retarded .exit) ≡ made .retarded)
         × (now (lesser .exit) ≡ made .lesser)
         × (now (kernel .exit) ≡ made .kernel)
@@ -257,6 +286,7 @@ pub fn transient_run(
 {
     let booked = solve(
         session,
+        desk,
         times,
         free,
         self_energy,
@@ -295,6 +325,7 @@ pub fn transient_run(
 // places, which stay. 10 leaves +0 at the new row and column. As many products as a run over one point more forms beyond a run over the points.
 pub fn append_point(
     session: Session,
+    desk: usize,
     times: &[f64],
     free: &[f64],
     self_energy: &[f64],
@@ -306,10 +337,10 @@ pub fn append_point(
     kernel: &mut [f64],
     lesser_advanced: &mut [f64],
 ) -> Booked
-    ensures { λ r. ⌜ (let made = appendPoint (runOf session shape tolerance (now (times .entry)) (now (free .entry)) (now («self_energy» .entry)) (now («lesser_self_energy» .entry))
+    ensures { λ r. ⌜ (let made = appendPoint (runOf session desk shape tolerance (now (times .entry)) (now (free .entry)) (now («self_energy» .entry)) (now («lesser_self_energy» .entry))
         (now (retarded .entry)) (now (lesser .entry)) (now (kernel .entry)) (now («lesser_advanced» .entry))) in
         (r .answer ≡ made .answer)
-        × (r .session ≡ booked session (made .answer))
+        × (r .session ≡ booked session desk (made .answer))
         × (now (retarded .exit) ≡ made .retarded)
         × (now (lesser .exit) ≡ made .lesser)
         × (now (kernel .exit) ≡ made .kernel)
@@ -324,6 +355,7 @@ pub fn append_point(
     };
     solve(
         session,
+        desk,
         times,
         free,
         self_energy,

@@ -6,7 +6,8 @@ use Rattle.transient_run.specs.declared.Solved.the-variants.{Accepted, Refused 
 use Rattle.transient_run.specs.Products.{countOf}
 use Rattle.transient_run.specs.Calls.{Run, isAccepted, booked, worked, transientRun, appendPoint}
 use Rattle.causality.specs.Statement.{SameTo}
-use Rattle.causality.specs.Counter.{room}
+use Rattle.causality.specs.Sessions.{Room}
+use Rattle.causality.specs.Counter.{room, books-both, room-for-both}
 use Rattle.causality.specs.History.{History, together}
 use Rattle.causality.specs.History.History.{ran, appended}
 use Rattle.causality.specs.Appends.{append-law}
@@ -27,31 +28,30 @@ module _ (r : Run) where
         lesserSelfEnergy = λ t u ht hu a b ha hb. refl;
       }
 
-  -- to p points they are a history, and the session has added their counts
+  -- to p points they are a history, and the desk's counter has moved by their counts
   record AcceptedTo (p : ℕ) (s : Step) : Type 0 where
     count : ℕ
     history : History (over r p) (s .outcome) count
-    session : s .session .products ≡ r .counter + count
-    fits : r .counter + count ≤ 0xffff_ffff_ffff_ffff
+    session : s .session ≡ booked (r .session) (r .desk) (Accepted count)
+    room : Room (r .session) (r .desk) count
 
   begins : (p : ℕ) (a : Solved) → transientRun (over r p) .answer ≡ a → isAccepted a ≡ true → AcceptedTo p (runStep (over r p))
-  unfolding isAccepted booked transientRun worked
-  begins p (Accepted k) e ok = record { count = k; history = ran (over r p) e; session = rw e; fits = room 0 p (over r p) e }
+  unfolding isAccepted transientRun worked
+  begins p (Accepted k) e ok = record { count = k; history = ran (over r p) e; session = rw e; room = room 0 p (over r p) e }
   begins p (NotSolved x) e ok = absurd (let z : _≡_ {A = ℕ} 0 1 = cc in omega arith)
 
   goes-on : (p : ℕ) (s : Step) → AcceptedTo p s → (a : Solved) → appendPoint (onto r p s) .answer ≡ a → isAccepted a ≡ true → AcceptedTo (suc p) (appendStep r p s)
-  unfolding isAccepted booked appendPoint worked
+  unfolding isAccepted appendPoint worked
   goes-on p s before (Accepted k) e ok =
-      let sum = before .session in
-      let space = room p (suc p) (onto r p s) e in
+      let longer : History (over r (suc p)) (appendPoint (onto r p s)) (before .count + k) =
+      appended (before .history) (onto r p s)
+      (record { points = refl; capacity = refl; inputs = λ j l. same-inputs p j s; retarded = refl; lesser = refl; kernel = refl; lesserAdvanced = refl })
+      e in
       record {
         count = before .count + k;
-        history =
-            appended (before .history) (onto r p s)
-            (record { points = refl; capacity = refl; inputs = λ j l. same-inputs p j s; retarded = refl; lesser = refl; kernel = refl; lesserAdvanced = refl })
-            e;
-        session = rw e (omega arith);
-        fits = omega arith;
+        history = longer;
+        session = rw (e, before .session) (books-both (r .session) (r .desk) (before .count) k);
+        room = room-for-both (r .session) (r .desk) (before .count) k (append-law longer .fits) (rw (before .session) at (room p (suc p) (onto r p s) e));
       }
   goes-on p s before (NotSolved x) e ok = absurd (let z : _≡_ {A = ℕ} 0 1 = cc in omega arith)
 
@@ -70,12 +70,10 @@ module _ (r : Run) where
   of-all p s e h =
       let law = append-law (h .history) in
       let number : h .count ≡ countOf (r .points) = law .counts ∙ ap (λ (n : ℕ). countOf n) e in
-      let sum = h .session in
-      let room = h .fits in
       record {
-        left = ap (λ (q : ℕ). transientRun (over r q)) (sym e) ∙ law .leaves (record { products = r .counter }) room ∙ ap (λ (n : ℕ). together n (s .outcome)) number;
-        session = omega arith;
-        fits = omega arith;
+        left = ap (λ (q : ℕ). transientRun (over r q)) (sym e) ∙ law .leaves (r .session) (r .desk) (h .room) ∙ ap (λ (n : ℕ). together n (s .outcome)) number;
+        session = h .session ∙ ap (λ (n : ℕ). booked (r .session) (r .desk) (Accepted n)) number;
+        room = rw number at (h .room);
       }
 
 whole : (first : ℕ) (r : Run) → isAccepted (runThenAppend first r .outcome .answer) ≡ true → AllPoints r (runThenAppend first r)
@@ -85,7 +83,7 @@ whole first r ok =
     let all : start + (r .points - start) ≡ r .points = omega arith in
     of-all r _ _ all (so-far r start (r .points - start) ok)
 
--- ---- one call after another, as the code makes them: from p points on, after calls that ended in o
+-- ---- one call after another, as the code makes them: from p points on, onto what calls left as o
 
 module _ (r : Run) (p : ℕ) (o : Step) where
   pub none-yet : o ≡ appends r p o (p - p)

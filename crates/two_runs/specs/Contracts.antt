@@ -17,12 +17,12 @@ pub record Step : Type 0 where
   pub outcome : Outcome
   pub session : Session
 
--- the call in a session, and the run in its own
-abbrev pub stepOf : Session → Outcome → Step
-stepOf session o = record { outcome = o; session = booked session (o .answer) }
+-- the call in a session, at a desk, and the run at its own
+abbrev pub stepOf : Session → ℕ → Outcome → Step
+stepOf session desk o = record { outcome = o; session = booked session desk (o .answer) }
 
 abbrev pub runStep : Run → Step
-runStep r = stepOf (record { products = r .counter }) (transientRun r)
+runStep r = stepOf (r .session) (r .desk) (transientRun r)
 
 -- what a call gave back, and its slices G^R, G^<, K and X
 abbrev pub stepIn : Booked → List Float → List Float → List Float → List Float → Step
@@ -36,7 +36,7 @@ pub record Answered : Type 0 where
   pub expectation : Observed
   pub flow : Observed
 
--- the answers of a run, given as r, that ended in s: an observable "is asked of a run when it is lent the lesser function as that run left it, with that
+-- the answers of a run, given as r, that left o: an observable "is asked of a run when it is lent the lesser function as that run left it, with that
 -- run's N and n", and its capacity
 abbrev pub answersOf : Run → Question → DenseMatrix → Step → Answered
 answersOf r q x s =

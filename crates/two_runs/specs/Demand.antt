@@ -1,5 +1,5 @@
 -- Demand 3 of two calls follows from the equations of their contracts. Assumes nothing.
-use Rattle.lists.specs.Prelude.{_≡_, ap, _∙_}
+use Rattle.lists.specs.Prelude.{_≡_, ap, _∙_, ℕ}
 use Rattle.matrix.specs.declared.DenseMatrix.{DenseMatrix}
 use Rattle.dyson.specs.Calls.{Solved}
 use Rattle.transient_run.specs.declared.Session.{Session}
@@ -12,10 +12,10 @@ use Rattle.two_runs.specs.Contracts.{Step, stepOf, runStep, Answered, an
 
 -- ---- a contract's equations, as one of records
 
-pub one-step : (session : Session) {s : Step} {p : Outcome}
-    → let o = s .outcome in (o .answer ≡ p .answer) × (s .session ≡ booked session (p .answer)) × (o .retarded ≡ p .retarded) × (o .lesser ≡ p .lesser) × (o .kernel ≡ p .kernel) × (o .lesserAdvanced ≡ p .lesserAdvanced)
-    → s ≡ stepOf session p
-one-step session h = λ i. record { outcome = record { answer = h .0 i; retarded = h .2 i; lesser = h .3 i; kernel = h .4 i; lesserAdvanced = h .5 i }; session = h .1 i }
+pub one-step : (session : Session) (desk : ℕ) {s : Step} {p : Outcome}
+    → let o = s .outcome in (o .answer ≡ p .answer) × (s .session ≡ booked session desk (p .answer)) × (o .retarded ≡ p .retarded) × (o .lesser ≡ p .lesser) × (o .kernel ≡ p .kernel) × (o .lesserAdvanced ≡ p .lesserAdvanced)
+    → s ≡ stepOf session desk p
+one-step session desk h = λ i. record { outcome = record { answer = h .0 i; retarded = h .2 i; lesser = h .3 i; kernel = h .4 i; lesserAdvanced = h .5 i }; session = h .1 i }
 
 pub one-solved : {s t : Solved} → (s .answer ≡ t .answer) × (s .retarded ≡ t .retarded) × (s .kernel ≡ t .kernel) → s ≡ t
 one-solved h = λ i. record { answer = h .0 i; retarded = h .1 i; kernel = h .2 i }
@@ -40,8 +40,10 @@ definition r r' q x x' =
           };
     }
 
-pub blind : {r r' : Run} {q : Question} {x x' : DenseMatrix} {a a' : Answered} → a ≡ runAnswers r q x → a' ≡ runAnswers r' q x' → Blind r r' q x x' a a'
-blind {r} {r'} {q} {x} {x'} e e' = rw (e, e') (definition r r' q x x')
+pub blind : {r r' : Run} {q : Question} {x x' : DenseMatrix} {a a' : Answered} → a ≡ runAnswers r q x → a' ≡ runAnswers r' q x'
+    → (a ≡ runAnswers r q x) × (a' ≡ runAnswers r' q x') × Blind r r' q x x' a a'
+blind {r} {r'} {q} {x} {x'} e e' = (e, e', rw (e, e') (definition r r' q x x'))
 
-pub dyson-blind : {r r' : Run} {s s' : Solved} → r .points ≡ r .capacity → r' .points ≡ r' .capacity → s ≡ dysonOf r → s' ≡ dysonOf r' → DysonDemanded r r' s s'
-dyson-blind {r} {r'} c c' e e' = rw (e, e') (dyson-demand r r' c c')
+pub dyson-blind : {r r' : Run} {s s' : Solved} → r .points ≡ r .capacity → r' .points ≡ r' .capacity → s ≡ dysonOf r → s' ≡ dysonOf r'
+    → (s ≡ dysonOf r) × (s' ≡ dysonOf r') × DysonDemanded r r' s s'
+dyson-blind {r} {r'} c c' e e' = (e, e', rw (e, e') (dyson-demand r r' c c'))

@@ -1,5 +1,5 @@
 // Demand 3 of the running code: what two calls of the solver leave, and what each observable answers of two runs, whatever data come later. And the law of
-// appends: what a run leaves with appends after it, and what they add to their session.
+// appends: what a run leaves with appends after it, and what they add to their desk's counter.
 ghost use Rattle.lists.specs.Prelude.{_≡_, true};
 ghost use Rattle.transient_run.specs.Calls.{runOf, isAccepted};
 ghost use Rattle.causality.specs.Statement.{DysonDemanded};
@@ -55,6 +55,7 @@ pub struct BothVerdicts {
 // A run, and each observable asked of it.
 pub fn run_and_ask(
     session: Session,
+    desk: usize,
     times: &[f64],
     free: &[f64],
     self_energy: &[f64],
@@ -69,10 +70,11 @@ pub fn run_and_ask(
     block: DenseMatrix,
 ) -> Answers
     ensures { λ r. ⌜ answersIn r (now (retarded .exit)) (now (lesser .exit)) (now (kernel .exit)) (now («lesser_advanced» .exit))
-        ≡ runAnswers (runOf session shape tolerance (now (times .entry)) (now (free .entry)) (now («self_energy» .entry)) (now («lesser_self_energy» .entry)) (now (retarded .entry)) (now (lesser .entry)) (now (kernel .entry)) (now («lesser_advanced» .entry))) question block ⌝ }
+        ≡ runAnswers (runOf session desk shape tolerance (now (times .entry)) (now (free .entry)) (now («self_energy» .entry)) (now («lesser_self_energy» .entry)) (now (retarded .entry)) (now (lesser .entry)) (now (kernel .entry)) (now («lesser_advanced» .entry))) question block ⌝ }
 {
     let run = transient_run(
         session,
+        desk,
         times,
         free,
         self_energy,
@@ -106,10 +108,11 @@ pub fn run_and_ask(
     }
 }
 
-// Two runs, each with its own session, times, operands, sizes and tolerance, and the same question asked of each; the second run's names end in 2. Where
-// both are accepted and agree up to k, they leave the same rows to k, and at a time up to k the observables answer the same.
+// Two runs, each with its own session, desk, times, operands, sizes and tolerance, and the same question asked of each; the second run's names end in 2.
+// Where both are accepted and agree up to k, they leave the same rows to k, and at a time up to k the observables answer the same.
 pub fn two_runs(
     session: Session,
+    desk: usize,
     times: &[f64],
     free: &[f64],
     self_energy: &[f64],
@@ -122,6 +125,7 @@ pub fn two_runs(
     lesser_advanced: &mut [f64],
     block: DenseMatrix,
     session2: Session,
+    desk2: usize,
     times2: &[f64],
     free2: &[f64],
     self_energy2: &[f64],
@@ -135,14 +139,15 @@ pub fn two_runs(
     block2: DenseMatrix,
     question: Question,
 ) -> BothRuns
-    ensures { λ r. ⌜ (let a = runOf session shape tolerance (now (times .entry)) (now (free .entry)) (now («self_energy» .entry)) (now («lesser_self_energy» .entry)) (now (retarded .entry)) (now (lesser .entry)) (now (kernel .entry)) (now («lesser_advanced» .entry)) in
-        let b = runOf session2 shape2 tolerance2 (now (times2 .entry)) (now (free2 .entry)) (now («self_energy2» .entry)) (now («lesser_self_energy2» .entry)) (now (retarded2 .entry)) (now (lesser2 .entry)) (now (kernel2 .entry)) (now («lesser_advanced2» .entry)) in
+    ensures { λ r. ⌜ (let a = runOf session desk shape tolerance (now (times .entry)) (now (free .entry)) (now («self_energy» .entry)) (now («lesser_self_energy» .entry)) (now (retarded .entry)) (now (lesser .entry)) (now (kernel .entry)) (now («lesser_advanced» .entry)) in
+        let b = runOf session2 desk2 shape2 tolerance2 (now (times2 .entry)) (now (free2 .entry)) (now («self_energy2» .entry)) (now («lesser_self_energy2» .entry)) (now (retarded2 .entry)) (now (lesser2 .entry)) (now (kernel2 .entry)) (now («lesser_advanced2» .entry)) in
         let x = answersIn (r .first) (now (retarded .exit)) (now (lesser .exit)) (now (kernel .exit)) (now («lesser_advanced» .exit)) in
         let y = answersIn (r .second) (now (retarded2 .exit)) (now (lesser2 .exit)) (now (kernel2 .exit)) (now («lesser_advanced2» .exit)) in
         (x ≡ runAnswers a question block) × (y ≡ runAnswers b question block2) × Blind a b question block block2 x y) ⌝ }
 {
     let first = run_and_ask(
         session,
+        desk,
         times,
         free,
         self_energy,
@@ -158,6 +163,7 @@ pub fn two_runs(
     );
     let second = run_and_ask(
         session2,
+        desk2,
         times2,
         free2,
         self_energy2,
@@ -174,10 +180,12 @@ pub fn two_runs(
     BothRuns { first, second }
 }
 
-// A run over the first points, or over all where there are no more, then one append after another up to all points, each lent the same operands; the first
-// refusal ends it and is the answer. Where every call is accepted, the slices hold what the run over all points leaves, and the session has added its count.
+// A run over the first points, or over all where there are no more, then one append after another up to all points, at one desk, each lent the same
+// operands; the first refusal ends it and is the answer. Where every call is accepted, the slices hold what the run over all points leaves, the desk's
+// counter has moved by its count, and the other desks' counters are as they were.
 pub fn run_then_append(
     session: Session,
+    desk: usize,
     times: &[f64],
     free: &[f64],
     self_energy: &[f64],
@@ -190,13 +198,14 @@ pub fn run_then_append(
     kernel: &mut [f64],
     lesser_advanced: &mut [f64],
 ) -> Booked
-    ensures { λ r. ⌜ (let run = runOf session shape tolerance (now (times .entry)) (now (free .entry)) (now («self_energy» .entry)) (now («lesser_self_energy» .entry)) (now (retarded .entry)) (now (lesser .entry)) (now (kernel .entry)) (now («lesser_advanced» .entry)) in
+    ensures { λ r. ⌜ (let run = runOf session desk shape tolerance (now (times .entry)) (now (free .entry)) (now («self_energy» .entry)) (now («lesser_self_energy» .entry)) (now (retarded .entry)) (now (lesser .entry)) (now (kernel .entry)) (now («lesser_advanced» .entry)) in
         let made = stepIn r (now (retarded .exit)) (now (lesser .exit)) (now (kernel .exit)) (now («lesser_advanced» .exit)) in
         (made ≡ runThenAppend first run) × (isAccepted (r .answer) ≡ true → AllPoints run made)) ⌝ }
 {
     let mut points = least(first, shape.points);
     let mut booked = transient_run(
         session,
+        desk,
         times,
         free,
         self_energy,
@@ -219,6 +228,7 @@ pub fn run_then_append(
         };
         booked = append_point(
             booked.session,
+            desk,
             times,
             free,
             self_energy,

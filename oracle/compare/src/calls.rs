@@ -3,7 +3,7 @@ use crate::inputs::{Call, Takes};
 use crate::mirrored;
 use crate::sides::{block_outcome, counted, filled, judged, ours, outcome, Outcome, LENT};
 use crate::source::Source;
-use here::{Lent, Shape};
+use here::{Booking, Lent, Shape};
 use judge::products;
 
 /// A function that is compared.
@@ -171,15 +171,16 @@ fn retarded_dyson_with_tolerance(call: &Call) -> Outcome {
     filled(answer, [retarded, kernel], theirs)
 }
 
-/// In a session: the counter counts as one number.
+/// At a desk: the counters count as eight numbers.
 fn transient_run(call: &Call) -> Outcome {
     let (points, orbitals, times, operands, tolerance) = (call.points, call.orbitals, &call.times, call.operands(), call.tolerance);
     let mut made: [Vec<f64>; 4] = lent(call.made());
-    let (before, count) = (call.counter.before(products(points)), products(points));
-    let (mut counter, out) = (before, made.each_mut().map(|xs| &mut xs[..]));
-    let answer = here::transient_run(&mut counter, Lent { times, operands, shape: Shape::of(points, orbitals), tolerance }, out);
+    let (before, count) = (call.desk.before(products(points)), products(points));
+    let (mut counters, out) = (before.counters, made.each_mut().map(|xs| &mut xs[..]));
+    let booking = Booking { counters: &mut counters, desk: before.desk };
+    let answer = here::transient_run(booking, Lent { times, operands, shape: Shape::of(points, orbitals), tolerance }, out);
     let (theirs, left) = judge::transient_run(points, orbitals, times, operands, tolerance, call.made()).booked(before, count);
-    filled(answer, made, theirs).and(&counted(counter, left))
+    filled(answer, made, theirs).and(&counted(&counters, &left))
 }
 
 fn particle_number(call: &Call) -> Outcome {

@@ -1,23 +1,25 @@
-//! Calls in a capacity, each by itself: the run and the append onto contents of any kind, in a session, and the observables, with faults that are drawn
-//! each by itself.
+//! Calls in a capacity, each by itself: the run and the append onto contents of any kind, at a desk, and the observables, with faults that are drawn each
+//! by itself.
 use crate::calls;
-use crate::inputs::{faults, wrapped, Counter, Takes, VAST};
-use crate::laid::Laid;
+use crate::inputs::{faults, wrapped, Takes, VAST};
+use crate::laid::{Laid, Left};
 use crate::sides::Outcome;
 use crate::source::{Source, NOT_FINITE};
 use crate::Job;
-use judge::{appended_products, products, Shape};
+use judge::{appended_products, products, Booking, Shape};
 
 const PART: &str = "capacities";
 
 /// A function in a capacity: its name, that of the function without one, and the call.
-type Function = (&'static str, &'static str, fn(&Laid) -> Outcome);
+pub type Function = (&'static str, &'static str, fn(&Laid) -> Outcome);
 
-const APPEND: &str = "append_point";
+pub const RUN: Function =
+    ("transient_run in a capacity", "transient_run", |laid| laid.run(laid.call.desk.before(products(laid.shape.points))).0);
+pub const APPEND: Function = ("append_point", "transient_run", append);
 
 const FUNCTIONS: [Function; 6] = [
-    ("transient_run in a capacity", "transient_run", |laid| laid.run(laid.call.counter.before(products(laid.shape.points))).0),
-    (APPEND, "transient_run", append),
+    RUN,
+    APPEND,
     ("density_matrix in a capacity", "density_matrix", Laid::density_matrix),
     ("particle_number in a capacity", "particle_number", Laid::particle_number),
     ("one_body_expectation in a capacity", "one_body_expectation", Laid::one_body_expectation),
@@ -26,10 +28,22 @@ const FUNCTIONS: [Function; 6] = [
 
 /// Counted under where its work stops.
 fn append(laid: &Laid) -> Outcome {
-    let (outcome, _, stage) = laid.append(laid.call.counter.before(appended_products(laid.shape.points)));
+    let (outcome, _, stage) = laid.append(laid.call.desk.before(appended_products(laid.shape.points)));
     match stage {
-        Some(stage) => outcome.under(format!("{APPEND}, {}", stage.join(", "))),
+        Some(stage) => outcome.under(format!("{}, {}", APPEND.0, stage.join(", "))),
         None => outcome,
+    }
+}
+
+impl Laid {
+    /// The run or the append, booked so, and the count of its products.
+    pub fn booked(&self, (name, ..): Function, booking: Booking) -> (Outcome, Left, u64) {
+        if name == APPEND.0 {
+            let (outcome, left, _) = self.append(booking);
+            return (outcome, left, appended_products(self.shape.points));
+        }
+        let (outcome, left) = self.run(booking);
+        (outcome, left, products(self.shape.points))
     }
 }
 
@@ -50,16 +64,16 @@ impl Source {
     }
 
     /// A call in a capacity that may have faults, and how many it has.
-    fn laid(&mut self, (name, base, _): Function) -> (Laid, usize) {
+    pub fn laid(&mut self, (name, base, _): Function) -> (Laid, usize) {
         let f = calls::function(base);
         let (mut call, count) = self.faulty_contents(f);
-        if name == APPEND && self.one_in(2) {
+        if name == APPEND.0 && self.one_in(2) {
             call.tolerance = self.tolerance();
         }
         let full = Shape { points: call.points, capacity: call.points + self.pick(&[0, 1, 1, 2, 5]), orbitals: call.orbitals };
         let (times, operands) = self.lent(&call, full);
-        let told = Shape { points: full.points - usize::from(name == APPEND), ..full };
-        let before = [(); 4].map(|()| match (f.made, name == APPEND) {
+        let told = Shape { points: full.points - usize::from(name == APPEND.0), ..full };
+        let before = [(); 4].map(|()| match (f.made, name == APPEND.0) {
             (0, _) => vec![],
             (_, false) => self.room(wrapped(full.capacity, full.orbitals)),
             (_, true) => self.contents(told),
@@ -114,30 +128,4 @@ pub fn jobs(calls: u64, seed: u64) -> Vec<Job> {
         })
     });
     jobs.into()
-}
-
-const SESSIONS: &str = "sessions";
-
-/// What a session's counter holds before a call, by turns.
-const COUNTERS: [(&str, fn(&mut Source) -> Counter); 5] = [
-    ("counter at 0", |_| Counter::Of(0)),
-    ("any counter", |source| Counter::Of(source.bits() >> source.below(64))),
-    ("just room", |_| Counter::Past(0)),
-    ("one product short", |_| Counter::Past(1)),
-    ("full counter", |_| Counter::Of(u64::MAX)),
-];
-
-/// The run and the append again, counted under what the counter holds.
-pub fn sessions(calls: u64, seed: u64) -> Vec<Job> {
-    let jobs = FUNCTIONS[..2].iter().map(|&function| {
-        let (name, _, compare) = function;
-        Job::of(SESSIONS, name, calls, move |index| {
-            let source = &mut Source::of(seed, [SESSIONS, name], index);
-            let (label, counter) = COUNTERS[index as usize % COUNTERS.len()];
-            let (mut laid, _) = source.laid(function);
-            laid.call.counter = counter(source);
-            compare(&laid).under(format!("{name}, {label}"))
-        })
-    });
-    jobs.collect()
 }

@@ -2,7 +2,7 @@
 use crate::block_inputs::{BlockCall, Numbers};
 use crate::blocks;
 use crate::calls::{self, Function};
-use crate::inputs::{Call, Counter};
+use crate::inputs::{Call, Desk};
 use crate::others::{is_consistent, norm};
 use crate::sides::Outcome;
 use crate::source::SPECIAL;
@@ -48,7 +48,7 @@ pub fn call_of(f: &Function, orbitals: usize, operands: Vec<Vec<f64>>) -> Call {
         hopping: [1.0, 0.0],
         charge: 1.0,
         observable: Numbers { rows: orbitals, columns: orbitals, numbers: vec![1.0; 2 * orbitals * orbitals] },
-        counter: Counter::Of(0),
+        desk: Desk::FIRST,
     }
 }
 

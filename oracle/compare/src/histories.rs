@@ -1,15 +1,16 @@
-//! Histories: a run in a capacity, then appends, each told the points that the call before left, all in one session. After each the four slices are those of
-//! the port's own run over all points, in bits, what stood beyond the points stands there still, and the counter is that of the run over all points. Then
-//! the observables, asked in the capacity.
+//! Histories: a run in a capacity, then appends, each told the points that the call before left, all in one session, at one desk or at several. After each
+//! the four slices are those of the port's own run over all points, in bits, what stood beyond the points stands there still, and the counters have more by
+//! the counts of their desks' calls, together as much as the run over all points. Then the observables, asked in the capacity.
 use crate::calls;
 use crate::inputs::{wrapped, Call, Counter};
-use crate::laid::{Laid, Left};
+use crate::laid::Laid;
 use crate::one_point;
-use crate::sides::Outcome;
+use crate::sessions::sum;
+use crate::sides::{counted, Outcome};
 use crate::source::Source;
 use crate::stages::{grown, STEPS};
 use crate::Job;
-use judge::{products, Refused, Shape, Slices};
+use judge::{appended_products, products, Booking, Counters, Refused, Shape, Slices, DESKS};
 
 const PART: &str = "histories";
 const LONG_PART: &str = "long histories";
@@ -18,11 +19,14 @@ const FUNCTION: &str = "append_point";
 const OBSERVABLES: [fn(&Laid) -> Outcome; 4] =
     [Laid::density_matrix, Laid::particle_number, Laid::one_body_expectation, Laid::bond_flow_into];
 
-/// What a history is made of: its inputs over all points, the points of its run, the capacity.
+/// What a history is made of: its inputs over all points, the points of its run, the capacity, the desks that its calls name by turns, and what the counters
+/// hold before the first.
 struct Plan {
     call: Call,
     first: usize,
     capacity: usize,
+    desks: Vec<usize>,
+    counters: Counters,
 }
 
 impl Plan {
@@ -43,22 +47,36 @@ impl Plan {
         OBSERVABLES.iter().fold(Outcome::of(Refused::by(0), 0, 0), |all, observe| all.and(&observe(&laid)))
     }
 
-    /// What stands in the slices and on the session's counter before the first call.
-    fn begun(&self, source: &mut Source) -> Left {
-        let slices = [(); 4].map(|()| source.room(wrapped(self.capacity, self.call.orbitals)));
-        Left { slices, counter: self.call.counter.before(products(self.call.points)) }
+    /// What stands in the slices before the first call.
+    fn begun(&self, source: &mut Source) -> Slices<4> {
+        [(); 4].map(|()| source.room(wrapped(self.capacity, self.call.orbitals)))
+    }
+
+    /// The desk of the append to so many points; the run is at the first.
+    fn desk(&self, points: usize) -> usize {
+        self.desks[(points + 1 - self.first) % self.desks.len()]
+    }
+
+    /// The counters after the run and the appends up to so many points, and the sum of what they have more.
+    fn booked(&self, points: usize, counters: &Counters) -> Outcome {
+        let mut due = self.counters;
+        due[self.desks[0]] += products(self.first);
+        (self.first..points).for_each(|old| due[self.desk(old)] += appended_products(old));
+        let more = sum(counters) == sum(&self.counters) + u128::from(products(points));
+        counted(counters, &due).and(&Outcome::of(Refused::by(0), 1, usize::from(!more)))
     }
 
     /// Up to the first call that is refused. The tolerance of each call is its own.
     fn compared(mut self, source: &mut Source) -> Outcome {
         let before = self.begun(source);
-        let (mut all, mut left) = self.lent(source, self.first, self.first, &before.slices).run(before.counter);
+        let booking = Booking { desk: self.desks[0], counters: self.counters };
+        let (mut all, mut left) = self.lent(source, self.first, self.first, &before).run(booking);
         let (ran, mut points, mut lesser) = (all.number == 0, self.first, left.slices[1].clone());
         while all.number == 0 && points < self.call.points {
             self.call.tolerance = source.tolerance();
             let laid = self.lent(source, points, points + 1, &left.slices);
-            let (appended, made, _) = laid.append(left.counter);
-            let whole = laid.whole(&appended, &made, &before);
+            let (appended, made, _) = laid.append(Booking { desk: self.desk(points), counters: left.counters });
+            let whole = laid.whole(&appended, &made.slices, &before);
             let listed = whole.listed.or(all.listed);
             all = Outcome { listed, ..appended.and(&whole).and(&all) };
             left = made;
@@ -72,24 +90,26 @@ impl Plan {
         }
         let appends = ["no append", "one append", "two appends", "three appends or more"][(points - self.first).min(3)];
         let label = if all.number == 0 { appends.into() } else { format!("refused {} after {appends}", all.number) };
-        all.and(&self.observed(source, points, &lesser)).under(label)
+        all.and(&self.booked(points, &left.counters)).and(&self.observed(source, points, &lesser)).under(label)
     }
 
     /// All the way, compared at the end alone.
     fn compared_at_the_end(self, source: &mut Source) -> Outcome {
         let before = self.begun(source);
-        let (mut answer, mut left) = self.lent(source, self.first, self.first, &before.slices).solved(here::transient_run, before.counter);
+        let booking = Booking { desk: self.desks[0], counters: self.counters };
+        let (mut answer, mut left) = self.lent(source, self.first, self.first, &before).solved(here::transient_run, booking);
         let mut last = None;
         for points in self.first..self.call.points {
             assert_eq!(answer.number, 0, "a history of ordinary numbers");
             let laid = self.lent(source, points, points + 1, &left.slices);
-            (answer, left) = laid.solved(here::append_point, left.counter);
+            (answer, left) = laid.solved(here::append_point, Booking { desk: self.desk(points), counters: left.counters });
             last = Some(laid);
         }
         let accepted = Outcome::of(Refused::by(answer.number), 0, 0);
-        let whole = last.expect("an append").whole(&accepted, &left, &before);
+        let whole = last.expect("an append").whole(&accepted, &left.slices, &before);
         let observed = self.observed(source, self.call.points, &left.slices[1]);
-        whole.and(&observed).under(format!("to {} points of {} orbitals", self.call.points, self.call.orbitals))
+        let all = whole.and(&self.booked(self.call.points, &left.counters)).and(&observed);
+        all.under(format!("to {} points of {} orbitals", self.call.points, self.call.orbitals))
     }
 }
 
@@ -111,13 +131,22 @@ impl Source {
         if self.one_in(3) {
             self.grow(&mut call, first);
         }
-        call.counter = if self.one_in(6) { self.filled_on_the_way(call.points) } else { self.counter() };
-        Plan { first, capacity: call.points + self.pick(&[0, 0, 1, 2, 4]), call }
+        let (desks, counters) = self.desks(call.points);
+        Plan { first, capacity: call.points + self.pick(&[0, 0, 1, 2, 4]), call, desks, counters }
     }
 
-    /// A counter without room for all points.
-    fn filled_on_the_way(&mut self, points: usize) -> Counter {
-        Counter::Past(1 + self.below(products(points) as usize) as i64)
+    /// One to three desks, and the counters. Those of the desks have room for so many points, but one in six times one of them has not.
+    fn desks(&mut self, points: usize) -> (Vec<usize>, Counters) {
+        let desks: Vec<usize> = (0..1 + self.below(3)).map(|_| self.below(DESKS)).collect();
+        let mut counters = self.counters();
+        for &desk in &desks {
+            counters[desk] = self.counter().before(products(points));
+        }
+        if self.one_in(6) {
+            let short = Counter::Past(1 + self.below(products(points) as usize) as i64);
+            counters[self.pick(&desks)] = short.before(products(points));
+        }
+        (desks, counters)
     }
 
     /// Makes numbers large in some operands, at places whose larger index is late.
@@ -156,11 +185,12 @@ pub fn long(seed: u64) -> Vec<Job> {
         let (points, orbitals) = LONG[index as usize];
         let times = source.times_of_step(points, 0.1);
         let mut call = source.plain_call(calls::function("transient_run"), (points, orbitals), times);
-        (call.tolerance, call.counter) = (1e-12, source.counter());
+        call.tolerance = 1e-12;
         // Larger numbers overflow on so many points.
         call.operands.iter_mut().for_each(|xs| xs.iter_mut().for_each(|x| *x /= (points * orbitals) as f64));
         let capacity = if points < 256 { points + 3 } else { points };
-        Plan { call, first: 2, capacity }.compared_at_the_end(source)
+        let (desks, counters) = (vec![7, 0, 3], [(); DESKS].map(|()| source.counter().before(products(points))));
+        Plan { call, first: 2, capacity, desks, counters }.compared_at_the_end(source)
     };
     vec![Job::of(LONG_PART, FUNCTION, LONG.len() as u64, call)]
 }

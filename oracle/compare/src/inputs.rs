@@ -2,6 +2,7 @@
 use crate::block_inputs::Numbers;
 use crate::calls::Function;
 use crate::source::{Palette, Source, NOT_FINITE};
+use judge::{Booking, Counters, DESKS};
 
 /// What a function may take besides its operands.
 #[derive(Clone, Copy, PartialEq)]
@@ -15,7 +16,7 @@ pub enum Takes {
     Session,
 }
 
-/// What a session's counter holds before a call.
+/// What a desk's counter holds before a call.
 #[derive(Clone, Copy)]
 pub enum Counter {
     Of(u64),
@@ -30,6 +31,26 @@ impl Counter {
             Self::Of(counter) => counter,
             Self::Past(past) => (u64::MAX - count).saturating_add_signed(past),
         }
+    }
+}
+
+/// The desk that a call names, what its counter holds before, and what the others' hold.
+#[derive(Clone, Copy)]
+pub struct Desk {
+    pub number: usize,
+    pub counter: Counter,
+    pub others: Counters,
+}
+
+impl Desk {
+    /// Desk 0 of a session that is opened at zeros.
+    pub const FIRST: Self = Self { number: 0, counter: Counter::Of(0), others: [0; DESKS] };
+
+    /// Before a call of so many products. The counter of a desk that there is not stands where the number's last bits say.
+    pub fn before(self, count: u64) -> Booking {
+        let mut counters = self.others;
+        counters[self.number % DESKS] = self.counter.before(count);
+        Booking { desk: self.number, counters }
     }
 }
 
@@ -48,7 +69,7 @@ pub struct Call {
     pub hopping: [f64; 2],
     pub charge: f64,
     pub observable: Numbers,
-    pub counter: Counter,
+    pub desk: Desk,
 }
 
 /// The length of a function, where the product wraps as the machine's does.
@@ -102,13 +123,14 @@ enum Fault {
     Factor,
     Shape,
     Counter,
+    Desk,
     Points,
     Orbitals,
     Length,
 }
 
 /// Faults, and what a function takes that can have them. The last three are of sizes and lengths.
-const FAULTS: [(Fault, Option<Takes>); 11] = [
+const FAULTS: [(Fault, Option<Takes>); 12] = [
     (Fault::Times, Some(Takes::Times)),
     (Fault::Entry, None),
     (Fault::Tolerance, Some(Takes::Tolerance)),
@@ -117,6 +139,7 @@ const FAULTS: [(Fault, Option<Takes>); 11] = [
     (Fault::Factor, Some(Takes::Bond)),
     (Fault::Shape, Some(Takes::Observable)),
     (Fault::Counter, Some(Takes::Session)),
+    (Fault::Desk, Some(Takes::Session)),
     (Fault::Points, None),
     (Fault::Orbitals, None),
     (Fault::Length, None),
@@ -170,10 +193,35 @@ impl Source {
         let palette = self.mostly(palette);
         let mut call = self.call(f, sizes, times, operands, palette);
         if f.takes(Takes::Session) {
-            call.counter = self.counter();
+            call.desk = self.desk();
         }
         (f.arrange)(self, &mut call);
         call
+    }
+
+    /// One of the eight desks, with room for the call.
+    pub fn desk(&mut self) -> Desk {
+        Desk { number: self.below(DESKS), counter: self.counter(), others: self.counters() }
+    }
+
+    /// A number that no desk has: the next ones, those whose last bits or whose narrower word is a desk's, and the last.
+    pub fn no_desk(&mut self) -> usize {
+        let desk = self.below(DESKS);
+        self.pick(&[DESKS, DESKS + desk, 256 + desk, (1 << 32) + desk, (1 << 63) + desk, usize::MAX - desk])
+    }
+
+    /// Counters that hold nothing, that are full, or each of these or near its end or anything.
+    pub fn counters(&mut self) -> Counters {
+        match self.below(3) {
+            0 => [0; DESKS],
+            1 => [u64::MAX; DESKS],
+            _ => [(); DESKS].map(|()| match self.below(4) {
+                0 => 0,
+                1 => u64::MAX,
+                2 => u64::MAX - self.below(1000) as u64,
+                _ => self.bits(),
+            }),
+        }
     }
 
     /// Nothing, anything, or as much as leaves just room for the call.
@@ -220,7 +268,7 @@ impl Source {
             hopping: [self.any(), self.any()],
             charge: self.any(),
             observable: self.block_numbers([orbitals; 2], observable),
-            counter: Counter::Of(0),
+            desk: Desk::FIRST,
         }
     }
 
@@ -264,7 +312,8 @@ impl Source {
                 *[re, im, &mut call.charge][self.below(3)] = self.pick(&NOT_FINITE);
             }
             Fault::Shape => self.damage_shape(&mut call.observable),
-            Fault::Counter => call.counter = self.full_counter(),
+            Fault::Counter => call.desk.counter = self.full_counter(),
+            Fault::Desk => call.desk.number = self.no_desk(),
             Fault::Points => {
                 call.points = self.pick(&[&[0, 1, 257], &VAST[..]].concat());
                 self.follow(f, call);

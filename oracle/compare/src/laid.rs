@@ -1,9 +1,9 @@
 //! What a call is lent in slices laid out for a capacity of points. What stands beyond the points is room: numbers of any kind, which no call asks, and
 //! which stay.
 use crate::inputs::{wrapped, Call};
-use crate::sides::{block_outcome, counted, held, judged, ours, outcome, Outcome};
+use crate::sides::{block_outcome, held, judged, ours, outcome, Outcome};
 use crate::source::Source;
-use judge::{Held, Shape, Slices};
+use judge::{Booking, Counters, Held, Shape, Slices};
 
 #[derive(Clone)]
 pub struct Laid {
@@ -55,13 +55,13 @@ fn ours_of(shape: Shape) -> here::Shape {
     here::Shape { points: shape.points, capacity: shape.capacity, orbitals: shape.orbitals }
 }
 
-pub type Ours = fn(&mut u64, here::Lent, [&mut [f64]; 4]) -> here::Answer;
-type Theirs = fn(u64, Shape, &[f64], [&[f64]; 3], f64, [&[f64]; 4]) -> Held;
+pub type Ours = fn(here::Booking, here::Lent, [&mut [f64]; 4]) -> here::Answer;
+type Theirs = fn(Booking, Shape, &[f64], [&[f64]; 3], f64, [&[f64]; 4]) -> Held;
 
-/// What the slices for G^R, G^<, K and X hold after a call, and the session's counter.
+/// What the slices for G^R, G^<, K and X hold after a call, and the session's counters.
 pub struct Left {
     pub slices: Slices<4>,
-    pub counter: u64,
+    pub counters: Counters,
 }
 
 impl Laid {
@@ -69,46 +69,49 @@ impl Laid {
         std::array::from_fn(|operand| &self.operands[operand][..])
     }
 
-    /// The answer of a call here in a session with this on its counter, and what is left.
-    pub fn solved(&self, solve: Ours, mut counter: u64) -> (here::Answer, Left) {
+    /// The answer of a call here that is booked so, and what is left.
+    pub fn solved(&self, solve: Ours, Booking { desk, mut counters }: Booking) -> (here::Answer, Left) {
         let mut slices = self.before.clone();
         let lent = here::Lent { times: &self.times, operands: self.operands(), shape: ours_of(self.shape), tolerance: self.call.tolerance };
-        let answer = solve(&mut counter, lent, slices.each_mut().map(|xs| &mut xs[..]));
-        (answer, Left { slices, counter })
+        let booking = here::Booking { counters: &mut counters, desk };
+        let answer = solve(booking, lent, slices.each_mut().map(|xs| &mut xs[..]));
+        (answer, Left { slices, counters })
     }
 
     /// The same of the judge, begun on these slices.
-    fn judged(&self, solve: Theirs, counter: u64, before: &Slices<4>) -> Held {
-        solve(counter, self.shape, &self.times, self.operands(), self.call.tolerance, before.each_ref().map(|xs| &xs[..]))
+    fn judged(&self, solve: Theirs, booking: Booking, before: &Slices<4>) -> Held {
+        solve(booking, self.shape, &self.times, self.operands(), self.call.tolerance, before.each_ref().map(|xs| &xs[..]))
     }
 
-    pub fn run(&self, counter: u64) -> (Outcome, Left) {
-        let (answer, left) = self.solved(here::transient_run, counter);
-        (held(answer, &left.slices, left.counter, &self.judged(judge::transient_run_in_capacity, counter, &self.before)), left)
+    pub fn run(&self, booking: Booking) -> (Outcome, Left) {
+        let (answer, left) = self.solved(here::transient_run, booking);
+        (held(answer, &left.slices, &left.counters, &self.judged(judge::transient_run_in_capacity, booking, &self.before)), left)
     }
 
     /// An append beside the port's operations on blocks, and where its work stops.
-    pub fn append(&self, counter: u64) -> (Outcome, Left, Option<judge::stages::Stage>) {
-        let (answer, left) = self.solved(here::append_point, counter);
-        let theirs = self.judged(judge::append_point, counter, &self.before);
-        (held(answer, &left.slices, left.counter, &theirs), left, theirs.stage)
+    pub fn append(&self, booking: Booking) -> (Outcome, Left, Option<judge::stages::Stage>) {
+        let (answer, left) = self.solved(here::append_point, booking);
+        let theirs = self.judged(judge::append_point, booking, &self.before);
+        (held(answer, &left.slices, &left.counters, &theirs), left, theirs.stage)
     }
 
-    /// What an append leaves beside the port's run over all points, begun on the slices and the counter before the first call of the history. Of a
-    /// refused append the answer alone is compared.
-    pub fn whole(&self, appended: &Outcome, left: &Left, before: &Left) -> Outcome {
+    /// What an append leaves in its slices beside the port's run over all points, begun on the slices before the first call of the history. Of a refused
+    /// append the answer alone is compared; 17 is of the append's desk, and the run over all points is not asked it.
+    pub fn whole(&self, appended: &Outcome, slices: &Slices<4>, before: &Slices<4>) -> Outcome {
+        if appended.number == 17 {
+            return Outcome::of(judge::Refused::by(17), 0, 0);
+        }
         let shape = Shape { points: self.shape.points + 1, ..self.shape };
-        let theirs = Self { shape, ..self.clone() }.judged(judge::transient_run_in_capacity, before.counter, &before.slices);
+        let theirs = Self { shape, ..self.clone() }.judged(judge::transient_run_in_capacity, Booking::FIRST, before);
         let number = theirs.judged.answer.map_or_else(|refused| refused.number, |_| 0);
         let (listed, agrees) = (theirs.judged.listed, theirs.judged.agrees);
         let differs = usize::from(number != appended.number) + usize::from(!agrees);
         if number != 0 {
             return Outcome { listed, ..Outcome::of(judge::Refused::by(number), 1, differs) };
         }
-        let pairs = || left.slices.iter().flatten().zip(theirs.slices.iter().flatten());
+        let pairs = || slices.iter().flatten().zip(theirs.slices.iter().flatten());
         let unequal = pairs().filter(|(x, y)| x.to_bits() != y.to_bits()).count();
-        let whole = Outcome { listed, ..Outcome::of(judge::Refused::by(0), pairs().count(), unequal + differs) };
-        whole.and(&counted(left.counter, theirs.counter))
+        Outcome { listed, ..Outcome::of(judge::Refused::by(0), pairs().count(), unequal + differs) }
     }
 
     pub fn density_matrix(&self) -> Outcome {

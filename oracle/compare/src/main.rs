@@ -15,6 +15,7 @@ mod observed;
 mod one_point;
 mod others;
 mod random;
+mod sessions;
 mod sides;
 mod smallest;
 mod source;
@@ -61,7 +62,7 @@ fn jobs(calls: u64, seed: u64) -> Vec<Job> {
         written::jobs(seed),
         histories::jobs(calls / 2, seed),
         capacities::jobs(calls, seed),
-        capacities::sessions(calls / 4, seed),
+        sessions::jobs(calls / 4, seed),
         random::jobs(calls, seed),
     ];
     parts.into_iter().flatten().collect()

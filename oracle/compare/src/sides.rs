@@ -1,5 +1,5 @@
 //! What is compared of the two sides of a call.
-use judge::{Held, Judged, Listed, Refused, Slices};
+use judge::{Counters, Held, Judged, Listed, Refused, Slices, DESKS};
 
 /// What lent slices hold before a call.
 pub const LENT: f64 = -7.25;
@@ -81,19 +81,19 @@ pub fn filled<const COUNT: usize>(answer: here::Answer, lent: Slices<COUNT>, por
     judged(Err(answer), port, made).and(&Outcome::of(Refused::by(0), lent.iter().flatten().count(), left))
 }
 
-/// A session's counter, and the judge's.
-pub fn counted(counter: u64, theirs: u64) -> Outcome {
-    Outcome::of(Refused::by(0), 1, usize::from(counter != theirs))
+/// A session's counters, and those that they are to be.
+pub fn counted(counters: &Counters, due: &Counters) -> Outcome {
+    Outcome::of(Refused::by(0), DESKS, counters.iter().zip(due).filter(|(x, y)| x != y).count())
 }
 
 /// The same of a call in a session whose slices are to hold what the judge has them hold, in all bits: what is not made is left, a NaN's bits too.
-pub fn held(answer: here::Answer, slices: &Slices<4>, counter: u64, judged_by: &Held) -> Outcome {
+pub fn held(answer: here::Answer, slices: &Slices<4>, counters: &Counters, judged_by: &Held) -> Outcome {
     let here = if answer.number == 0 { Ok(0) } else { Err(answer) };
     let (ours, theirs) = (slices.iter().flatten(), judged_by.slices.iter().flatten());
     assert_eq!(ours.clone().count(), theirs.clone().count());
     let unequal = ours.clone().zip(theirs).filter(|(x, y)| x.to_bits() != y.to_bits()).count();
     let answered = judged(here, judged_by.judged.clone(), |_| vec![]);
-    answered.and(&counted(counter, judged_by.counter)).and(&Outcome::of(Refused::by(0), ours.count(), unequal))
+    answered.and(&counted(counters, &judged_by.counters)).and(&Outcome::of(Refused::by(0), ours.count(), unequal))
 }
 
 /// A decision as a number.

@@ -6,7 +6,7 @@ use crate::sides::{self, ours, same, Outcome, LENT};
 use crate::source::Source;
 use crate::Job;
 use here::{Lent, Shape};
-use judge::{Judged, Refused};
+use judge::{Judged, Refused, DESKS};
 
 const PART: &str = "written";
 
@@ -35,12 +35,12 @@ fn expected(length: usize, held: f64, written: Option<&[f64]>) -> Vec<f64> {
 }
 
 /// The slices `made` are those that line 3 asks: what each held, and what it holds after the call if all have their lengths. If one has not,
-/// the answer is 3, unless it is 1 or 2, and all are as they were. Then come places and part, which a refusal writes.
+/// the answer is 3, unless it is 22, 1 or 2, and all are as they were. Then come places and part, which a refusal writes.
 fn outcome<T>(number: u8, held: Held, made: Vec<(f64, Vec<f64>)>, theirs: impl Into<Judged<T>>) -> Outcome {
     let theirs = theirs.into();
     let (refused, listed) = (theirs.answer.err(), theirs.listed);
     let fits = made.iter().zip(&held).all(|((_, written), slice)| written.len() == slice.len());
-    let earlier = refused.is_some_and(|x| x.number == 1 || x.number == 2);
+    let earlier = refused.is_some_and(|x| matches!(x.number, 22 | 1 | 2));
     let refused = if fits || earlier { refused } else { Some(Refused::by(3)) };
     let refused_by = refused.unwrap_or(Refused::by(0));
     let places = refused.map(|x| numbers(&[x.operand, x.first, x.second]));
@@ -131,13 +131,13 @@ fn is_consistent(index: u64) -> Outcome {
     outcome(number, vec![decided, numbers(&places), part], vec![(PLACE as f64, written)], theirs)
 }
 
-/// A call in a session, whose counter is a slice of one: the points that it is told of a call's, how many products it forms, and both sides.
+/// A call at a desk, whose session's counters are a slice of eight: the points that it is told of a call's, how many products it forms, and both sides.
 struct Booked {
     name: &'static str,
     told: fn(usize) -> usize,
     products: fn(usize) -> u64,
-    ours: fn(&mut [u64], Lent, [&mut [f64]; 4], &mut [usize], &mut [f64]) -> u8,
-    theirs: fn(u64, judge::Shape, &[f64], [&[f64]; 3], f64, [&[f64]; 4]) -> judge::Held,
+    ours: fn(here::Booking, Lent, [&mut [f64]; 4], &mut [usize], &mut [f64]) -> u8,
+    theirs: fn(judge::Booking, judge::Shape, &[f64], [&[f64]; 3], f64, [&[f64]; 4]) -> judge::Held,
 }
 
 const RUN: Booked = Booked {
@@ -156,24 +156,26 @@ const APPEND: Booked = Booked {
     theirs: judge::append_point,
 };
 
-/// Line 3 asks the counter's length alone; what it holds is compared beside the numbers, a whole word.
+/// Line 3 asks the counters' length alone; what they hold is compared beside the numbers, a whole word each.
 fn in_session(seed: u64, x: Booked, index: u64) -> Outcome {
     let (mut lengths, f) = (Lengths(index), calls::function("transient_run"));
-    let (length, (mut places, mut part)) = (lengths.next(1), lengths.places_and_part());
+    let (length, (mut places, mut part)) = (lengths.next(DESKS), lengths.places_and_part());
     let (call, _) = Source::of(seed, [PART, x.name], index).faulty_call(f);
     let (points, capacity, orbitals) = ((x.told)(call.points), call.points, call.orbitals);
-    let (before, held) = (call.counter.before((x.products)(points)), call.made::<4>().map(|length| vec![LENT; length]));
-    let (mut counter, mut made) = (vec![before; length], held.clone());
+    let (before, held) = (call.desk.before((x.products)(points)), call.made::<4>().map(|length| vec![LENT; length]));
+    let passed: Vec<u64> = before.counters.into_iter().cycle().take(length).collect();
+    let (mut counters, mut made) = (passed.clone(), held.clone());
     let lent =
         Lent { times: &call.times, operands: call.operands(), shape: Shape { points, capacity, orbitals }, tolerance: call.tolerance };
-    let number = (x.ours)(&mut counter, lent, made.each_mut().map(|xs| &mut xs[..]), &mut places, &mut part);
+    let booking = here::Booking { counters: &mut counters, desk: before.desk };
+    let number = (x.ours)(booking, lent, made.each_mut().map(|xs| &mut xs[..]), &mut places, &mut part);
     let shape = judge::Shape { points, capacity, orbitals };
     let theirs = (x.theirs)(before, shape, &call.times, call.operands(), call.tolerance, held.each_ref().map(|xs| &xs[..]));
-    let due = if length == 1 { theirs.counter } else { before };
-    let unequal = counter.iter().filter(|x| **x != due).count();
+    let due = if length == DESKS { theirs.counters.to_vec() } else { passed };
+    let unequal = counters.iter().zip(&due).filter(|(x, y)| x != y).count();
     let written = theirs.slices.into_iter().map(|xs| (LENT, xs));
     let slices = [vec![vec![0.0; length]], made.into(), vec![numbers(&places), part]].concat();
-    let outcome = outcome(number, slices, [(0.0, vec![0.0])].into_iter().chain(written).collect(), theirs.judged);
+    let outcome = outcome(number, slices, [(0.0, vec![0.0; DESKS])].into_iter().chain(written).collect(), theirs.judged);
     outcome.and(&Outcome::of(Refused::by(0), length, unequal))
 }
 

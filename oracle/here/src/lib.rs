@@ -79,8 +79,9 @@ type Convolution = unsafe extern "C" fn(
 ) -> u8;
 
 type Solve = unsafe extern "C" fn(
-    counter: *mut u64,
-    counter_len: usize,
+    counters: *mut u64,
+    counters_len: usize,
+    desk: usize,
     times: *const f64,
     times_len: usize,
     free: *const f64,
@@ -177,8 +178,9 @@ mod exported {
         ) -> u8;
 
         pub fn leechgrommet_transient_run(
-            counter: *mut u64,
-            counter_len: usize,
+            counters: *mut u64,
+            counters_len: usize,
+            desk: usize,
             times: *const f64,
             times_len: usize,
             free: *const f64,
@@ -206,8 +208,9 @@ mod exported {
         ) -> u8;
 
         pub fn leechgrommet_append_point(
-            counter: *mut u64,
-            counter_len: usize,
+            counters: *mut u64,
+            counters_len: usize,
+            desk: usize,
             times: *const f64,
             times_len: usize,
             free: *const f64,
@@ -325,9 +328,15 @@ pub struct Lent<'a> {
     pub tolerance: f64,
 }
 
+/// The counters of a session, desk 0's first, and the desk that a call names.
+pub struct Booking<'a> {
+    pub counters: &'a mut [u64],
+    pub desk: usize,
+}
+
 fn solve(
     call: Solve,
-    counter: &mut [u64],
+    Booking { counters, desk }: Booking,
     Lent { times, operands: [free, self_energy, lesser_self_energy], shape, tolerance }: Lent,
     [retarded, lesser, kernel, lesser_advanced]: [&mut [f64]; 4],
     places: &mut [usize],
@@ -335,8 +344,9 @@ fn solve(
 ) -> u8 {
     unsafe {
         call(
-            counter.as_mut_ptr(),
-            counter.len(),
+            counters.as_mut_ptr(),
+            counters.len(),
+            desk,
             times.as_ptr(),
             times.len(),
             free.as_ptr(),
@@ -365,23 +375,23 @@ fn solve(
     }
 }
 
-/// G^R and G^<, and K and X in the scratch, in a session with this on its counter.
-pub fn transient_run(counter: &mut u64, lent: Lent, made: [&mut [f64]; 4]) -> Answer {
-    answer(|places, part| transient_run_written(std::slice::from_mut(counter), lent, made, places, part))
+/// G^R and G^<, and K and X in the scratch.
+pub fn transient_run(booking: Booking, lent: Lent, made: [&mut [f64]; 4]) -> Answer {
+    answer(|places, part| transient_run_written(booking, lent, made, places, part))
 }
 
 /// The same four, with the new row and column of one point more than the shape tells.
-pub fn append_point(counter: &mut u64, lent: Lent, made: [&mut [f64]; 4]) -> Answer {
-    answer(|places, part| append_point_written(std::slice::from_mut(counter), lent, made, places, part))
+pub fn append_point(booking: Booking, lent: Lent, made: [&mut [f64]; 4]) -> Answer {
+    answer(|places, part| append_point_written(booking, lent, made, places, part))
 }
 
-/// The same with slices for the counter, places and part that may have other lengths.
-pub fn transient_run_written(counter: &mut [u64], lent: Lent, made: [&mut [f64]; 4], places: &mut [usize], part: &mut [f64]) -> u8 {
-    solve(exported::leechgrommet_transient_run, counter, lent, made, places, part)
+/// The same with slices for places and part that may have other lengths.
+pub fn transient_run_written(booking: Booking, lent: Lent, made: [&mut [f64]; 4], places: &mut [usize], part: &mut [f64]) -> u8 {
+    solve(exported::leechgrommet_transient_run, booking, lent, made, places, part)
 }
 
-pub fn append_point_written(counter: &mut [u64], lent: Lent, made: [&mut [f64]; 4], places: &mut [usize], part: &mut [f64]) -> u8 {
-    solve(exported::leechgrommet_append_point, counter, lent, made, places, part)
+pub fn append_point_written(booking: Booking, lent: Lent, made: [&mut [f64]; 4], places: &mut [usize], part: &mut [f64]) -> u8 {
+    solve(exported::leechgrommet_append_point, booking, lent, made, places, part)
 }
 
 /// The numbers that the call writes, or the refusal: after 10 they are +0, after another number as they were.
@@ -411,7 +421,7 @@ fn decided(call: impl FnOnce(&mut [u8; 1], &mut [usize; 3], &mut [f64; 1]) -> u8
 #[cfg(test)]
 mod tests {
     use super::{append_point, causal_volterra_convolution, check_retarded_support, particle_number};
-    use super::{retarded_dyson_with_tolerance, transient_run, Answer, Lent, Shape};
+    use super::{retarded_dyson_with_tolerance, transient_run, Answer, Booking, Lent, Shape};
 
     const ACCEPTED: Answer = Answer::ACCEPTED;
 
@@ -460,16 +470,16 @@ mod tests {
     fn transient() {
         let (times, step, shape) = ([0.0, 1.0], [1.0, 0.0, 0.0, 0.0, 1.0, 0.0, 1.0, 0.0], Shape::of(2, 1));
         let mut made = [[5.0; 8], [6.0; 8], [7.0; 8], [8.0; 8]];
-        let mut counter = 0;
+        let mut counters = [0; 8];
         let mut run = |lesser_self_energy: &[f64]| {
             let lent = Lent { times: &times, operands: [&step, &step, lesser_self_energy], shape, tolerance: 0.5 };
-            transient_run(&mut counter, lent, made.each_mut().map(|xs| &mut xs[..]))
+            transient_run(Booking { counters: &mut counters, desk: 2 }, lent, made.each_mut().map(|xs| &mut xs[..]))
         };
         let mut lesser_self_energy = [0.0, 1.0, 0.0, 1.0, 0.0, 1.0, 0.0, f64::NAN];
         assert_eq!(run(&lesser_self_energy), Answer { number: 7, operand: 2, first: 7, ..ACCEPTED });
         lesser_self_energy[7] = 1.0;
         assert_eq!(run(&lesser_self_energy), ACCEPTED);
-        assert_eq!(counter, 11);
+        assert_eq!(counters, [0, 0, 11, 0, 0, 0, 0, 0]);
         let [retarded, lesser, kernel, lesser_advanced] = made;
         assert_eq!(kernel, [0.0, 0.0, 0.0, 0.0, 1.0, 0.0, 0.0, 0.0]);
         assert_eq!(retarded, [1.0, 0.0, 0.0, 0.0, 1.5, 0.0, 1.0, 0.0]);
@@ -487,17 +497,20 @@ mod tests {
         let lesser_self_energy: [f64; 18] = std::array::from_fn(|at| (at % 2) as f64);
         let mut made = [[5.0; 18]; 4];
         let lent = Lent { times: &times, operands: [&step, &step, &lesser_self_energy], shape, tolerance: 0.5 };
-        let mut call = |counter: &mut u64, append: bool| {
+        let mut call = |counters: &mut [u64], desk: usize, append: bool| {
             let made = made.each_mut().map(|xs| &mut xs[..]);
             let solve = if append { append_point } else { transient_run };
-            solve(counter, lent, made)
+            solve(Booking { counters, desk }, lent, made)
         };
-        let mut counter = u64::MAX - 41;
-        assert_eq!(call(&mut counter, false), ACCEPTED);
-        assert_eq!(call(&mut counter, true), ACCEPTED);
-        assert_eq!(counter, u64::MAX);
-        assert_eq!(call(&mut counter, true), Answer { number: 17, ..ACCEPTED });
-        assert_eq!(counter, u64::MAX);
+        let (mut counters, filled) = ([0, 0, 0, u64::MAX - 41, u64::MAX, 0, 0, 0], [0, 0, 0, u64::MAX, u64::MAX, 0, 0, 0]);
+        assert_eq!(call(&mut counters, 3, false), ACCEPTED);
+        assert_eq!(call(&mut counters, 3, true), ACCEPTED);
+        assert_eq!(counters, filled);
+        assert_eq!(call(&mut counters, 3, true), Answer { number: 17, ..ACCEPTED });
+        assert_eq!(call(&mut counters, 8, true), Answer { number: 22, ..ACCEPTED });
+        assert_eq!(call(&mut counters[..7], 3, true), Answer { number: 3, ..ACCEPTED });
+        assert_eq!(call(&mut counters[..7], 8, true), Answer { number: 22, ..ACCEPTED });
+        assert_eq!(counters, filled);
         let full = Shape { points: 3, ..shape };
         let numbers = [0, 1, 2].map(|time| particle_number(&made[1], full, time, 0.5));
         assert_eq!(numbers, [Ok(0.0), Ok(1.5625), Ok(14.0625)]);

@@ -1,8 +1,8 @@
 //! Calls on slices laid out for a capacity of points (document 02, L1). Over the points' entries the answers are the port's. It has no append: the new row
-//! and column are made by its operations on blocks, of what the slices hold at old places. Runs and appends are in a session (L3).
+//! and column are made by its operations on blocks, of what the slices hold at old places. Runs and appends are at a desk of a session (L3, L13).
 use crate::functions;
 use crate::lines::{functions_of_times, lengths, refusal, require};
-use crate::session::{appended_products, products};
+use crate::session::{appended_products, products, Booking, Counters};
 use crate::sums::{OnePoint, Stage, Work};
 use crate::{Answer, Block, Judged, Refused, Slices};
 use keldysh_green::kept;
@@ -70,29 +70,34 @@ impl Shape {
 }
 
 /// The answer to a run or an append, with the count of its products, where an append's 10 is met, and what the four slices, G^R, G^<, K, X, and the session's
-/// counter hold afterwards.
+/// counters hold afterwards.
 pub struct Held {
     pub judged: Judged<u64>,
     pub stage: Option<Stage>,
     pub slices: Slices<4>,
-    pub counter: u64,
+    pub counters: Counters,
 }
 
 impl Held {
-    fn of((judged, counter): (Judged<Slices<4>>, u64), count: u64, before: [&[f64]; 4], after_10: impl Fn(&[f64]) -> Vec<f64>) -> Self {
+    fn of(
+        (judged, counters): (Judged<Slices<4>>, Counters),
+        count: u64,
+        before: [&[f64]; 4],
+        after_10: impl Fn(&[f64]) -> Vec<f64>,
+    ) -> Self {
         let Judged { answer, listed, agrees } = judged;
         let slices = match &answer {
             Ok(slices) => slices.clone(),
             Err(Refused { number: 10, .. }) => before.map(after_10),
             Err(_) => before.map(<[f64]>::to_vec),
         };
-        Self { judged: Judged { answer: answer.map(|_| count), listed, agrees }, stage: None, slices, counter }
+        Self { judged: Judged { answer: answer.map(|_| count), listed, agrees }, stage: None, slices, counters }
     }
 }
 
 /// The port's run over the points; room stays, but for 10, after which all is +0. Operands: free propagator, retarded self-energy, Σ^<.
 pub fn transient_run_in_capacity(
-    counter: u64,
+    booking: Booking,
     shape: Shape,
     times: &[f64],
     operands: [&[f64]; 3],
@@ -112,7 +117,7 @@ pub fn transient_run_in_capacity(
     let judged =
         Judged { answer: judged.answer.map(laid).map_err(|refused| shape.lent(3, refused)), listed: judged.listed, agrees: judged.agrees };
     let count = products(shape.points);
-    Held::of(judged.booked(counter, count), count, before, |xs| vec![0.0; xs.len()])
+    Held::of(judged.booked(booking, count), count, before, |xs| vec![0.0; xs.len()])
 }
 
 /// The new row and column, or where they are not finite: an old entry of X, or of G^R on or below its diagonal, that is not finite is read.
@@ -139,7 +144,7 @@ fn appended(shape: Shape, times: &[f64], operands: [&[f64]; 3], tolerance: f64, 
 }
 
 /// The append to the points that the shape tells. After 10 its new row and column are +0.
-pub fn append_point(counter: u64, shape: Shape, times: &[f64], operands: [&[f64]; 3], tolerance: f64, before: [&[f64]; 4]) -> Held {
+pub fn append_point(booking: Booking, shape: Shape, times: &[f64], operands: [&[f64]; 3], tolerance: f64, before: [&[f64]; 4]) -> Held {
     let new = shape.points;
     // The largest count and one more is above every capacity.
     let shape = Shape { points: new.saturating_add(1), ..shape };
@@ -149,7 +154,7 @@ pub fn append_point(counter: u64, shape: Shape, times: &[f64], operands: [&[f64]
         Err(refused) => (Err(refused), None),
     };
     let count = appended_products(new);
-    let held = Held::of(Judged::from(answer).booked(counter, count), count, before, |xs| {
+    let held = Held::of(Judged::from(answer).booked(booking, count), count, before, |xs| {
         let none = vec![0.0; shape.points * shape.points * shape.block()];
         shape.written(xs, &none, |t, u| t.max(u) == new)
     });

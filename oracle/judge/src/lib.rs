@@ -19,7 +19,7 @@ pub use functions::{causal_volterra_convolution, checked_interval_weight, consis
 pub use functions::{check_retarded_support, retarded_dyson, retarded_dyson_with_tolerance, time_convolution, transient_run};
 pub use functions::{check_grid, check_times, full_weight, half_step, interval_weight};
 pub use judged::{Filled, Judged, Listed, Slices};
-pub use session::{appended_products, products};
+pub use session::{appended_products, products, Booking, Counters, DESKS};
 
 /// A refusal: its number and its places, which are 0 where its line has none.
 #[derive(Debug, Clone, Copy, PartialEq)]

@@ -1,5 +1,23 @@
-//! A session's counter of matrix products (document 02, L3), which the port does not have: the count is the formula's, and 17 is asked after 9.
+//! A session's counters of matrix products, one for each of eight desks (document 02, L3 and L13), which the port does not have: the count is the formula's,
+//! 22 is asked before 1, and 17 after 9.
 use crate::{Judged, Refused};
+
+pub const DESKS: usize = 8;
+
+/// What a session's counters hold, desk 0's first.
+pub type Counters = [u64; DESKS];
+
+/// The desk that a call names, and what the counters of its session hold before.
+#[derive(Debug, Clone, Copy, PartialEq)]
+pub struct Booking {
+    pub desk: usize,
+    pub counters: Counters,
+}
+
+impl Booking {
+    /// Desk 0 of a session that is opened at zeros.
+    pub const FIRST: Self = Self { desk: 0, counters: [0; DESKS] };
+}
 
 /// How many products of blocks a run over so many points forms; 256 are the most.
 pub fn products(points: usize) -> u64 {
@@ -13,13 +31,21 @@ pub fn appended_products(points: usize) -> u64 {
 }
 
 impl<T> Judged<T> {
-    /// The answer of a call of so many products in a session with this on its counter, and the counter afterwards. 10 comes after 17.
-    pub fn booked(self, counter: u64, count: u64) -> (Self, u64) {
+    /// The answer of a call of so many products that is booked so, and the counters afterwards. 22 comes before all others, 10 after 17.
+    pub fn booked(self, Booking { desk, mut counters }: Booking, count: u64) -> (Self, Counters) {
         let number = self.answer.as_ref().map_or_else(|refused| refused.number, |_| 0);
+        let agrees = self.agrees;
+        let by = |number| Self { answer: Err(Refused::by(number)), listed: None, agrees };
+        let Some(counter) = counters.get_mut(desk) else {
+            return (by(22), counters);
+        };
         match counter.checked_add(count) {
-            None if matches!(number, 0 | 10) => (Self { answer: Err(Refused::by(17)), listed: None, ..self }, counter),
-            Some(after) if number == 0 => (self, after),
-            _ => (self, counter),
+            None if matches!(number, 0 | 10) => (by(17), counters),
+            Some(after) if number == 0 => {
+                *counter = after;
+                (self, counters)
+            }
+            _ => (self, counters),
         }
     }
 }

@@ -1,7 +1,7 @@
 //! One call of the list: its inputs in the list's order, and the judge's answer.
 use crate::inputs::Inputs;
 use crate::text::{accepted, answered, block, booked, decided, filled, held, number, numbers, observed};
-use judge::{Answer, Block, Held, Judged, Shape, Slices};
+use judge::{Answer, Block, Booking, Held, Judged, Shape, Slices};
 
 /// The answer to the function of this number.
 pub fn answer(function: u64, x: &mut Inputs) -> String {
@@ -175,24 +175,25 @@ fn shape(x: &mut Inputs) -> Shape {
     Shape { points: x.points, capacity: x.place(), orbitals: x.orbitals }
 }
 
-type Solve = fn(u64, Shape, &[f64], [&[f64]; 3], f64, [&[f64]; 4]) -> Held;
+type Solve = fn(Booking, Shape, &[f64], [&[f64]; 3], f64, [&[f64]; 4]) -> Held;
 
 /// The operands, then what the four slices hold before.
-fn solved(x: &Inputs, counter: u64, shape: Shape, judged: Solve) -> Held {
+fn solved(x: &Inputs, booking: Booking, shape: Shape, judged: Solve) -> Held {
     let [free, self_energy, lesser_self_energy, retarded, lesser, kernel, lesser_advanced] = x.operands();
     let before = [retarded, lesser, kernel, lesser_advanced];
-    judged(counter, shape, &x.times, [free, self_energy, lesser_self_energy], x.tolerance, before)
+    judged(booking, shape, &x.times, [free, self_energy, lesser_self_energy], x.tolerance, before)
 }
 
 fn opened_at_0(x: &mut Inputs, judged: Solve) -> Held {
     let shape = shape(x);
-    solved(x, 0, shape, judged)
+    solved(x, Booking::FIRST, shape, judged)
 }
 
-/// The session's counter is the word after the capacity.
+/// The desk is the word after the capacity, and the session's counters are the next eight.
 fn in_session(x: &mut Inputs, judged: Solve) -> Held {
-    let (shape, counter) = (shape(x), x.word());
-    solved(x, counter, shape, judged)
+    let (shape, desk) = (shape(x), x.place());
+    let counters = std::array::from_fn(|_| x.word());
+    solved(x, Booking { desk, counters }, shape, judged)
 }
 
 fn density_matrix_in_capacity(x: &mut Inputs) -> String {

@@ -84,8 +84,8 @@ pub fn held(x: Held) -> String {
     with_slices(verdict(&x.judged.agreed()), &x.slices)
 }
 
-/// The same in a session: an accepted call has its count, and the counter comes before the slices.
+/// The same in a session: an accepted call has its count, and the counters come before the slices.
 pub fn booked(x: Held) -> String {
     let verdict = answered(x.judged.agreed(), |count| format!("accepted {count}"));
-    with_slices(format!("{verdict} {}", x.counter), &x.slices)
+    with_slices(x.counters.iter().fold(verdict, |text, counter| format!("{text} {counter}")), &x.slices)
 }

@@ -17,9 +17,9 @@ solve-spec =
     (tie.spec
     (λ c κs. search needs)  -- transient-run-requires
     (λ c κs. search needs)  -- answer-text-requires
-    (λ c. ran c .transient-run .kept .1 .1 .1 .1 .1 .1 .1 .0)  -- same-length
-    (λ c. ran c .transient-run .kept .1 .1 .1 .1 .1 .1 .1 .1 .0)  -- same-length-2
-    (λ c. ran c .transient-run .kept .1 .1 .1 .1 .1 .1 .1 .1 .1 .0)  -- same-length-3
-    (λ c. ran c .transient-run .kept .1 .1 .1 .1 .1 .1 .1 .1 .1 .1 .0)  -- same-length-4
+    (λ c. ran c .transient-run .kept .1 .1 .1 .1 .1 .1 .1 .1 .0)  -- same-length
+    (λ c. ran c .transient-run .kept .1 .1 .1 .1 .1 .1 .1 .1 .1 .0)  -- same-length-2
+    (λ c. ran c .transient-run .kept .1 .1 .1 .1 .1 .1 .1 .1 .1 .1 .0)  -- same-length-3
+    (λ c. ran c .transient-run .kept .1 .1 .1 .1 .1 .1 .1 .1 .1 .1 .1 .0)  -- same-length-4
     (λ c. c .before .before .answer-text .kept .1 .1 .1 .1 .0)  -- same-length-5
     returns)

@@ -1,6 +1,7 @@
 -- `transient_run::append_point` meets its contract: the points, cut at 256, and one more. Assumes nothing.
 use Rattle.lists.specs.Prelude.{_≡_, sym, ap, _∙_, List, ℕ, _+_, _≤_, min-le-right, le-add-right, arith, Float, now, needs}
-use Rattle.transient_run.specs.Calls.{Run, Outcome, runOf, booked}
+use Rattle.transient_run.specs.Calls.{Run, runOf, booked}
+use Rattle.transient_run.specs.Ends.{answers, retardeds, lessers, kernels, lesser-advanceds}
 use Rattle.transient_run.specs.Past.{append-cut}
 use Rattle.transient_run.proofs.append_point.Statement.{statement}
 use Rattle.transient_run.proofs.append_point.Tie as tie
@@ -17,7 +18,7 @@ append-point-spec =
     let v = c .before .before .before .before .before .before .before .before in
     let l = v .before .before .before .before .before in
     let x = l .before .before .before .before .before .before .before .before .before .args in
-    let e = append-cut (runOf (x .session) (x .shape) (x .tolerance) (now (x .times)) (now (x .free)) (now (x .self-energy)) (now (x .lesser-self-energy)) (now (x .retarded)) (now (x .lesser)) (now (x .kernel)) (now (x .lesser-advanced)))
+    let e = append-cut (runOf (x .session) (x .desk) (x .shape) (x .tolerance) (now (x .times)) (now (x .free)) (now (x .self-energy)) (now (x .lesser-self-energy)) (now (x .retarded)) (now (x .lesser)) (now (x .kernel)) (now (x .lesser-advanced)))
     (l .least .result) (l .least .ensures) in
     let o = v .solve .ensures in
-    (o .0 ∙ ap (λ (p : Outcome). p .answer) e, o .1 ∙ ap (λ (p : Outcome). booked (x .session) (p .answer)) e, o .2 ∙ ap (λ (p : Outcome). p .retarded) e, o .3 ∙ ap (λ (p : Outcome). p .lesser) e, o .4 ∙ ap (λ (p : Outcome). p .kernel) e, o .5 ∙ ap (λ (p : Outcome). p .lesserAdvanced) e)))  -- returns
+    (o .0 ∙ answers e, o .1 ∙ ap (booked (x .session) (x .desk)) (answers e), o .2 ∙ retardeds e, o .3 ∙ lessers e, o .4 ∙ kernels e, o .5 ∙ lesser-advanceds e)))  -- returns

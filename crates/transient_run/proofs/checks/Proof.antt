@@ -1,74 +1,108 @@
 -- `transient_run::checks` meets its contract: it makes the checks in their order. Assumes nothing.
-use Rattle.lists.specs.Prelude.{_≡_, sym, ap, _∙_, List, [], _∷_, Float, now, needs}
-use Rattle.refusal.specs.Checks.{counterHolds}
+use Rattle.lists.specs.Prelude.{_≡_, sym, ap₂, _∙_, List, [], _∷_, ltb-true, Float, now, needs}
+use Rattle.refusal.specs.declared.Verdict.the-variants.{Pass}
+use Rattle.refusal.specs.Verdict.{by}
+use Rattle.refusal.specs.Checks.{counterHolds, deskKnown}
+use Rattle.refusal.specs.Agreement.{ask-pass, then-after}
 use Rattle.two_time.specs.Calls.{allFit}
 use Rattle.two_time.specs.SizeChecks.{fits-more}
 use Rattle.two_time.specs.CapacityChecks.{capacity-asked}
 use Rattle.transient_run.specs.Past.{sizes-least}
 use Rattle.transient_run.specs.Calls.{Run, runOf}
-use Rattle.transient_run.specs.Checks.{slices, sizesAsked, sizes-refused, checks-asked}
+use Rattle.transient_run.specs.Checks.{slices, sizesAsked, desk-refused, sizes-refused, checks-asked}
 use Rattle.transient_run.proofs.checks.Statement.{statement}
 use Rattle.transient_run.proofs.checks.Tie as tie
 
 abbrev lengths : tie.After-check-capacity → tie.After-has-length3
 lengths c = c .before .before
 
-abbrev start : tie.After-check-capacity → tie.Start
-start c = lengths c .before .before .before .before .before .before .before
+abbrev named : tie.After-check-capacity → tie.After-enum-told
+named c = lengths c .before .before .before
+
+abbrev start : tie.After-desk-known → tie.Start
+start c = c .before .before .before .before .before
+
+abbrev begun : tie.After-check-capacity → tie.Start
+begun c = start (named c .before .before)
+
+-- the desk passed
+known : (c : tie.After-check-capacity) → deskKnown (begun c .args .desk) ≡ Pass
+known c = sym (named c .before .before .desk-known .ensures) ∙ named c .enum-told .given .1
 
 module _ (retarded lesser kernel lesserAdvanced : List Float) where
-  abbrev run : tie.After-check-capacity → Run
-  run c = let x = start c .args in runOf (x .session) (x .shape) (x .tolerance) (now (x .times)) (now (x .free)) (now (x .self-energy)) (now (x .lesser-self-energy)) retarded lesser kernel lesserAdvanced
+  abbrev run : tie.Start → Run
+  run c = let x = c .args in runOf (x .session) (x .desk) (x .shape) (x .tolerance) (now (x .times)) (now (x .free)) (now (x .self-energy)) (now (x .lesser-self-energy)) retarded lesser kernel lesserAdvanced
 
   -- the sizes
-  sized : (c : tie.After-check-capacity) → let x = start c .args in x .fits ≡ allFit (x .shape .capacity) (x .shape .orbitals) (retarded ∷ lesser ∷ kernel ∷ lesserAdvanced ∷ [])
-      → c .check-capacity .result ≡ sizesAsked (x .shape .points) (run c)
+  sized : (c : tie.After-check-capacity) → let x = begun c .args in x .fits ≡ allFit (x .shape .capacity) (x .shape .orbitals) (retarded ∷ lesser ∷ kernel ∷ lesserAdvanced ∷ [])
+      → c .check-capacity .result ≡ sizesAsked (x .shape .points) (run (begun c))
   sized c fits =
       let h = lengths c in
-      let x = start c .args in
-      capacity-asked (x .shape .capacity) (x .shape .points) (x .shape .orbitals) _ (slices (x .shape .points) (run c)) _ _
+      let x = begun c .args in
+      capacity-asked (x .shape .capacity) (x .shape .points) (x .shape .orbitals) _ (slices (x .shape .points) (run (begun c))) _ _
       (fits-more _ _ _ _ _ _ (h .before .before .has-length .ensures) (fits-more _ _ _ _ _ _ (h .before .has-length2 .ensures) (fits-more _ _ _ _ _ _ (h .has-length3 .ensures) fits)))
       (c .check-capacity .ensures)
+      ∙ sym (then-after (deskKnown (x .desk)) _ (known c))
 
 returns : tie.Need-returns
 returns c retarded lesser kernel lesserAdvanced fits =
-    let v = c .before .before in
-    sizes-refused (start v .args .shape .points) (run retarded lesser kernel lesserAdvanced v) (start v .args .old) (sized retarded lesser kernel lesserAdvanced v fits) (c .enum-told2 .given .1)
+    let k = c .before .before in
+    let s = start k in
+    desk-refused (s .args .shape .points) (run retarded lesser kernel lesserAdvanced s) (s .args .old) (k .desk-known .ensures) (c .enum-told2 .given .1)
 
 returns-2 : tie.Need-returns-2
 returns-2 c retarded lesser kernel lesserAdvanced fits =
+    let v = c .before .before in
+    let s = begun v in
+    sizes-refused (s .args .shape .points) (run retarded lesser kernel lesserAdvanced s) (s .args .old) (sized retarded lesser kernel lesserAdvanced v fits) (c .enum-told4 .given .1)
+
+returns-3 : tie.Need-returns-3
+returns-3 c retarded lesser kernel lesserAdvanced fits =
     let rest = c .before in
     let last = rest .before in
     let grid = last .before in
     let holds = grid .before in
-    let support = holds .before .before in
+    let counter = holds .before in
+    let support = counter .before .before in
     let entries = support .before in
     let later = entries .before .before in
     let told = later .before .before .before in
     let v = told .before .before in
-    checks-asked (start v .args .shape .points) (run retarded lesser kernel lesserAdvanced v) (start v .args .old) (sized retarded lesser kernel lesserAdvanced v fits) (told .enum-told .given .1)
+    let s = begun v in
+    checks-asked (s .args .shape .points) (run retarded lesser kernel lesserAdvanced s) (s .args .old) (sized retarded lesser kernel lesserAdvanced v fits) (told .enum-told3 .given .1)
     (grid .check-grid .ensures) (entries .before .check-points3 .ensures) (later .before .before .check-points .ensures) (later .before .check-points2 .ensures) (support .check-retarded-inputs .ensures)
-    (holds .counter-holds .ensures ∙ ap (counterHolds (start v .args .session .products)) (holds .before .formed .ensures)) (later .then .ensures) (entries .then2 .ensures) (last .then3 .ensures) (rest .then4 .ensures) (c .then5 .ensures)
+    (holds .counter-holds .ensures ∙ ap₂ counterHolds (counter .counter-of .ensures) (counter .before .formed .ensures)) (later .then .ensures) (entries .then2 .ensures) (last .then3 .ensures) (rest .then4 .ensures) (c .then5 .ensures)
 
 -- once the sizes pass, whatever the outputs are, the points are at most 256
 formed-requires : tie.Need-formed-requires
 formed-requires c κs =
     let told = c .before .before .before .before .before .before in
     let v = told .before .before in
-    let z = sizes-least (start v .args .shape .points) _ _ _ (sym (v .check-capacity .ensures) ∙ told .enum-told .given .1) in
-    (start v .pre, z)
+    let s = begun v in
+    let z = sizes-least (s .args .shape .points) _ _ _ (sym (v .check-capacity .ensures) ∙ told .enum-told3 .given .1) in
+    (s .pre, z)
+
+counter-of-requires : tie.Need-counter-of-requires
+unfolding deskKnown
+counter-of-requires c κs =
+    let told = c .before .before .before .before .before .before .before in
+    ltb-true _ _ (ask-pass _ (by 22) (known (told .before .before)))
 
 pub checks-spec : {M : Type 1} → statement M
 checks-spec =
     tie.close
     (tie.spec
+    (λ c κs. search needs)  -- desk-known-requires
+    (λ c. search needs)  -- enum-told
+    (λ c. search needs)  -- enum-told-2
+    returns
     (λ c κs. search needs)  -- has-length-requires
     (λ c κs. search needs)  -- has-length-requires-2
     (λ c κs. search needs)  -- has-length-requires-3
     (λ c κs. search needs)  -- check-capacity-requires
-    (λ c. search needs)  -- enum-told
-    (λ c. search needs)  -- enum-told-2
-    returns
+    (λ c. search needs)  -- enum-told-3
+    (λ c. search needs)  -- enum-told-4
+    returns-2
     (λ c κs. search needs)  -- check-points-requires
     (λ c κs. search needs)  -- check-points-requires-2
     (λ c κs. search needs)  -- then-requires
@@ -76,9 +110,10 @@ checks-spec =
     (λ c κs. search needs)  -- then-requires-2
     (λ c κs. search needs)  -- check-retarded-inputs-requires
     formed-requires
+    counter-of-requires
     (λ c κs. search needs)  -- counter-holds-requires
     (λ c κs. search needs)  -- check-grid-requires
     (λ c κs. search needs)  -- then-requires-3
     (λ c κs. search needs)  -- then-requires-4
     (λ c κs. search needs)  -- then-requires-5
-    returns-2)
+    returns-3)

@@ -1,18 +1,15 @@
 -- `transient_run::solve` meets its contract: refused, accepted, or 10 with the new places of all four slices cleared. Assumes nothing.
 use Rattle.lists.specs.Prelude.{_≡_, refl, sym, ap, ap₂, _∙_, true, cond, ℕ, le-trans, arith, List, [], _∷_, _≤_, le-leb, length, Float, now, needs}
-use Rattle.refusal.specs.declared.Verdict.{Verdict}
-use Rattle.refusal.specs.declared.Verdict.the-variants.{Pass, Refused}
-use Rattle.refusal.specs.Verdict.{by}
-use Rattle.refusal.specs.Outcome.{unchanged, accepted, overflowed}
+use Rattle.refusal.specs.declared.Verdict.the-variants.{Pass}
 use Rattle.two_time.specs.Layout.{lengthOf}
 use Rattle.two_time.specs.New.{clearedNew, fitsNew}
 use Rattle.two_time.specs.SizeChecks.{SizesPassed}
 use Rattle.two_time.specs.Lengths.{lengths}
 use Rattle.two_time.specs.Cleared.{fits-new}
-use Rattle.transient_run.specs.declared.Solved.the-variants.{Refused as NotSolved}
-use Rattle.transient_run.specs.Calls.{Run, runOf, solved, booked, madeFinite, checksOf, verdictOf, worked}
-use Rattle.transient_run.specs.Checks.{slices, checks-keeping, checks-passed, counter-room}
-use Rattle.transient_run.specs.Products.{formed}
+use Rattle.transient_run.specs.declared.Solved.the-variants.{Accepted, Refused as NotSolved}
+use Rattle.transient_run.specs.Calls.{Run, runOf, booked, checksOf}
+use Rattle.transient_run.specs.Checks.{slices, checks-passed, counter-room, desk-below}
+use Rattle.transient_run.specs.Ends.{checks-end, work-end, overflow-end, answers, retardeds, lessers, kernels, lesser-advanceds}
 use Rattle.transient_run.proofs.solve.Statement.{statement}
 use Rattle.transient_run.proofs.solve.Tie as tie
 
@@ -22,7 +19,7 @@ start c = c .before .before .before .before .before .before .before .before .bef
 abbrev run : tie.After-checks → Run
 run c =
     let x = start c .args in
-    runOf (x .session) (x .shape) (x .tolerance) (now (x .times)) (now (x .free)) (now (x .self-energy)) (now (x .lesser-self-energy)) (now (x .retarded)) (now (x .lesser)) (now (x .kernel)) (now (x .lesser-advanced))
+    runOf (x .session) (x .desk) (x .shape) (x .tolerance) (now (x .times)) (now (x .free)) (now (x .self-energy)) (now (x .lesser-self-energy)) (now (x .retarded)) (now (x .lesser)) (now (x .kernel)) (now (x .lesser-advanced))
 
 -- what is left of a slice once the new places are cleared
 abbrev cleared : tie.After-checks → List Float → List Float
@@ -46,12 +43,6 @@ clears c xs long =
 abbrev told : tie.After-work → tie.After-enum-told
 told w = w .before .before .before .before .before
 
--- the answer by a verdict and a count that are known
-answer-is : (c : tie.After-checks) (v : Verdict) (count : ℕ) → let x = start c .args in v ≡ verdictOf (x .old) (x .shape .points) (run c) → count ≡ formed (x .old) (x .shape .points)
-    → solved v count ≡ worked (x .old) (x .shape .points) (run c) (cleared c) .answer
-unfolding worked
-answer-is c v count e h = ap₂ solved e h
-
 formed-requires : tie.Need-formed-requires
 formed-requires c κs =
     let w = c .before .before .before .before .before .before .before .before .before in
@@ -59,21 +50,20 @@ formed-requires c κs =
     let z = passed e in
     (start (e .before .before) .pre, le-trans (z .1) (z .2 .points-most))
 
-add-products : tie.Need-add-products
-add-products c =
-    let f = c .before in
-    let w = f .before .before .before .before .before .before .before .before .before .before in
+with-count-requires : tie.Need-with-count-requires
+with-count-requires c κs =
+    let w = c .before .before .before .before .before .before .before .before .before .before in
     let e = told w in
     let l = e .before .before in
     let x = start l .args in
-    let room = counter-room (x .shape .points) (run l) (x .old) (sym (checked l) ∙ e .enum-told .given .1) in
-    omega (arith, room, f .formed .ensures)
+    let passes = sym (checked l) ∙ e .enum-told .given .1 in
+    let room = counter-room (x .shape .points) (run l) (x .old) passes in
+    (desk-below (x .shape .points) (run l) (x .old) passes, let h = c .formed .ensures in omega (arith, room, h))
 
 work-requires : tie.Need-work-requires
 work-requires c κs = let e = c .before .before .before .before in let z = passed e in (start (e .before .before) .pre, z .1, z .2)
 
 returns : tie.Need-returns
-unfolding worked verdictOf solved booked
 returns c =
     let f = c .before in
     let test = f .before in
@@ -81,24 +71,22 @@ returns c =
     let e = told w in
     let l = e .before .before in
     let x = start l .args in
-    let t = w .work .ensures (x .session) (x .tolerance) in
-    let end = accepted (cleared l) (checked l) (madeFinite (x .old) (x .shape .points) (run l)) (e .enum-told .given .1) (sym (t .0) ∙ test .if1 .taken) in
+    let t = w .work .ensures (x .session) (x .desk) (x .tolerance) in
+    let end = sym (work-end (x .old) (x .shape .points) (run l) (cleared l) (sym (checked l) ∙ e .enum-told .given .1) (sym (t .0) ∙ test .if1 .taken)) in
     let made = t .1 (test .if1 .taken) in
-    let answered = answer-is l Pass (f .formed .result) (end .answered) (f .formed .ensures) in
-    (answered, ap (booked (x .session)) answered, made .0 ∙ end .slice _ _, made .1 ∙ end .slice _ _, made .2 ∙ end .slice _ _, made .3 ∙ end .slice _ _)
+    let answered = ap Accepted (f .formed .ensures) ∙ answers end in
+    (answered, c .with-count .ensures ∙ ap (booked (x .session) (x .desk)) answered, made .0 ∙ retardeds end, made .1 ∙ lessers end, made .2 ∙ kernels end, made .3 ∙ lesser-advanceds end)
 
 returns-2 : tie.Need-returns-2
-unfolding worked verdictOf solved booked
+unfolding booked
 returns-2 c =
     let l = c .before .before .before in
     let x = start l .args in
-    let refused = c .before .verdict .given .1 in
-    let end = unchanged (cleared l) (checked l) (madeFinite (x .old) (x .shape .points) (run l)) (checks-keeping (x .shape .points) (run l) (x .old)) _ refused in
-    let answered = answer-is l (Refused _) (formed (x .old) (x .shape .points)) (sym refused ∙ end .answered) refl in
-    (answered, ap (booked (x .session)) answered, end .slice _ _, end .slice _ _, end .slice _ _, end .slice _ _)
+    let end = sym (checks-end (x .old) (x .shape .points) (run l) (cleared l) _ (sym (checked l) ∙ c .before .verdict .given .1)) in
+    (answers end, ap (booked (x .session) (x .desk)) (answers end), retardeds end, lessers end, kernels end, lesser-advanceds end)
 
 returns-3 : tie.Need-returns-3
-unfolding worked verdictOf solved booked
+unfolding booked
 returns-3 c =
     let fourth = c .before .before .before in
     let third = fourth .before .before .before .before in
@@ -109,17 +97,17 @@ returns-3 c =
     let e = told w in
     let l = e .before .before in
     let x = start l .args in
-    let t = w .work .ensures (x .session) (x .tolerance) in
-    let end = overflowed (cleared l) (checked l) (madeFinite (x .old) (x .shape .points) (run l)) (e .enum-told .given .1) (sym (t .0) ∙ test .if1 .left) in
-    let answered = answer-is l (Refused (by 10)) (formed (x .old) (x .shape .points)) (end .answered) refl in
+    let t = w .work .ensures (x .session) (x .desk) (x .tolerance) in
+    let end = sym (overflow-end (x .old) (x .shape .points) (run l) (cleared l) (sym (checked l) ∙ e .enum-told .given .1) (sym (t .0) ∙ test .if1 .left)) in
+    let answered = ap NotSolved (c .by .ensures) ∙ answers end in
     let kept = w .work .kept .1 .1 .1 .1 .1 .1 in
     let long = lengths (passed e .2) .1 .1 .1 in (
-      ap NotSolved (c .by .ensures) ∙ answered,
-      ap (booked (x .session)) answered,
-      first .clear-new .ensures ∙ clears e _ (kept .0 ∙ long .0) ∙ t .2 ∙ end .slice _ _,
-      second .clear-new2 .ensures ∙ clears e _ (kept .1 .0 ∙ long .1 .0) ∙ t .3 ∙ end .slice _ _,
-      third .clear-new3 .ensures ∙ clears e _ (kept .1 .1 .0 ∙ long .1 .1 .0) ∙ t .4 ∙ end .slice _ _,
-      fourth .clear-new4 .ensures ∙ clears e _ (kept .1 .1 .1 .0 ∙ long .1 .1 .1 .0) ∙ t .5 ∙ end .slice _ _,
+      answered,
+      ap (booked (x .session) (x .desk)) (answers end),
+      first .clear-new .ensures ∙ clears e _ (kept .0 ∙ long .0) ∙ t .2 ∙ retardeds end,
+      second .clear-new2 .ensures ∙ clears e _ (kept .1 .0 ∙ long .1 .0) ∙ t .3 ∙ lessers end,
+      third .clear-new3 .ensures ∙ clears e _ (kept .1 .1 .0 ∙ long .1 .1 .0) ∙ t .4 ∙ kernels end,
+      fourth .clear-new4 .ensures ∙ clears e _ (kept .1 .1 .1 .0 ∙ long .1 .1 .1 .0) ∙ t .5 ∙ lesser-advanceds end,
     )
 
 pub solve-spec : {M : Type 1} → statement M
@@ -132,7 +120,7 @@ solve-spec =
     (λ c. search needs)  -- enum-told
     work-requires
     formed-requires
-    add-products
+    with-count-requires
     (λ c. search needs)  -- same-length
     (λ c. search needs)  -- same-length-2
     (λ c. search needs)  -- same-length-3

@@ -1,5 +1,5 @@
 -- `transient_run::work` meets its contract: each step's answer says whether what it makes is finite. Assumes nothing.
-use Rattle.lists.specs.Prelude.{_≡_, refl, sym, ap, ap₂, _∙_, Bool, true, false, cond, _&&_, List, [], _∷_, leb, le-leb, arith, Float, now, needs, not-true, not-false}
+use Rattle.lists.specs.Prelude.{_≡_, refl, sym, ap, ap₂, _∙_, Bool, true, false, cond, _&&_, List, [], _∷_, ℕ, leb, le-leb, arith, Float, now, needs, not-true, not-false}
 use Rattle.lists.specs.Agreement.{never}
 use Rattle.refusal.specs.declared.Verdict.the-variants.{Pass}
 use Rattle.two_time.specs.declared.sums.Sums.the-variants.{Causal, LesserAdvanced, Lesser}
@@ -17,10 +17,10 @@ use Rattle.transient_run.specs.Steps.{retardedIsFinite, retarded-fails, 
 use Rattle.transient_run.proofs.work.Statement.{statement}
 use Rattle.transient_run.proofs.work.Tie as tie
 
-abbrev run : tie.Start → Session → Float → Run
-run s session tolerance =
+abbrev run : tie.Start → Session → ℕ → Float → Run
+run s session desk tolerance =
     let x = s .args in
-    runOf session (x .shape) tolerance (now (x .times)) (now (x .free)) (now (x .self-energy)) (now (x .lesser-self-energy)) (now (x .retarded)) (now (x .lesser)) (now (x .kernel)) (now (x .lesser-advanced))
+    runOf session desk (x .shape) tolerance (now (x .times)) (now (x .free)) (now (x .self-energy)) (now (x .lesser-self-energy)) (now (x .retarded)) (now (x .lesser)) (now (x .kernel)) (now (x .lesser-advanced))
 
 -- slices of their length pass the sizes that a step asks
 asked : (s : tie.Start) (slices : List (List Float)) → let x = s .args in SizesPassed (x .shape .capacity) (x .shape .orbitals) true slices
@@ -32,7 +32,7 @@ abbrev cleared : tie.Start → List Float → List Float
 cleared s = let x = s .args in clearedNew (x .shape .capacity) (x .shape .orbitals) (x .old) (x .shape .points)
 
 -- K and G^R, by the first answer
-module _ (session : Session) (tolerance : Float) (f : tie.After-is-finite) where
+module _ (session : Session) (desk : ℕ) (tolerance : Float) (f : tie.After-is-finite) where
   abbrev solved : tie.After-solve-new
   solved = f .before .before .before .before .before
 
@@ -40,7 +40,7 @@ module _ (session : Session) (tolerance : Float) (f : tie.After-is-finite) where
   s = solved .before .before .before .before .before .before .before .before .before .before .before
 
   abbrev r : Run
-  r = run s session tolerance
+  r = run s session desk tolerance
 
   abbrev retarded : List Float
   retarded = solved .solve-new .last .1 .1 .1 .1 .1 .0
@@ -68,13 +68,13 @@ module _ (session : Session) (tolerance : Float) (f : tie.After-is-finite) where
       )
 
 returns : tie.Need-returns
-returns c session tolerance =
+returns c session desk tolerance =
     let f = c .before in
-    let gone = retardeds-gone session tolerance f in
-    (retarded-fails _ _ (r session tolerance f) (retardeds session tolerance f false (sym (not-true _ (c .if1 .taken))) .0), λ h. never h, gone .0, refl, gone .1, refl)
+    let gone = retardeds-gone session desk tolerance f in
+    (retarded-fails _ _ (r session desk tolerance f) (retardeds session desk tolerance f false (sym (not-true _ (c .if1 .taken))) .0), λ h. never h, gone .0, refl, gone .1, refl)
 
 -- X, by the second
-module _ (session : Session) (tolerance : Float) (f₂ : tie.After-is-finite2) where
+module _ (session : Session) (desk : ℕ) (tolerance : Float) (f₂ : tie.After-is-finite2) where
   abbrev summed : tie.After-new-sums
   summed = f₂ .before .before .before
 
@@ -84,66 +84,66 @@ module _ (session : Session) (tolerance : Float) (f₂ : tie.After-is-finite2) w
   abbrev f : tie.After-is-finite
   f = else1 .before
 
-  first : let x = s session tolerance f .args in (retardedIsFinite (x .old) (x .shape .points) (r session tolerance f) ≡ true) × (retarded session tolerance f ≡ retardedMade (x .old) (x .shape .points) (r session tolerance f)) × (kernel session tolerance f ≡ kernelMade (x .old) (x .shape .points) (r session tolerance f))
-  first = retardeds session tolerance f true (sym (not-false _ (else1 .if1 .left)))
+  first : let x = s session desk tolerance f .args in (retardedIsFinite (x .old) (x .shape .points) (r session desk tolerance f) ≡ true) × (retarded session desk tolerance f ≡ retardedMade (x .old) (x .shape .points) (r session desk tolerance f)) × (kernel session desk tolerance f ≡ kernelMade (x .old) (x .shape .points) (r session desk tolerance f))
+  first = retardeds session desk tolerance f true (sym (not-false _ (else1 .if1 .left)))
 
   abbrev lesserAdvanced : List Float
   lesserAdvanced = summed .new-sums .last .1 .1 .1 .1 .1 .1 .0
 
-  lesser-advanced-made : (ok : Bool) → ok ≡ f₂ .is-finite2 .result → let x = s session tolerance f .args in
-      (newFinite LesserAdvanced (x .shape .capacity) (x .shape .orbitals) (x .old) (x .shape .points) (now (x .times)) (now (x .lesser-self-energy)) (retarded session tolerance f) ≡ ok)
-      × (lesserAdvanced ≡ cond ok (newNumbers LesserAdvanced (x .shape .capacity) (x .shape .orbitals) (x .old) (x .shape .points) (now (x .times)) (now (x .lesser-self-energy)) (retarded session tolerance f) (now (x .lesser-advanced))) (cleared (s session tolerance f) (now (x .lesser-advanced))))
+  lesser-advanced-made : (ok : Bool) → ok ≡ f₂ .is-finite2 .result → let x = s session desk tolerance f .args in
+      (newFinite LesserAdvanced (x .shape .capacity) (x .shape .orbitals) (x .old) (x .shape .points) (now (x .times)) (now (x .lesser-self-energy)) (retarded session desk tolerance f) ≡ ok)
+      × (lesserAdvanced ≡ cond ok (newNumbers LesserAdvanced (x .shape .capacity) (x .shape .orbitals) (x .old) (x .shape .points) (now (x .times)) (now (x .lesser-self-energy)) (retarded session desk tolerance f) (now (x .lesser-advanced))) (cleared (s session desk tolerance f) (now (x .lesser-advanced))))
   lesser-advanced-made ok e =
-      let x = s session tolerance f .args in
-      let z = s session tolerance f .pre .2 in
+      let x = s session desk tolerance f .args in
+      let z = s session desk tolerance f .pre .2 in
       let l = lengths z in
-      let long = solved session tolerance f .solve-new .kept .1 .1 .1 .1 .1 .0 in
-      new-sums-said LesserAdvanced (x .shape .capacity) (x .shape .orbitals) (x .old) (x .shape .points) (now (x .times)) (now (x .lesser-self-energy)) (retarded session tolerance f) (now (x .lesser-advanced))
-      (asked (s session tolerance f) _ (also-asked (l .1 .1 .0) (also-asked (long ∙ l .1 .1 .1 .0) (also-asked (l .1 .1 .1 .1 .1 .1 .0) (none-asked z))))) (summed .new-sums .ensures) ok (e ∙ f₂ .is-finite2 .ensures)
+      let long = solved session desk tolerance f .solve-new .kept .1 .1 .1 .1 .1 .0 in
+      new-sums-said LesserAdvanced (x .shape .capacity) (x .shape .orbitals) (x .old) (x .shape .points) (now (x .times)) (now (x .lesser-self-energy)) (retarded session desk tolerance f) (now (x .lesser-advanced))
+      (asked (s session desk tolerance f) _ (also-asked (l .1 .1 .0) (also-asked (long ∙ l .1 .1 .1 .0) (also-asked (l .1 .1 .1 .1 .1 .1 .0) (none-asked z))))) (summed .new-sums .ensures) ok (e ∙ f₂ .is-finite2 .ensures)
 
-  lesser-advanced-gone : let x = s session tolerance f .args in cleared (s session tolerance f) lesserAdvanced ≡ cleared (s session tolerance f) (now (x .lesser-advanced))
+  lesser-advanced-gone : let x = s session desk tolerance f .args in cleared (s session desk tolerance f) lesserAdvanced ≡ cleared (s session desk tolerance f) (now (x .lesser-advanced))
   lesser-advanced-gone =
-      let x = s session tolerance f .args in
-      sums-cleared (x .shape .capacity) (x .shape .orbitals) (x .old) (x .shape .points) LesserAdvanced (now (x .times)) (now (x .lesser-self-energy)) (retarded session tolerance f) (now (x .lesser-advanced)) (f₂ .is-finite2 .result) (lesser-advanced-made (f₂ .is-finite2 .result) refl .1)
+      let x = s session desk tolerance f .args in
+      sums-cleared (x .shape .capacity) (x .shape .orbitals) (x .old) (x .shape .points) LesserAdvanced (now (x .times)) (now (x .lesser-self-energy)) (retarded session desk tolerance f) (now (x .lesser-advanced)) (f₂ .is-finite2 .result) (lesser-advanced-made (f₂ .is-finite2 .result) refl .1)
 
 returns-2 : tie.Need-returns-2
-returns-2 c session tolerance =
+returns-2 c session desk tolerance =
     let f₂ = c .before in
-    let gone = retardeds-gone session tolerance (f session tolerance f₂) in (
-      lesser-advanced-fails _ _ (r session tolerance (f session tolerance f₂)) (first session tolerance f₂ .0) (first session tolerance f₂ .1) (lesser-advanced-made session tolerance f₂ false (sym (not-true _ (c .if2 .taken))) .0),
+    let gone = retardeds-gone session desk tolerance (f session desk tolerance f₂) in (
+      lesser-advanced-fails _ _ (r session desk tolerance (f session desk tolerance f₂)) (first session desk tolerance f₂ .0) (first session desk tolerance f₂ .1) (lesser-advanced-made session desk tolerance f₂ false (sym (not-true _ (c .if2 .taken))) .0),
       λ h. never h,
       gone .0,
       refl,
       gone .1,
-      lesser-advanced-gone session tolerance f₂,
+      lesser-advanced-gone session desk tolerance f₂,
     )
 
 -- G^<, by the last
 returns-3 : tie.Need-returns-3
-returns-3 c session tolerance =
+returns-3 c session desk tolerance =
     let w = c .before .before .before in
     let e = w .before .before .before .before in
     let f₂ = e .before in
-    let g = f session tolerance f₂ in
-    let t = s session tolerance g in
+    let g = f session desk tolerance f₂ in
+    let t = s session desk tolerance g in
     let y = t .args in
     let z = t .pre .2 in
     let l = lengths z in
-    let retarded-long = solved session tolerance g .solve-new .kept .1 .1 .1 .1 .1 .0 in
-    let lesser-advanced-long = summed session tolerance f₂ .new-sums .kept .1 .1 .1 .1 .1 .1 .0 in
-    let one = first session tolerance f₂ in
-    let m = lesser-advanced-made session tolerance f₂ true (sym (not-false _ (e .if2 .left))) in
+    let retarded-long = solved session desk tolerance g .solve-new .kept .1 .1 .1 .1 .1 .0 in
+    let lesser-advanced-long = summed session desk tolerance f₂ .new-sums .kept .1 .1 .1 .1 .1 .1 .0 in
+    let one = first session desk tolerance f₂ in
+    let m = lesser-advanced-made session desk tolerance f₂ true (sym (not-false _ (e .if2 .left))) in
     let numbers : List Float → List Float = λ xs. newNumbers LesserAdvanced (y .shape .capacity) (y .shape .orbitals) (y .old) (y .shape .points) (now (y .times)) (now (y .lesser-self-energy)) xs (now (y .lesser-advanced)) in
     let made = m .1 ∙ ap numbers (one .1) in
-    let o = new-sums-said Lesser (y .shape .capacity) (y .shape .orbitals) (y .old) (y .shape .points) (now (y .times)) (retarded session tolerance g) (lesserAdvanced session tolerance f₂) (now (y .lesser))
+    let o = new-sums-said Lesser (y .shape .capacity) (y .shape .orbitals) (y .old) (y .shape .points) (now (y .times)) (retarded session desk tolerance g) (lesserAdvanced session desk tolerance f₂) (now (y .lesser))
     (asked t _ (also-asked (retarded-long ∙ l .1 .1 .1 .0) (also-asked (lesser-advanced-long ∙ l .1 .1 .1 .1 .1 .1 .0) (also-asked (l .1 .1 .1 .1 .0) (none-asked z))))) (w .new-sums2 .ensures) (c .is-finite3 .result) (c .is-finite3 .ensures) in
-    let gone = retardeds-gone session tolerance g in (
-      lesser-says _ _ (r session tolerance g) (one .0) (one .1) (m .0) made (o .0),
+    let gone = retardeds-gone session desk tolerance g in (
+      lesser-says _ _ (r session desk tolerance g) (one .0) (one .1) (m .0) made (o .0),
       λ h. (one .1, (rw h at (o .1)) ∙ ap₂ (λ (xs ys : List Float). newNumbers Lesser (y .shape .capacity) (y .shape .orbitals) (y .old) (y .shape .points) (now (y .times)) xs ys (now (y .lesser))) (one .1) made, one .2, made),
       gone .0,
-      sums-cleared (y .shape .capacity) (y .shape .orbitals) (y .old) (y .shape .points) Lesser (now (y .times)) (retarded session tolerance g) (lesserAdvanced session tolerance f₂) (now (y .lesser)) (c .is-finite3 .result) (o .1),
+      sums-cleared (y .shape .capacity) (y .shape .orbitals) (y .old) (y .shape .points) Lesser (now (y .times)) (retarded session desk tolerance g) (lesserAdvanced session desk tolerance f₂) (now (y .lesser)) (c .is-finite3 .result) (o .1),
       gone .1,
-      lesser-advanced-gone session tolerance f₂,
+      lesser-advanced-gone session desk tolerance f₂,
     )
 
 pub work-spec : {M : Type 1} → statement M

@@ -3,26 +3,14 @@ use Rattle.lists.specs.Prelude.{_≡_, refl, List, [], _∷_, _++_, map, ℕ, r
 use lib.Ieee as Ieee
 use Rattle.complex.specs.Arithmetic.{plusZero, one}
 use Rattle.refusal.specs.Verdict.{by}
-use Rattle.refusal.specs.Checks.{withinCapacity, counterHolds}
 use Rattle.two_time.specs.declared.sums.Sums.the-variants.{LesserAdvanced, Lesser}
 use Rattle.two_time.specs.Sums.{sumsNumbers}
-use Rattle.two_time.specs.New.{isNew, written, everyNew}
-use Rattle.two_time.specs.Sums.{intervalCount, newNumbers, newFinite}
-use Rattle.two_time.specs.Calls.{capacityChecks, pointEntries, pointOperands}
 use Rattle.two_time.specs.Computation.{computation}
 use Rattle.two_time.specs.Example as Example
 use Rattle.two_time.specs.Example.{floats, bits}
-use Rattle.dyson.specs.Retarded.{retardedOnward, newRetarded, newRetardedFinite}
-use Rattle.dyson.specs.Calls.{solvedNewFinite}
-use Rattle.dyson.specs.Cases.{dysonComputation}
 use Rattle.transient_run.specs.declared.Solved.the-variants.{Accepted, Refused as NotSolved}
-use Rattle.transient_run.specs.Products.{total, formed}
-use Rattle.transient_run.specs.Calls.{Run, runOf, solved, solvedNumber, madeFinite, checksOf, verdictOf, worked, transientRun, appendPoint}
-
--- what cases of runs and appends compute with
-unfoldable pub runComputation : Unit {0}
-unfolding dysonComputation isNew written everyNew newNumbers newFinite newRetarded newRetardedFinite retardedOnward solvedNewFinite withinCapacity capacityChecks pointEntries pointOperands solved solvedNumber total intervalCount formed counterHolds madeFinite checksOf verdictOf worked transientRun appendPoint
-runComputation = tt
+use Rattle.transient_run.specs.Calls.{Run, runOf, solvedNumber, transientRun}
+use Rattle.transient_run.specs.Computation.{runComputation}
 
 -- ---- two orbitals, from the retarded function that the Dyson case gives
 
@@ -47,7 +35,7 @@ abbrev ones : List Float
 ones = replicate 8 one
 
 abbrev on : List Float → Float → List Float → List Float → List Float → Run
-on times tolerance free selfEnergy lesserSelfEnergy = runOf (record { products = 0 }) (record { points = 2; capacity = 2; orbitals = 1 }) tolerance times free selfEnergy lesserSelfEnergy ones ones ones ones
+on times tolerance free selfEnergy lesserSelfEnergy = runOf (record { products = replicate 8 0 }) 0 (record { points = 2; capacity = 2; orbitals = 1 }) tolerance times free selfEnergy lesserSelfEnergy ones ones ones ones
 
 abbrev run : Float → List Float → List Float → List Float → Run
 run = on (plusZero ∷ one ∷ [])
