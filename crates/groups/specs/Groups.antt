@@ -102,12 +102,12 @@ group-is g =
     )
 
 -- the answer once checks 1 to 3 pass
-answer-passed : (v : Verdict) (finite : Bool) → v ≡ Pass → summedAnswer v finite ≡ cond finite Finite Overflow
+pub answer-passed : (v : Verdict) (finite : Bool) → v ≡ Pass → summedAnswer v finite ≡ cond finite Finite Overflow
 unfolding summedAnswer
 answer-passed v true e = rw e
 answer-passed v false e = rw e
 
-unfit-also : (b : Bool) (x : Summed) → x ≡ Unfit → cond b x Unfit ≡ Unfit
+pub unfit-also : (b : Bool) (x : Summed) → x ≡ Unfit → cond b x Unfit ≡ Unfit
 unfit-also true x e = e
 unfit-also false x e = refl
 
@@ -117,7 +117,7 @@ module _ {points n t u places : ℕ} (g : Grouped points n t u places) (totals :
   abbrev answer : Summed
   answer = cond (eqb (length out) (places * (2 * (n * n)))) (cond finite Finite Overflow) Unfit
 
-  written-is : written totals n places until out ≡ record { answer = answer; out = summedOut answer made out }
+  pub written-is : written totals n places until out ≡ record { answer = answer; out = summedOut answer made out }
   unfolding written
   written-is = rw (le-leb _ _ (g .orbitals-most), le-leb _ _ (g .most), le-leb _ _ (g .few), eq-eqb _ _ long, is-finite, is-made)
 

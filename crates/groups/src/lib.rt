@@ -1,15 +1,15 @@
 // The sums at a group of neighbouring places of a row, side by side: at most 16 columns, each summed by the same steps as an entry alone. Their
 // totals stand in lanes (crate `lanes`).
 mod adding;
+pub mod onto;
 mod packing;
 
-ghost use Rattle.lists.specs.Prelude.{_≡_, ℕ, _+_, _*_, _<_, _≤_, length, replicate};
-ghost use Rattle.complex.specs.Arithmetic.{plusZero};
+ghost use Rattle.lists.specs.Prelude.{_≡_, ℕ, _+_, _*_, _<_, _≤_, length};
 ghost use Rattle.two_time.specs.Layout.{readAs, lengthOf};
 ghost use Rattle.two_time.specs.Sums.{dysonTerms};
 ghost use Rattle.two_time.specs.WeightedSum.{weightedSum};
 ghost use Rattle.lanes.specs.Lanes.{laneAt};
-ghost use Rattle.groups.specs.PlaceSums.{sumAt};
+ghost use Rattle.groups.specs.PartialSums.{termsOf};
 ghost use Rattle.groups.specs.Groups.{isGroup, isBelow, groupSums, forwardGroup};
 use crate::adding::sum_group;
 use crate::packing::pack;
@@ -24,7 +24,7 @@ use two_time::sums::Summed;
 use two_time::sums::Sums;
 
 // Whether the places from (t, u) on are there, and few enough for the lanes.
-fn is_group(points: usize, orbitals: usize, t: usize, u: usize, places: usize) -> bool
+pub fn is_group(points: usize, orbitals: usize, t: usize, u: usize, places: usize) -> bool
     ensures { λ r. ⌜ r ≡ isGroup points orbitals t u places ⌝ }
 {
     let limits = (points <= 256) & (orbitals <= 16);
@@ -46,8 +46,8 @@ fn is_below(points: usize, orbitals: usize, t: usize, u: usize, places: usize) -
     u + places <= t + 1
 }
 
-// Leaves the sums at the places of row t from u on in totals of +0.
-fn group_totals(
+// Adds the sums at the places of row t from u on to totals that are given.
+pub(crate) fn group_totals(
     sums: Sums,
     times: &[f64],
     left: &[f64],
@@ -61,9 +61,9 @@ fn group_totals(
 )
     requires { ⌜ (t < points) × (points ≤ 256) × (0 < orbitals) × (orbitals ≤ 16) × (0 < places) × (u + places ≤ points) × (places * orbitals ≤ 16) ⌝ }
     requires { ⌜ (lengthOf points orbitals ≤ length (now left)) × (lengthOf points orbitals ≤ length (now right)) × (length (now left) ≤ 33554432) ⌝ }
-    requires { ⌜ now totals ≡ replicate 512 plusZero ⌝ }
+    requires { ⌜ length (now totals) ≡ 512 ⌝ }
     ensures { λ _. ⌜ (length (now (totals .exit)) ≡ 512) × ((a p b : ℕ) → a < orbitals → p < places → b < orbitals → laneAt (now (totals .exit)) a (p * orbitals + b)
-        ≡ sumAt sums points orbitals (now (times .entry)) (now (left .entry)) (now (right .entry)) t (u + p) a b) ⌝ }
+        ≡ weightedSum orbitals (termsOf sums points points orbitals (now (times .entry)) (now (left .entry)) (now (right .entry)) t (u + p) (laneAt (now (totals .entry)) a (p * orbitals + b))) a b) ⌝ }
 {
     let span = span_of(sums, points, t, u, places);
     sum_group(

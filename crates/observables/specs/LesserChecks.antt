@@ -6,20 +6,15 @@ use Rattle.refusal.specs.declared.Verdict.{Verdict}
 use Rattle.refusal.specs.declared.Verdict.the-variants.{Pass, Refused}
 use Rattle.refusal.specs.Verdict.{by, _then_}
 use Rattle.refusal.specs.Agreement.{ask-pass, then-pass, then-agree, then-assoc, then-after, then-refused}
-use Rattle.refusal.specs.Checks.{largeEnough, notEmpty, withinLimits, withinBlock, fitting, finiteEntries, withinCapacity, timeBelow}
+use Rattle.refusal.specs.Checks.{fitting, finiteEntries, withinCapacity, timeBelow}
 use Rattle.matrix.specs.declared.DenseMatrix.{DenseMatrix}
 use Rattle.matrix.specs.Dense.{countOf}
 use Rattle.two_time.specs.Layout.{lengthOf}
-use Rattle.two_time.specs.Calls.{allLong, allFit, pointEntries, pointChecks}
+use Rattle.two_time.specs.Calls.{allLong, allFit, blockSizes, pointEntries, pointChecks}
 use Rattle.two_time.specs.SizeChecks.{SizesPassed, large, limited, long-also, long-none, long-first}
 use Rattle.two_time.specs.CapacityChecks.{points-asked}
 use Rattle.observables.specs.Calls.{lesserBlockChecks}
 use Rattle.observables.specs.Passed.{Passed, below}
-
--- checks 1, 2, 3 and 16: `fits` says whether the function's length and the block's shape fit
-abbrev pub blockSizes : ℕ → ℕ → ℕ → ℕ → ℕ → Bool → Verdict
-blockSizes capacity points orbitals rows columns fits =
-    (largeEnough points orbitals then notEmpty rows columns) then (withinLimits capacity orbitals then withinBlock rows columns) then fitting fits then withinCapacity points capacity
 
 module _ (capacity points orbitals : ℕ) (lesser : List Float) (x : DenseMatrix) where
   -- the block is n by n

@@ -3,19 +3,13 @@ ghost use Rattle.lists.specs.Prelude.{_≡_};
 ghost use Rattle.refusal.specs.Verdict.{_then_};
 ghost use Rattle.refusal.specs.Checks.{timeBelow};
 ghost use Rattle.observables.specs.Calls.{lesserChecks, lesserBlockChecks};
-ghost use Rattle.observables.specs.LesserChecks.{blockSizes};
 ghost use Rattle.observables.specs.Answers.{withArguments};
 use refusal::Verdict;
 use refusal::checks::finite_entries;
-use refusal::checks::fitting;
-use refusal::checks::large_enough;
-use refusal::checks::not_empty;
 use refusal::checks::time_below;
 use refusal::checks::valid_tolerance;
-use refusal::checks::within_block;
-use refusal::checks::within_capacity;
-use refusal::checks::within_limits;
 use two_time::capacity::Shape;
+use two_time::capacity::check_block_sizes;
 use two_time::capacity::check_points;
 use two_time::checks::has_length;
 
@@ -45,16 +39,6 @@ pub(crate) fn check_arguments(
     inputs.then(valid_tolerance(tolerance).then(time_below(time, points)))
 }
 
-// 1, 2 and 3, each of the function before the block, then 16: `fits` says whether the length and the shape fit.
-fn block_sizes(shape: Shape, rows: usize, columns: usize, fits: bool) -> Verdict
-    ensures { λ r. ⌜ r ≡ blockSizes (shape .capacity) (shape .points) (shape .orbitals) rows columns fits ⌝ }
-{
-    let some = large_enough(shape.points, shape.orbitals).then(not_empty(rows, columns));
-    let most = within_limits(shape.capacity, shape.orbitals).then(within_block(rows, columns));
-    let room = fitting(fits).then(within_capacity(shape.points, shape.capacity));
-    some.then(most.then(room))
-}
-
 // All five checks of both, the block by its rows, columns and numbers. `check_points` asks the function's sizes again, which passed.
 pub(crate) fn check_lesser_block(
     lesser: &[f64],
@@ -67,7 +51,7 @@ pub(crate) fn check_lesser_block(
 {
     let square = (rows == shape.orbitals) & (columns == shape.orbitals);
     let fits = has_length(shape.capacity, shape.orbitals, lesser) & square;
-    let verdict = block_sizes(shape, rows, columns, fits);
+    let verdict = check_block_sizes(shape, rows, columns, fits);
     let Verdict::Pass = verdict else {
         return verdict;
     };

@@ -1,5 +1,5 @@
 -- Document 01, transient: the outcome of a transient run, "The device starts empty."; document 02, L1: in slices
--- laid out for a capacity, and of an append; L3: with the count of its products, in a session; L13: at a desk.
+-- laid out for a capacity, and of an append; L3: with the count of its products, in a session; L13: at a desk; L5: of either form.
 use Rattle.lists.specs.Prelude.{ℕ, suc, _+_, Bool, true, false, _&&_, List, [], _∷_, eqb, length, getD, set, Float}
 use Rattle.refusal.specs.declared.Verdict.{Verdict}
 use Rattle.refusal.specs.declared.Verdict.the-variants.{Pass, Refused}
@@ -7,20 +7,23 @@ use Rattle.refusal.specs.Verdict.{_then_, zeroed, afterwards}
 use Rattle.refusal.specs.Checks.{finiteWork, counterHolds, deskKnown}
 use Rattle.grid.specs.Calls.{gridChecks}
 use Rattle.two_time.specs.declared.capacity.Shape.{Shape}
-use Rattle.two_time.specs.declared.sums.Sums.the-variants.{LesserAdvanced, Lesser}
-use Rattle.two_time.specs.Layout.{readAs}
+use Rattle.two_time.specs.declared.sums.Sums.the-variants.{LesserAdvanced}
+use Rattle.two_time.specs.Layout.{readAs, lengthOf}
 use Rattle.two_time.specs.New.{clearedNew}
 use Rattle.two_time.specs.Sums.{newNumbers, newFinite}
-use Rattle.two_time.specs.Calls.{capacityChecks, pointOperands}
+use Rattle.two_time.specs.Start.{Start, newLesserNumbers, newLesserFinite}
+use Rattle.two_time.specs.Calls.{allLong, pointOperands}
 use Rattle.dyson.specs.Calls.{supportChecks, newKernel, newGreen, solvedNewFinite}
 use Rattle.transient_run.specs.declared.Solved.{Solved}
 use Rattle.transient_run.specs.declared.Session.{Session}
 use Rattle.transient_run.specs.declared.Solved.the-variants.{Accepted, Refused as NotSolved}
 use Rattle.transient_run.specs.Products.{formed}
+use Rattle.transient_run.specs.Form.{Form, formSizes, formEntries, startOf, startProducts}
 
--- What a call is given: its session and its desk, how many points it is told, the capacity, "Operands: free, retarded self-energy, Σ^<", and what
+-- What a call is given: its form, its session and its desk, how many points it is told, the capacity, "Operands: free, retarded self-energy, Σ^<", and what
 -- its outputs and scratch hold before
 pub record Run : Type 0 where
+  pub form : Form
   pub session : Session
   pub desk : ℕ
   pub points : ℕ
@@ -41,9 +44,10 @@ abbrev pub counterOf : Session → ℕ → ℕ
 counterOf session desk = getD (session .products) desk 0
 
 -- the run of a call
-abbrev pub runOf : Session → ℕ → Shape → Float → List Float → List Float → List Float → List Float → List Float → List Float → List Float → List Float → Run
-runOf session desk shape tolerance times free selfEnergy lesserSelfEnergy retarded lesser kernel lesserAdvanced =
+abbrev pub runOf : Form → Session → ℕ → Shape → Float → List Float → List Float → List Float → List Float → List Float → List Float → List Float → List Float → Run
+runOf form session desk shape tolerance times free selfEnergy lesserSelfEnergy retarded lesser kernel lesserAdvanced =
     record {
+      form = form;
       session = session;
       desk = desk;
       points = shape .points;
@@ -100,25 +104,29 @@ module _ (old points : ℕ) (r : Run) where
   abbrev pub lesserAdvancedMade : List Float
   lesserAdvancedMade = newNumbers LesserAdvanced (r .capacity) (r .orbitals) old points (r .times) (r .lesserSelfEnergy) retardedMade (r .lesserAdvanced)
 
+  -- what G^< starts from
+  abbrev pub lesserStart : Start
+  lesserStart = startOf (r .form) (r .capacity) (r .orbitals) retardedMade
+
   abbrev pub lesserMade : List Float
-  lesserMade = newNumbers Lesser (r .capacity) (r .orbitals) old points (r .times) retardedMade lesserAdvancedMade (r .lesser)
+  lesserMade = newLesserNumbers lesserStart (r .capacity) (r .orbitals) old points (r .times) retardedMade lesserAdvancedMade (r .lesser)
 
   -- every block made for the four is finite
   unfoldable pub madeFinite : Bool
   madeFinite =
       solvedNewFinite (r .capacity) (r .orbitals) old points (r .times) (r .free) (r .selfEnergy) (r .retarded) (r .kernel)
       && (newFinite LesserAdvanced (r .capacity) (r .orbitals) old points (r .times) (r .lesserSelfEnergy) retardedMade
-      && newFinite Lesser (r .capacity) (r .orbitals) old points (r .times) retardedMade lesserAdvancedMade)
+      && newLesserFinite lesserStart (r .capacity) (r .orbitals) old points (r .times) retardedMade lesserAdvancedMade)
 
   -- checks 22, 1, 2, 3 and 16; "Lines 4 to 9 are asked over all points": 4 to 7, then as Dyson asks: 8, 9 for free, 9 for the retarded self-energy; then 17
   unfoldable pub checksOf : Verdict
   checksOf =
       (deskKnown (r .desk)
-      then capacityChecks (r .capacity) points (r .orbitals) (eqb (length (r .times)) (r .capacity))
-      (r .free ∷ r .selfEnergy ∷ r .lesserSelfEnergy ∷ r .retarded ∷ r .lesser ∷ r .kernel ∷ r .lesserAdvanced ∷ []))
-      then gridChecks points (r .times) then pointOperands (r .capacity) points (r .orbitals) 0 (r .free ∷ r .selfEnergy ∷ r .lesserSelfEnergy ∷ [])
+      then formSizes (r .form) (r .capacity) points (r .orbitals) (eqb (length (r .times)) (r .capacity)
+      && allLong (lengthOf (r .capacity) (r .orbitals)) (r .free ∷ r .selfEnergy ∷ r .lesserSelfEnergy ∷ r .retarded ∷ r .lesser ∷ r .kernel ∷ r .lesserAdvanced ∷ [])))
+      then gridChecks points (r .times) then (pointOperands (r .capacity) points (r .orbitals) 0 (r .free ∷ r .selfEnergy ∷ r .lesserSelfEnergy ∷ []) then formEntries (r .form))
       then supportChecks points (r .orbitals) (r .tolerance) (readAs (r .capacity) (r .orbitals) (r .free)) (readAs (r .capacity) (r .orbitals) (r .selfEnergy))
-      then counterHolds (counterOf (r .session) (r .desk)) (formed old points)
+      then counterHolds (counterOf (r .session) (r .desk)) (formed (startProducts (r .form)) old points)
 
   -- and 10
   unfoldable pub verdictOf : Verdict
@@ -128,7 +136,7 @@ module _ (old points : ℕ) (r : Run) where
   unfoldable pub worked : (List Float → List Float) → Outcome
   worked cleared =
       record {
-        answer = solved verdictOf (formed old points);
+        answer = solved verdictOf (formed (startProducts (r .form)) old points);
         retarded = afterwards cleared verdictOf retardedMade (r .retarded);
         lesser = afterwards cleared verdictOf lesserMade (r .lesser);
         kernel = afterwards cleared verdictOf kernelMade (r .kernel);

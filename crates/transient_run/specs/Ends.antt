@@ -8,6 +8,7 @@ use Rattle.refusal.specs.Agreement.{then-refused}
 use Rattle.refusal.specs.Unchanged.{keeping-clears}
 use Rattle.transient_run.specs.declared.Solved.the-variants.{Accepted, Refused as NotSolved}
 use Rattle.transient_run.specs.Products.{formed}
+use Rattle.transient_run.specs.Form.{startProducts}
 use Rattle.transient_run.specs.Calls.{Run, Outcome, solved, kernelMade, retardedMade, lesserAdvancedMade, lesserMade, madeFinite, checksOf, verdictOf, worked}
 use Rattle.transient_run.specs.Checks.{accepted-with, refused, checks-keeping}
 
@@ -21,7 +22,7 @@ module _ (old points : ℕ) (r : Run) (clear : List Float → List Float) where
   module _ (passed : checksOf old points r ≡ Pass) where
     -- all that is made is finite
     pub work-end : madeFinite old points r ≡ true
-        → worked old points r clear ≡ record { answer = Accepted (formed old points); retarded = retardedMade old points r; lesser = lesserMade old points r; kernel = kernelMade old points r; lesserAdvanced = lesserAdvancedMade old points r }
+        → worked old points r clear ≡ record { answer = Accepted (formed (startProducts (r .form)) old points); retarded = retardedMade old points r; lesser = lesserMade old points r; kernel = kernelMade old points r; lesserAdvanced = lesserAdvancedMade old points r }
     unfolding worked verdictOf _then_ finiteWork ask afterwards solved
     work-end e = rw (passed, e)
 

@@ -1,16 +1,18 @@
 -- P12 of document 01, made stage by stage: each stage is computed from what the stage before it left. Assumes nothing.
-use Rattle.lists.specs.Prelude.{_≡_, refl, ap, _∙_, true, List, [], _∷_, ℕ, length, replicate, Float}
+use Rattle.lists.specs.Prelude.{_≡_, refl, ap, _∙_, true, _&&_, List, [], _∷_, ℕ, eqb, length, replicate, Float}
 use Rattle.refusal.specs.declared.Verdict.the-variants.{Pass, Refused}
 use Rattle.refusal.specs.Verdict.{by, ask, _then_, afterwards}
 use Rattle.refusal.specs.Checks.{finiteWork, withinCapacity, counterHolds, deskKnown}
 use Rattle.grid.specs.Calls.{gridChecks}
 use Rattle.two_time.specs.declared.sums.Sums.the-variants.{Causal, LesserAdvanced, Lesser}
-use Rattle.two_time.specs.Layout.{readAs}
+use Rattle.two_time.specs.Layout.{readAs, lengthOf}
 use Rattle.two_time.specs.New.{isNew}
 use Rattle.two_time.specs.Sums.{sumsNumbers, sumsFinite}
 use Rattle.two_time.specs.Sums.{newNumbers}
-use Rattle.two_time.specs.Calls.{capacityChecks, pointEntries, pointOperands}
+use Rattle.two_time.specs.Calls.{allLong, pointEntries, pointOperands}
 use Rattle.two_time.specs.Outcome.{all-finite, all-numbers}
+use Rattle.two_time.specs.Start.{empty as fromNothing, newLesserNumbers}
+use Rattle.two_time.specs.Started.{empty-numbers, empty-finite}
 use Rattle.two_time.specs.Computation.{computation}
 use Rattle.two_time.specs.Example.{floats}
 use Rattle.dyson.specs.Retarded.{solve, retardedOnward, retardedNumbers, retardedFinite}
@@ -18,7 +20,9 @@ use Rattle.dyson.specs.Calls.{supportChecks, newGreen, solvedFinite}
 use Rattle.dyson.specs.NewSolved.{finite-all, green-all}
 use Rattle.transient_run.specs.declared.Session.{Session}
 use Rattle.transient_run.specs.declared.Solved.the-variants.{Accepted, Refused as NotSolved}
-use Rattle.transient_run.specs.Products.{total, formed}
+use Rattle.transient_run.specs.Products.{total, overNew, formed}
+use Rattle.transient_run.specs.Form.{formSizes, formEntries, startOf, startProducts}
+use Rattle.transient_run.specs.Form.Form.{empty}
 use Rattle.transient_run.specs.Calls.{Run, counterOf, runOf, solved, madeFinite, checksOf, verdictOf, worked, transientRun}
 
 -- 0, 1, 2
@@ -98,7 +102,7 @@ lesser-finite = refl
 
 -- the run in a session, with outputs and scratch that hold `before`; at desk 0 of one opened at 0
 abbrev pub runIn : Session → ℕ → Float → List Float → Run
-runIn session desk tolerance before = runOf session desk (record { points = 3; capacity = 3; orbitals = 1 }) tolerance times lower lower imaginary before before before before
+runIn session desk tolerance before = runOf empty session desk (record { points = 3; capacity = 3; orbitals = 1 }) tolerance times lower lower imaginary before before before before
 
 abbrev pub opened : Session
 opened = record { products = replicate 8 0 }
@@ -106,8 +110,9 @@ opened = record { products = replicate 8 0 }
 abbrev pub run : Float → List Float → Run
 run = runIn opened 0
 
-sizes : (before : List Float) → length before ≡ 18 → capacityChecks 3 3 1 true (lower ∷ lower ∷ imaginary ∷ before ∷ before ∷ before ∷ before ∷ []) ≡ Pass
-unfolding computation capacityChecks withinCapacity
+sizes : (before : List Float) → length before ≡ 18
+    → formSizes empty 3 3 1 (eqb (length times) 3 && allLong (lengthOf 3 1) (lower ∷ lower ∷ imaginary ∷ before ∷ before ∷ before ∷ before ∷ [])) ≡ Pass
+unfolding computation formSizes withinCapacity
 sizes before h = rw h
 
 inputs : (gridChecks 3 times ≡ Pass) × (pointOperands 3 3 1 0 (lower ∷ lower ∷ imaginary ∷ []) ≡ Pass)
@@ -115,8 +120,8 @@ unfolding computation pointOperands pointEntries
 inputs = (refl, refl)
 
 -- "N(N+1)(2N+1)/6 + N·N·(N+1) − 3N" at three points, which a counter at 0 holds; desk 0 is a desk
-counted : (formed 0 3 ≡ 41) × (counterHolds 0 (formed 0 3) ≡ Pass) × (deskKnown 0 ≡ Pass)
-unfolding computation counterHolds deskKnown formed total isNew
+counted : (formed 0 0 3 ≡ 41) × (counterHolds 0 (formed 0 0 3) ≡ Pass) × (deskKnown 0 ≡ Pass)
+unfolding computation counterHolds deskKnown formed overNew total isNew
 counted = (refl, refl, refl)
 
 module _ (tolerance : Float) (before : List Float) (long : length before ≡ 18) (passed : supportChecks 3 1 tolerance (readAs 3 1 lower) (readAs 3 1 lower) ≡ Pass) where
@@ -130,26 +135,26 @@ module _ (tolerance : Float) (before : List Float) (long : length before ≡ 18)
   lesser-advanced-made : newNumbers LesserAdvanced 3 1 0 3 times imaginary (floats retardedBits) before ≡ floats lesserAdvancedBits
   lesser-advanced-made = all-numbers LesserAdvanced 3 1 times imaginary (floats retardedBits) before ∙ lesser-advanced-stage
 
-  lesser-made : newNumbers Lesser 3 1 0 3 times (floats retardedBits) (floats lesserAdvancedBits) before ≡ floats lesserBits
-  lesser-made = all-numbers Lesser 3 1 times (floats retardedBits) (floats lesserAdvancedBits) before ∙ lesser-stage
+  lesser-made : newLesserNumbers fromNothing 3 1 0 3 times (floats retardedBits) (floats lesserAdvancedBits) before ≡ floats lesserBits
+  lesser-made = empty-numbers 3 1 0 3 times (floats retardedBits) (floats lesserAdvancedBits) before ∙ all-numbers Lesser 3 1 times (floats retardedBits) (floats lesserAdvancedBits) before ∙ lesser-stage
 
   finite : (session : Session) (desk : ℕ) → madeFinite 0 3 (runIn session desk tolerance before) ≡ true
-  unfolding madeFinite solvedFinite
+  unfolding madeFinite solvedFinite startOf
   finite session desk =
       rw (retarded-made, lesser-advanced-made, finite-all 3 1 times lower lower before before, all-finite LesserAdvanced 3 1 times imaginary (floats retardedBits) before)
-      (rw (all-finite Lesser 3 1 times (floats retardedBits) (floats lesserAdvancedBits) before, kernel-finite, kernel-stage, retarded-finite, lesser-advanced-finite, lesser-finite))
+      (rw (empty-finite 3 1 0 3 times (floats retardedBits) (floats lesserAdvancedBits), all-finite Lesser 3 1 times (floats retardedBits) (floats lesserAdvancedBits) before, kernel-finite, kernel-stage, retarded-finite, lesser-advanced-finite, lesser-finite))
 
-  verdict-in : (session : Session) (desk : ℕ) → deskKnown desk ≡ Pass → counterHolds (counterOf session desk) (formed 0 3) ≡ Pass → verdictOf 0 3 (runIn session desk tolerance before) ≡ Pass
-  unfolding verdictOf checksOf _then_ finiteWork ask
+  verdict-in : (session : Session) (desk : ℕ) → deskKnown desk ≡ Pass → counterHolds (counterOf session desk) (formed 0 0 3) ≡ Pass → verdictOf 0 3 (runIn session desk tolerance before) ≡ Pass
+  unfolding verdictOf checksOf _then_ finiteWork ask formSizes formEntries startProducts
   verdict-in session desk known room = rw (finite session desk, known, sizes before long, inputs .0, inputs .1, passed, room)
 
   pub verdict : verdictOf 0 3 (run tolerance before) ≡ Pass
   verdict = verdict-in opened 0 (counted .2) (counted .1)
 
   -- "G^<(1,1) = 1.5625i, G^<(2,2) = 14.0625i", whatever tolerance passes checks 8 and 9, wherever the counter has room
-  pub outcome-in : (session : Session) (desk : ℕ) → deskKnown desk ≡ Pass → counterHolds (counterOf session desk) (formed 0 3) ≡ Pass → transientRun (runIn session desk tolerance before)
+  pub outcome-in : (session : Session) (desk : ℕ) → deskKnown desk ≡ Pass → counterHolds (counterOf session desk) (formed 0 0 3) ≡ Pass → transientRun (runIn session desk tolerance before)
       ≡ record { answer = Accepted 41; retarded = floats retardedBits; lesser = floats lesserBits; kernel = floats kernelBits; lesserAdvanced = floats lesserAdvancedBits }
-  unfolding transientRun worked afterwards solved
+  unfolding transientRun worked afterwards solved startOf startProducts
   outcome-in session desk known room = rw (verdict-in session desk known room, counted .0, retarded-made, lesser-advanced-made, lesser-made, kernel-made)
 
   pub outcome : transientRun (run tolerance before)
@@ -157,7 +162,7 @@ module _ (tolerance : Float) (before : List Float) (long : length before ≡ 18)
   outcome = outcome-in opened 0 (counted .2) (counted .1)
 
   -- and 17 where it has none: every slice is as it was
-  pub full : (session : Session) (desk : ℕ) → deskKnown desk ≡ Pass → counterHolds (counterOf session desk) (formed 0 3) ≡ Refused (by 17) → transientRun (runIn session desk tolerance before)
+  pub full : (session : Session) (desk : ℕ) → deskKnown desk ≡ Pass → counterHolds (counterOf session desk) (formed 0 0 3) ≡ Refused (by 17) → transientRun (runIn session desk tolerance before)
       ≡ record { answer = NotSolved (by 17); retarded = before; lesser = before; kernel = before; lesserAdvanced = before }
-  unfolding transientRun worked verdictOf checksOf _then_ afterwards solved
+  unfolding transientRun worked verdictOf checksOf _then_ afterwards solved startProducts formEntries
   full session desk known none = rw (known, sizes before long, inputs .0, inputs .1, passed, none)

@@ -7,12 +7,12 @@ use Rattle.refusal.specs.Verdict.{by, ask, _then_}
 use Rattle.refusal.specs.Checks.{largeEnough, withinLimits, fitting, withinCapacity, deskKnown}
 use Rattle.refusal.specs.Agreement.{ask-pass, then-pass, then-agree, then-refused}
 use Rattle.two_time.specs.New.{clearedNew}
-use Rattle.two_time.specs.Calls.{capacityChecks}
 use Rattle.two_time.specs.SizeChecks.{limited}
-use Rattle.two_time.specs.CapacityChecks.{capacity-passed}
 use Rattle.transient_run.specs.declared.Solved.the-variants.{Refused as NotSolved}
+use Rattle.transient_run.specs.Form.{Form, formSizes}
+use Rattle.transient_run.specs.Form.Form.{empty, occupied}
 use Rattle.transient_run.specs.Calls.{Run, Outcome, solved, madeFinite, checksOf, verdictOf, worked, appendPoint}
-use Rattle.transient_run.specs.Checks.{slices, sizesAsked}
+use Rattle.transient_run.specs.Checks.{allLent, sizesAsked, sizes-said}
 use Rattle.transient_run.specs.Ends.{checks-end}
 
 -- 16 of points past the capacity
@@ -24,21 +24,15 @@ past points capacity h = rw (no (leb points capacity) (λ e. let l = leb-true po
     no true g = absurd (g refl)
     no false g = refl
 
--- points within a capacity that is within its limit
-pub sizes-least : (points capacity n : ℕ) (fits : Bool) → (largeEnough points n then withinLimits capacity n then fitting fits then withinCapacity points capacity) ≡ Pass → points ≤ 256
-unfolding withinCapacity
-sizes-least points capacity n fits e =
-    let a = then-pass _ _ (then-pass _ _ e .1) in
-    let most = limited capacity n (a .0) .0 in
-    let within = leb-true points capacity (ask-pass _ (by 16) (then-pass _ _ (a .1) .1)) in
-    omega arith
-
 -- two counts past 256 are alike
-sizes-alike : (capacity p q n : ℕ) (fits : Bool) (slices : List (List Float)) → 256 < p → 256 < q → capacityChecks capacity p n fits slices ≡ capacityChecks capacity q n fits slices
-unfolding capacityChecks largeEnough
-sizes-alike capacity p q n fits slices hp hq =
+sizes-alike : (form : Form) (capacity p q n : ℕ) (fits : Bool) → 256 < p → 256 < q → formSizes form capacity p n fits ≡ formSizes form capacity q n fits
+unfolding formSizes largeEnough
+sizes-alike empty capacity p q n fits hp hq =
     rw (le-leb 2 p (omega arith), le-leb 2 q (omega arith))
     (then-agree _ _ _ _ refl (λ a. then-agree _ _ _ _ refl (λ b. let most = limited capacity n b .0 in then-agree _ _ _ _ refl (λ c. past p capacity (omega arith) ∙ sym (past q capacity (omega arith))))))
+sizes-alike (occupied g0) capacity p q n fits hp hq =
+    rw (le-leb 2 p (omega arith), le-leb 2 q (omega arith))
+    (then-agree _ _ _ _ refl (λ a. then-agree _ _ _ _ refl (λ b. let most = limited capacity n (then-pass _ _ b .0) .0 in then-agree _ _ _ _ refl (λ c. past p capacity (omega arith) ∙ sym (past q capacity (omega arith))))))
 
 -- a call that is refused by its sizes answers the refusal and leaves every slice
 module _ (old points : ℕ) (r : Run) (clear : List Float → List Float) (x : Refusal) (refused : sizesAsked points r ≡ Refused x) where
@@ -50,6 +44,7 @@ module _ (old points : ℕ) (r : Run) (clear : List Float → List Float) (x : R
 abbrev pub withPoints : Run → ℕ → Run
 withPoints r k =
     record {
+      form = r .form;
       session = r .session;
       desk = r .desk;
       points = k;
@@ -81,9 +76,9 @@ module _ (r : Run) where
   past-alike p q hp hq old old' = by-sizes (sizesAsked p r) refl
     where
       by-sizes : (v : Verdict) → sizesAsked p r ≡ v → appendTo old p ≡ appendTo old' q
-      by-sizes Pass e = let z = capacity-passed (r .capacity) p (r .orbitals) _ (slices p r) (then-pass (deskKnown (r .desk)) _ e .1) in absurd (let within = z .1 in let most = z .2 .points-most in omega arith)
+      by-sizes Pass e = let z = sizes-said p r e in absurd (let within = z .1 in let most = z .2 .points-most in omega arith)
       by-sizes (Refused x) e =
-          sizes-worked old p r _ x e ∙ sym (sizes-worked old' q r _ x (ap (λ v. deskKnown (r .desk) then v) (sym (sizes-alike (r .capacity) p q (r .orbitals) _ (slices p r) hp hq)) ∙ e))
+          sizes-worked old p r _ x e ∙ sym (sizes-worked old' q r _ x (ap (λ v. deskKnown (r .desk) then v) (sym (sizes-alike (r .form) (r .capacity) p q (r .orbitals) (allLent p r) hp hq)) ∙ e))
 
   pub append-cut : (k : ℕ) → k ≡ min (r .points) 256 → worked k (k + 1) (withPoints r (k + 1)) (clearedNew (r .capacity) (r .orbitals) k (k + 1)) ≡ appendPoint r
   unfolding appendPoint

@@ -3,7 +3,7 @@ use Rattle.lists.specs.Prelude.{ℕ, suc, _+_, _*_, Bool, true, _&&_, List, [],
 use Rattle.refusal.specs.declared.Verdict.{Verdict}
 use Rattle.refusal.specs.declared.Verdict.the-variants.{Pass}
 use Rattle.refusal.specs.Verdict.{_then_, askAll}
-use Rattle.refusal.specs.Checks.{largeEnough, withinLimits, fitting, finiteAt, finiteEntries, withinCapacity}
+use Rattle.refusal.specs.Checks.{largeEnough, notEmpty, withinLimits, withinBlock, fitting, finiteAt, finiteEntries, withinCapacity}
 use Rattle.grid.specs.Calls.{gridChecks}
 use Rattle.two_time.specs.Layout.{lengthOf}
 
@@ -37,6 +37,11 @@ inputChecks points orbitals times operands lent =
 unfoldable pub capacityChecks : ℕ → ℕ → ℕ → Bool → List (List Float) → Verdict
 capacityChecks capacity points orbitals fits slices =
     largeEnough points orbitals then withinLimits capacity orbitals then fitting (fits && allLong (lengthOf capacity orbitals) slices) then withinCapacity points capacity
+
+-- the same with a block beside them, check by check: `fits` says whether each slice has its length and the block is n by n
+abbrev pub blockSizes : ℕ → ℕ → ℕ → ℕ → ℕ → Bool → Verdict
+blockSizes capacity points orbitals rows columns fits =
+    (largeEnough points orbitals then notEmpty rows columns) then (withinLimits capacity orbitals then withinBlock rows columns) then fitting fits then withinCapacity points capacity
 
 -- check 7 of the entries with both indices below the points; "line 7's position is that in the lent slice"
 unfoldable pub pointEntries : ℕ → ℕ → ℕ → ℕ → List Float → Verdict

@@ -7,6 +7,7 @@ pub mod New
 pub mod WeightedSum
 pub mod Sums
 pub mod Outcome
+pub mod Start
 pub mod Example
 pub mod Cases
 pub mod Places
@@ -21,8 +22,13 @@ pub mod CapacityChecks
 pub mod PointsFinite
 pub mod Intervals
 pub mod OneTest
+pub mod Factors
+pub mod Column
+pub mod Zeros
 pub mod Finite
 pub mod Agreement
 pub mod FiniteAgreement
+pub mod Started
 pub mod Lengths
 pub mod Computation
+pub mod StartCases

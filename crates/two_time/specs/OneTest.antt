@@ -1,5 +1,5 @@
 -- A sum over times by its running sums: one more term, and that one test at its end tests every block made for it. Assumes nothing.
-use Rattle.lists.specs.Prelude.{_≡_, refl, sym, _∙_, Bool, true, false, _&&_, _||_, ℕ, zero, suc, _+_, le-refl, add-one, arith, eqb, ne-eqb}
+use Rattle.lists.specs.Prelude.{_≡_, refl, sym, ap, _∙_, Bool, and-false, true, false, _&&_, _||_, ℕ, zero, suc, _+_, le-refl, add-one, arith, eqb, eqb-true, ne-eqb}
 use Rattle.lists.specs.Indexed.{fold, allBelow}
 use Rattle.complex.specs.Arithmetic.{real, cadd, cmul, cfinite}
 use Rattle.complex.specs.Sum.{sumFrom}
@@ -56,3 +56,21 @@ module _ (n : ℕ) (x : Terms) (a b : ℕ) where
   pub one-test : finiteSum n x a b ≡ eqb (x .count) 0 || cfinite (weightedSum n x a b)
   unfolding finiteSum weightedSum
   one-test = up-to (x .count)
+
+  -- the first value is finite where a later one is
+  from-start : (k : ℕ) → ended k ≡ true → cfinite (x .start a b) ≡ true
+  from-start zero h = sym (ap cfinite partial-none) ∙ h
+  from-start (suc k) h = from-start k (to-here k h .0)
+
+  -- so the last value tests the start too
+  pub started-test : cfinite (x .start a b) && finiteSum n x a b ≡ cfinite (weightedSum n x a b)
+  unfolding weightedSum
+  started-test = ap (λ (f : Bool). cfinite (x .start a b) && f) one-test ∙ by-flags (ended (x .count)) (eqb (x .count) 0) refl refl
+    where
+      by-flags : (c e : Bool) → ended (x .count) ≡ c → eqb (x .count) 0 ≡ e → cfinite (x .start a b) && (eqb (x .count) 0 || ended (x .count)) ≡ ended (x .count)
+      by-flags true true h g = rw (g, h, from-start (x .count) h)
+      by-flags true false h g = rw (g, h, from-start (x .count) h)
+      by-flags false true h g =
+          let start : cfinite (x .start a b) ≡ false = ap cfinite (sym partial-none) ∙ ap ended (sym (eqb-true (x .count) 0 g)) ∙ h in
+          rw start (sym h)
+      by-flags false false h g = rw (g, h) (and-false (cfinite (x .start a b)))

@@ -2,7 +2,7 @@
 ghost use Rattle.lists.specs.Prelude.{_≡_, _≤_, cond, length};
 ghost use Rattle.refusal.specs.Verdict.{_then_};
 ghost use Rattle.refusal.specs.Checks.{largeEnough, withinLimits, fitting, withinCapacity};
-ghost use Rattle.two_time.specs.Calls.{pointEntries, pointChecks};
+ghost use Rattle.two_time.specs.Calls.{blockSizes, pointEntries, pointChecks};
 ghost use Rattle.two_time.specs.Layout.{lengthOf};
 ghost use Rattle.two_time.specs.New.{clearedNew, fitsNew};
 ghost use Rattle.two_time.specs.Written.{firstNew};
@@ -12,6 +12,8 @@ use refusal::Verdict;
 use refusal::checks::entries_from;
 use refusal::checks::fitting;
 use refusal::checks::large_enough;
+use refusal::checks::not_empty;
+use refusal::checks::within_block;
 use refusal::checks::within_capacity;
 use refusal::checks::within_limits;
 
@@ -65,6 +67,16 @@ pub fn check_capacity(shape: Shape, fits: bool) -> Verdict
     let room = fitting(fits).then(within_capacity(shape.points, shape.capacity));
     let limits = within_limits(shape.capacity, shape.orbitals).then(room);
     large_enough(shape.points, shape.orbitals).then(limits)
+}
+
+// The same with a block beside the slices, each of the functions before the block: `fits` says whether the block is n by n too.
+pub fn check_block_sizes(shape: Shape, rows: usize, columns: usize, fits: bool) -> Verdict
+    ensures { λ r. ⌜ r ≡ blockSizes (shape .capacity) (shape .points) (shape .orbitals) rows columns fits ⌝ }
+{
+    let some = large_enough(shape.points, shape.orbitals).then(not_empty(rows, columns));
+    let most = within_limits(shape.capacity, shape.orbitals).then(within_block(rows, columns));
+    let room = fitting(fits).then(within_capacity(shape.points, shape.capacity));
+    some.then(most.then(room))
 }
 
 // 7 of the entries with both indices below the points, row by row.

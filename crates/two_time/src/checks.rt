@@ -3,6 +3,7 @@ ghost use Rattle.lists.specs.Prelude.{_≡_, [], _∷_, length};
 ghost use Rattle.refusal.specs.Verdict.{_then_};
 ghost use Rattle.refusal.specs.Checks.{largeEnough, withinLimits, fitting, finiteEntries};
 ghost use Rattle.two_time.specs.Calls.{allFit};
+ghost use Rattle.two_time.specs.Start.{holdsBlock};
 use crate::layout::function_length;
 use refusal::Verdict;
 use refusal::checks::finite_entries;
@@ -18,7 +19,17 @@ pub fn has_length(points: usize, orbitals: usize, xs: &[f64]) -> bool
     limits & (xs.len() == function_length(points, orbitals))
 }
 
-// The same of four slices.
+// Whether n is within its limit and a slice holds an n by n block, and perhaps more.
+pub fn holds_block(orbitals: usize, xs: &[f64]) -> bool
+    ensures { λ r. ⌜ r ≡ holdsBlock orbitals (now (xs .entry)) ⌝ }
+{
+    if 16 < orbitals {
+        return false;
+    }
+    2 * (orbitals * orbitals) <= xs.len()
+}
+
+// The first of these of four slices.
 pub fn all_fit(
     first: &[f64],
     second: &[f64],

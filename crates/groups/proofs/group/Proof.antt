@@ -1,6 +1,7 @@
 -- `groups::group` meets its contract: unfit, or what the lanes hold is written. Assumes nothing.
-use Rattle.lists.specs.Prelude.{_≡_, refl, sym, ap, _∙_, Bool, List, [], _∷_, _*_, _≤_, arith, eqb, length, Float, now, needs, lt-ltb, eqb-true}
+use Rattle.lists.specs.Prelude.{_≡_, refl, sym, ap, _∙_, Bool, List, [], _∷_, ℕ, _+_, _*_, _≤_, _<_, arith, digits-lt, eqb, length, Float, now, needs, lt-ltb, eqb-true}
 use Rattle.lists.specs.Agreement.{both, all-agree, join-agree}
+use Rattle.complex.specs.declared.Complex.{Complex}
 use Rattle.terms.specs.Spans.{spanned}
 use Rattle.refusal.specs.declared.Verdict.{Verdict}
 use Rattle.refusal.specs.declared.Verdict.the-variants.{Pass}
@@ -8,8 +9,11 @@ use Rattle.two_time.specs.Calls.{sizeChecks}
 use Rattle.two_time.specs.Outcome.{SumsOutcome}
 use Rattle.two_time.specs.Places.{sized, product-most}
 use Rattle.two_time.specs.SizeChecks.{SizesPassed, sizes-passed, sizes-asked, fits-more, long-first}
-use Rattle.lanes.specs.Lanes.{laidLanes, lanesFinite}
-use Rattle.groups.specs.PlaceSums.{place-finite, place-laid}
+use Rattle.two_time.specs.WeightedSum.{weightedSum}
+use Rattle.lanes.specs.Lanes.{laneAt, laidLanes, lanesFinite}
+use Rattle.rows.specs.Parts.{lane-zero}
+use Rattle.groups.specs.PartialSums.{termsOf}
+use Rattle.groups.specs.PlaceSums.{sumAt, begins, place-finite, place-laid}
 use Rattle.groups.specs.Groups.{isGroup, groupFinite, groupNumbers, Grouped, grouped, group-unfit, group-zero, group-written}
 use Rattle.groups.specs.Zero.{none-finite, none-numbers}
 use Rattle.groups.proofs.group.Statement.{statement}
@@ -81,17 +85,27 @@ group-totals-requires c κs =
 abbrev lanes : tie.After-group-totals → List Float
 lanes r = r .group-totals .last .1 .1 .1 .1 .1 .1 .1 .1 .1 .0
 
+sum : (r : tie.After-group-totals) → let x = start (told (r .before .before) .before .before) .args in
+    (a p b : ℕ) → a < x .orbitals → p < x .places → b < x .orbitals → laneAt (lanes r) a (p * x .orbitals + b) ≡ sumAt (x .sums) (x .points) (x .orbitals) (now (x .times)) (now (x .left)) (now (x .right)) (x .t) (x .u + p) a b
+sum r a p b ha hp hb =
+    let e = told (r .before .before) in
+    let x = start (e .before .before) .args in let n = x .orbitals in let g = there e in
+    r .group-totals .ensures .1 a p b ha hp hb
+    ∙ ap (λ (z : Complex). weightedSum n (termsOf (x .sums) (x .points) (x .points) n (now (x .times)) (now (x .left)) (now (x .right)) (x .t) (x .u + p) z) a b)
+    (lane-zero a (p * n + b) (omega (arith, ha, g .orbitals-most)) (omega (arith, digits-lt hp hb, g .few)))
+    ∙ begins (x .sums) (x .points) n (now (x .times)) (now (x .left)) (now (x .right)) (x .t) (x .u + p) a b
+
 is-finite : (r : tie.After-group-totals) → let x = start (told (r .before .before) .before .before) .args in
     lanesFinite (lanes r) (x .orbitals) (x .places) (x .places) ≡ groupFinite (x .sums) (x .points) (x .orbitals) (now (x .times)) (now (x .left)) (now (x .right)) (x .t) (x .u) (x .places) (now (x .out))
 is-finite r =
     let x = start (told (r .before .before) .before .before) .args in
-    all-agree (x .places) _ _ (λ p hp. place-finite (x .sums) (x .points) (x .orbitals) (now (x .times)) (now (x .left)) (now (x .right)) (x .t) (x .u) (lanes r) p (λ a b ha hb. r .group-totals .ensures .1 a p b ha hp hb) _ (lt-ltb p (x .places) hp))
+    all-agree (x .places) _ _ (λ p hp. place-finite (x .sums) (x .points) (x .orbitals) (now (x .times)) (now (x .left)) (now (x .right)) (x .t) (x .u) (lanes r) p (λ a b ha hb. sum r a p b ha hp hb) _ (lt-ltb p (x .places) hp))
 
 is-made : (r : tie.After-group-totals) → let x = start (told (r .before .before) .before .before) .args in
     laidLanes (lanes r) (x .orbitals) (x .places) ≡ groupNumbers (x .sums) (x .points) (x .orbitals) (now (x .times)) (now (x .left)) (now (x .right)) (x .t) (x .u) (x .places) (now (x .out))
 is-made r =
     let x = start (told (r .before .before) .before .before) .args in
-    join-agree (x .places) _ _ (λ p hp. place-laid (x .sums) (x .points) (x .orbitals) (now (x .times)) (now (x .left)) (now (x .right)) (x .t) (x .u) (lanes r) p (λ a b ha hb. r .group-totals .ensures .1 a p b ha hp hb))
+    join-agree (x .places) _ _ (λ p hp. place-laid (x .sums) (x .points) (x .orbitals) (now (x .times)) (now (x .left)) (now (x .right)) (x .t) (x .u) (lanes r) p (λ a b ha hb. sum r a p b ha hp hb))
 
 returns-3 : tie.Need-returns-3
 returns-3 c =

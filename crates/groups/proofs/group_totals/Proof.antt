@@ -1,14 +1,9 @@
 -- `groups::group_totals` meets its contract: the loop from the first s to the last serves every lane. Assumes nothing.
-use Rattle.lists.specs.Prelude.{_≡_, sym, ap, _∙_, List, _+_, _*_, _<_, le-refl, arith, digits-lt, length, length-replicate, Float, now, needs}
-use Rattle.complex.specs.declared.Complex.{Complex}
-use Rattle.complex.specs.Arithmetic.{czero, plusZero}
+use Rattle.lists.specs.Prelude.{_≡_, sym, _∙_, _+_, _*_, le-refl, length, now, needs}
 use Rattle.two_time.specs.Layout.{readAs}
-use Rattle.two_time.specs.WeightedSum.{Terms}
 use Rattle.terms.specs.Spans.{Spanned, spanned}
 use Rattle.lanes.specs.Lanes.{laneAt}
-use Rattle.rows.specs.Parts.{lane-zero}
-use Rattle.groups.specs.PartialSums.{termsOf, partialAt, steps-all}
-use Rattle.groups.specs.PlaceSums.{begins}
+use Rattle.groups.specs.PartialSums.{termsOf, steps-all}
 use Rattle.groups.proofs.group_totals.Statement.{statement}
 use Rattle.groups.proofs.group_totals.Tie as tie
 
@@ -19,7 +14,7 @@ span : (w : tie.After-span-of) → let x = start w .args in Spanned (x .sums) (x
 span w = let x = start w .args in let p = start w .pre .0 in spanned (x .sums) (x .points) (x .t) (x .u) (x .places) (w .span-of .result) (p .0) (p .1) (p .5) (w .span-of .ensures)
 
 long : (w : tie.After-span-of) → length (now (start w .args .totals)) ≡ 512
-long w = ap length (start w .pre .1 .1) ∙ length-replicate 512 plusZero
+long w = start w .pre .1 .1
 
 returns : tie.Need-returns
 returns c =
@@ -27,12 +22,9 @@ returns c =
     let n = x .orbitals in (
       r .sum-group .ensures .0,
       λ a p b ha hp hb.
-          let at : Complex → Terms = λ z. termsOf (x .sums) (x .points) (x .points) n (now (x .times)) (now (x .left)) (now (x .right)) (x .t) (x .u + p) z in
-          let lane : p * n + b < 16 = omega (arith, digits-lt hp hb, s .pre .0 .6) in
           r .sum-group .ensures .1 a p b ha hp hb
-          ∙ ap (λ (z : Complex). partialAt n (at z) (w .span-of .result .last) a b) (ap (λ (xs : List Float). laneAt xs a (p * n + b)) (s .pre .1 .1) ∙ lane-zero a (p * n + b) (omega (arith, ha, s .pre .0 .3)) lane)
-          ∙ steps-all n (at czero) a b (w .span-of .result .last) (span w .enough (now (x .times)) (readAs (x .points) n (now (x .left))) (readAs (x .points) n (now (x .right))) p hp)
-          ∙ begins (x .sums) (x .points) n (now (x .times)) (now (x .left)) (now (x .right)) (x .t) (x .u + p) a b,
+          ∙ steps-all n (termsOf (x .sums) (x .points) (x .points) n (now (x .times)) (now (x .left)) (now (x .right)) (x .t) (x .u + p) (laneAt (now (x .totals)) a (p * n + b))) a b (w .span-of .result .last)
+          (span w .enough (now (x .times)) (readAs (x .points) n (now (x .left))) (readAs (x .points) n (now (x .right))) p hp),
     )
 
 pub group-totals-spec : {M : Type 1} → statement M

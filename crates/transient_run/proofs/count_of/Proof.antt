@@ -17,6 +17,9 @@ square c =
     let m = most c in
     (product-most n (n + 1) m (let l : n + 1 ≤ 257 = omega arith in l), product-most n n m m)
 
+start-most : (c : tie.After-least) → let n = c .least .result in c .before .args .start * (n * n) ≤ 131072
+start-most c = let n = c .least .result in product-most (c .before .args .start) (n * n) (c .before .pre) (fits c .square-most)
+
 pub count-of-spec : {M : Type 1} → statement M
 count-of-spec =
     tie.close
@@ -33,4 +36,7 @@ count-of-spec =
     (λ c. let z = fits c in omega (arith, z .pyramid-most, z .slab-most))  -- add-result-4
     (λ c. let m = most c in omega arith)  -- mul-result-6
     (λ c. let z = fits c in omega (arith, z .whole))  -- sub-result
-    (λ c. ap countOf (c .least .ensures)))  -- returns
+    (λ c. let z = fits c in omega (arith, z .square-most))  -- mul-result-7
+    (λ c. let m = start-most c in omega arith)  -- mul-result-8
+    (λ c. let m = start-most c in let z = fits c in omega (arith, z .pyramid-most, z .slab-most))  -- add-result-5
+    (λ c. ap (countOf (c .before .args .start)) (c .least .ensures)))  -- returns

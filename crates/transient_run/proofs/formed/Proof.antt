@@ -5,21 +5,24 @@ use Rattle.transient_run.proofs.formed.Statement.{statement}
 use Rattle.transient_run.proofs.formed.Tie as tie
 
 -- a count that is cut at 256 is that of points within it
-within : (count p : ℕ) → count ≡ countOf (min p 256) → p ≤ 256 → count ≡ formed 0 p
-within count p e h = e ∙ ap countOf (min-eq-left h) ∙ sym (formed-count p)
+within : (start count p : ℕ) → count ≡ countOf start (min p 256) → p ≤ 256 → count ≡ formed start 0 p
+within start count p e h = e ∙ ap (countOf start) (min-eq-left h) ∙ sym (formed-count start p)
 
 sum : (c : tie.After-count-of2) → let x = c .before .before .args in
-    (c .before .count-of .result ≡ formed 0 (x .old)) × (c .count-of2 .result ≡ formed 0 (x .points)) × (formed 0 (x .old) + formed (x .old) (x .points) ≡ formed 0 (x .points))
+    (c .before .count-of .result ≡ formed (x .start) 0 (x .old)) × (c .count-of2 .result ≡ formed (x .start) 0 (x .points)) × (formed (x .start) 0 (x .old) + formed (x .start) (x .old) (x .points) ≡ formed (x .start) 0 (x .points))
 sum c =
     let s = c .before .before in
-    let x = s .args in
-    (within _ (x .old) (c .before .count-of .ensures) (le-trans (s .pre .0) (s .pre .1)), within _ (x .points) (c .count-of2 .ensures) (s .pre .1), formed-on (x .old) (x .points) (s .pre .0))
+    let x = s .args in (
+      within (x .start) _ (x .old) (c .before .count-of .ensures) (le-trans (s .pre .1) (s .pre .2)),
+      within (x .start) _ (x .points) (c .count-of2 .ensures) (s .pre .2),
+      formed-on (x .start) (x .old) (x .points) (s .pre .1),
+    )
 
 pub formed-spec : {M : Type 1} → statement M
 formed-spec =
     tie.close
     (tie.spec
-    (λ c κs. search needs)  -- count-of-requires
-    (λ c κs. search needs)  -- count-of-requires-2
+    (λ c κs. c .pre .0)  -- count-of-requires
+    (λ c κs. c .before .pre .0)  -- count-of-requires-2
     (λ c. let e = sum c in omega (arith, e .0, e .1, e .2))  -- sub-result
     (λ c. let e = sum c in omega (arith, e .0, e .1, e .2)))  -- returns

@@ -2,7 +2,7 @@
 use Rattle.lists.specs.Prelude.{_≡_, refl, sym, ap, ap₂, _∙_, Bool, true, false, cond, _&&_, List, [], _∷_, ℕ, leb, le-leb, arith, Float, now, needs, not-true, not-false}
 use Rattle.lists.specs.Agreement.{never}
 use Rattle.refusal.specs.declared.Verdict.the-variants.{Pass}
-use Rattle.two_time.specs.declared.sums.Sums.the-variants.{Causal, LesserAdvanced, Lesser}
+use Rattle.two_time.specs.declared.sums.Sums.the-variants.{Causal, LesserAdvanced}
 use Rattle.two_time.specs.New.{clearedNew}
 use Rattle.two_time.specs.Sums.{newNumbers, newFinite}
 use Rattle.two_time.specs.Calls.{sizeChecks}
@@ -12,15 +12,17 @@ use Rattle.two_time.specs.Lengths.{lengths, none-asked, also-asked}
 use Rattle.dyson.specs.Calls.{newKernel, newGreen}
 use Rattle.dyson.specs.NewSolved.{solved-new-said}
 use Rattle.transient_run.specs.declared.Session.{Session}
+use Rattle.two_time.specs.Start.{newLesserNumbers}
+use Rattle.transient_run.specs.Form.{formOf, startOf}
 use Rattle.transient_run.specs.Calls.{Run, runOf, retardedMade, kernelMade}
-use Rattle.transient_run.specs.Steps.{retardedIsFinite, retarded-fails, lesser-advanced-fails, lesser-says, sums-cleared, retarded-cleared}
+use Rattle.transient_run.specs.Steps.{retardedIsFinite, retarded-fails, lesser-advanced-fails, lesser-says, lesser-said, sums-cleared, lesser-cleared, retarded-cleared}
 use Rattle.transient_run.proofs.work.Statement.{statement}
 use Rattle.transient_run.proofs.work.Tie as tie
 
 abbrev run : tie.Start → Session → ℕ → Float → Run
 run s session desk tolerance =
     let x = s .args in
-    runOf session desk (x .shape) tolerance (now (x .times)) (now (x .free)) (now (x .self-energy)) (now (x .lesser-self-energy)) (now (x .retarded)) (now (x .lesser)) (now (x .kernel)) (now (x .lesser-advanced))
+    runOf (formOf (x .initial) (now (x .g0))) session desk (x .shape) tolerance (now (x .times)) (now (x .free)) (now (x .self-energy)) (now (x .lesser-self-energy)) (now (x .retarded)) (now (x .lesser)) (now (x .kernel)) (now (x .lesser-advanced))
 
 -- slices of their length pass the sizes that a step asks
 asked : (s : tie.Start) (slices : List (List Float)) → let x = s .args in SizesPassed (x .shape .capacity) (x .shape .orbitals) true slices
@@ -37,7 +39,7 @@ module _ (session : Session) (desk : ℕ) (tolerance : Float) (f : tie.After-is-
   solved = f .before .before .before .before .before
 
   abbrev s : tie.Start
-  s = solved .before .before .before .before .before .before .before .before .before .before .before
+  s = solved .before .before .before .before .before .before .before .before .before .before .before .before
 
   abbrev r : Run
   r = run s session desk tolerance
@@ -53,7 +55,7 @@ module _ (session : Session) (desk : ℕ) (tolerance : Float) (f : tie.After-is-
       × (kernel ≡ cond ok (kernelMade (x .old) (x .shape .points) r) (cleared s (now (x .kernel))))
   retardeds ok e =
       let x = s .args in
-      let z = s .pre .2 in
+      let z = s .pre .3 in
       let l = lengths z in
       solved-new-said (x .shape .capacity) (x .shape .orbitals) (x .old) (x .shape .points) (now (x .times)) (now (x .free)) (now (x .self-energy)) (now (x .retarded)) (now (x .kernel))
       (asked s _ (also-asked (l .0) (also-asked (l .1 .0) (also-asked (l .1 .1 .1 .0) (also-asked (l .1 .1 .1 .1 .1 .0) (none-asked z)))))) (solved .solve-new .ensures) ok (e ∙ f .is-finite .ensures)
@@ -95,7 +97,7 @@ module _ (session : Session) (desk : ℕ) (tolerance : Float) (f₂ : tie.After-
       × (lesserAdvanced ≡ cond ok (newNumbers LesserAdvanced (x .shape .capacity) (x .shape .orbitals) (x .old) (x .shape .points) (now (x .times)) (now (x .lesser-self-energy)) (retarded session desk tolerance f) (now (x .lesser-advanced))) (cleared (s session desk tolerance f) (now (x .lesser-advanced))))
   lesser-advanced-made ok e =
       let x = s session desk tolerance f .args in
-      let z = s session desk tolerance f .pre .2 in
+      let z = s session desk tolerance f .pre .3 in
       let l = lengths z in
       let long = solved session desk tolerance f .solve-new .kept .1 .1 .1 .1 .1 .0 in
       new-sums-said LesserAdvanced (x .shape .capacity) (x .shape .orbitals) (x .old) (x .shape .points) (now (x .times)) (now (x .lesser-self-energy)) (retarded session desk tolerance f) (now (x .lesser-advanced))
@@ -127,7 +129,7 @@ returns-3 c session desk tolerance =
     let g = f session desk tolerance f₂ in
     let t = s session desk tolerance g in
     let y = t .args in
-    let z = t .pre .2 in
+    let z = t .pre .3 in
     let l = lengths z in
     let retarded-long = solved session desk tolerance g .solve-new .kept .1 .1 .1 .1 .1 .0 in
     let lesser-advanced-long = summed session desk tolerance f₂ .new-sums .kept .1 .1 .1 .1 .1 .1 .0 in
@@ -135,13 +137,14 @@ returns-3 c session desk tolerance =
     let m = lesser-advanced-made session desk tolerance f₂ true (sym (not-false _ (e .if2 .left))) in
     let numbers : List Float → List Float = λ xs. newNumbers LesserAdvanced (y .shape .capacity) (y .shape .orbitals) (y .old) (y .shape .points) (now (y .times)) (now (y .lesser-self-energy)) xs (now (y .lesser-advanced)) in
     let made = m .1 ∙ ap numbers (one .1) in
-    let o = new-sums-said Lesser (y .shape .capacity) (y .shape .orbitals) (y .old) (y .shape .points) (now (y .times)) (retarded session desk tolerance g) (lesserAdvanced session desk tolerance f₂) (now (y .lesser))
-    (asked t _ (also-asked (retarded-long ∙ l .1 .1 .1 .0) (also-asked (lesser-advanced-long ∙ l .1 .1 .1 .1 .1 .1 .0) (also-asked (l .1 .1 .1 .1 .0) (none-asked z))))) (w .new-sums2 .ensures) (c .is-finite3 .result) (c .is-finite3 .ensures) in
+    let form = formOf (y .initial) (now (y .g0)) in
+    let o = lesser-said (y .shape .capacity) (y .shape .orbitals) (y .old) (y .shape .points) (now (y .times)) (retarded session desk tolerance g) (lesserAdvanced session desk tolerance f₂) (now (y .lesser))
+    (asked t _ (also-asked (retarded-long ∙ l .1 .1 .1 .0) (also-asked (lesser-advanced-long ∙ l .1 .1 .1 .1 .1 .1 .0) (also-asked (l .1 .1 .1 .1 .0) (none-asked z))))) form (t .pre .2) (w .new-lesser .ensures) (c .is-finite3 .result) (c .is-finite3 .ensures) in
     let gone = retardeds-gone session desk tolerance g in (
       lesser-says _ _ (r session desk tolerance g) (one .0) (one .1) (m .0) made (o .0),
-      λ h. (one .1, (rw h at (o .1)) ∙ ap₂ (λ (xs ys : List Float). newNumbers Lesser (y .shape .capacity) (y .shape .orbitals) (y .old) (y .shape .points) (now (y .times)) xs ys (now (y .lesser))) (one .1) made, one .2, made),
+      λ h. (one .1, (rw h at (o .1)) ∙ ap₂ (λ (xs ys : List Float). newLesserNumbers (startOf form (y .shape .capacity) (y .shape .orbitals) xs) (y .shape .capacity) (y .shape .orbitals) (y .old) (y .shape .points) (now (y .times)) xs ys (now (y .lesser))) (one .1) made, one .2, made),
       gone .0,
-      sums-cleared (y .shape .capacity) (y .shape .orbitals) (y .old) (y .shape .points) Lesser (now (y .times)) (retarded session desk tolerance g) (lesserAdvanced session desk tolerance f₂) (now (y .lesser)) (c .is-finite3 .result) (o .1),
+      lesser-cleared (y .shape .capacity) (y .shape .orbitals) (y .old) (y .shape .points) (startOf form (y .shape .capacity) (y .shape .orbitals) (retarded session desk tolerance g)) (now (y .times)) (retarded session desk tolerance g) (lesserAdvanced session desk tolerance f₂) (now (y .lesser)) (c .is-finite3 .result) (o .1),
       gone .1,
       lesser-advanced-gone session desk tolerance f₂,
     )
@@ -161,7 +164,7 @@ work-spec =
     (λ c. search needs)  -- same-length-4
     (λ c. search needs)  -- same-length-5
     returns-2
-    (λ c κs. search needs)  -- new-sums-requires-2
+    (λ c κs. search needs)  -- new-lesser-requires
     (λ c κs. search needs)  -- is-finite-requires-3
     (λ c. search needs)  -- same-length-6
     (λ c. search needs)  -- same-length-7

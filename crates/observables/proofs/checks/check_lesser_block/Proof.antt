@@ -8,14 +8,14 @@ use Rattle.observables.specs.LesserChecks.{sizes, sizes-asked, block-ref
 use Rattle.observables.proofs.checks.check_lesser_block.Statement.{statement}
 use Rattle.observables.proofs.checks.check_lesser_block.Tie as tie
 
-abbrev start : tie.After-block-sizes → tie.Start
+abbrev start : tie.After-check-block-sizes → tie.Start
 start c = c .before .before .before .before .before .before
 
 abbrev block : tie.Start → DenseMatrix
 block c = record { rows = c .args .rows; columns = c .args .columns; values = now (c .args .values) }
 
-asked : (c : tie.After-block-sizes) → let s = start c in let n = s .args .shape in c .block-sizes .result ≡ sizes (n .capacity) (n .points) (n .orbitals) (now (s .args .lesser)) (block s)
-asked c = sizes-asked _ _ _ (now (start c .args .lesser)) (block (start c)) (c .before .has-length .ensures) (c .block-sizes .ensures)
+asked : (c : tie.After-check-block-sizes) → let s = start c in let n = s .args .shape in c .check-block-sizes .result ≡ sizes (n .capacity) (n .points) (n .orbitals) (now (s .args .lesser)) (block s)
+asked c = sizes-asked _ _ _ (now (start c .args .lesser)) (block (start c)) (c .before .has-length .ensures) (c .check-block-sizes .ensures)
 
 few : (c : tie.After-enum-told) → let x = start (c .before .before) .args in x .rows * x .columns ≤ 256
 few c =
@@ -26,7 +26,7 @@ pub check-lesser-block-spec : {M : Type 1} → statement M
 check-lesser-block-spec =
     tie.close
     (tie.spec
-    (λ c κs. search needs) (λ c κs. search needs) (λ c. search needs)  -- has-length-requires, block-sizes-requires, enum-told
+    (λ c κs. search needs) (λ c κs. search needs) (λ c. search needs)  -- has-length-requires, check-block-sizes-requires, enum-told
     (λ c. search needs)  -- enum-told-2
     (λ c. block-refused _ _ _ (now (start (c .before .before) .args .lesser)) (block (start (c .before .before))) (asked (c .before .before)) (c .enum-told2 .given .1))  -- returns
     (λ c κs. search needs)  -- check-points-requires

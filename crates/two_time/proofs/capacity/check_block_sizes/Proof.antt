@@ -1,10 +1,10 @@
--- `observables::checks::block_sizes` meets its contract: it asks the checks in their order. Assumes nothing.
+-- `two_time::capacity::check_block_sizes` meets its contract: it asks the checks in their order. Assumes nothing.
 use Rattle.lists.specs.Prelude.{_∙_, needs}
-use Rattle.observables.proofs.checks.block_sizes.Statement.{statement}
-use Rattle.observables.proofs.checks.block_sizes.Tie as tie
+use Rattle.two_time.proofs.capacity.check_block_sizes.Statement.{statement}
+use Rattle.two_time.proofs.capacity.check_block_sizes.Tie as tie
 
-pub block-sizes-spec : {M : Type 1} → statement M
-block-sizes-spec =
+pub check-block-sizes-spec : {M : Type 1} → statement M
+check-block-sizes-spec =
     tie.close
     (tie.spec
     (λ c κs. search needs) (λ c κs. search needs) (λ c κs. search needs)  -- large-enough-requires, not-empty-requires, then-requires

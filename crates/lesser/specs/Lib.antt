@@ -1,0 +1,2 @@
+-- G^< from an occupied start, place by place.
+pub mod Rows
