@@ -4,6 +4,7 @@ use Rattle.lists.specs.Prelude.{_≡_, refl, sym, _∙_, List, [], _∷_, ℕ, 
 use Rattle.complex.specs.Arithmetic.{plusZero, one}
 use Rattle.two_time.specs.Example.{floats}
 use Rattle.transient_run.specs.declared.Solved.the-variants.{Accepted}
+use Rattle.transient_run.specs.Form.Form.{empty}
 use Rattle.transient_run.specs.Calls.{Run, runOf, transientRun, appendPoint}
 use Rattle.transient_run.specs.Computation.{runComputation}
 use Rattle.transient_run.specs.P12 as P12
@@ -22,12 +23,12 @@ abbrev first : Run
 first =
     let lower = inRoom one plusZero plusZero plusZero one plusZero one plusZero in
     let before = replicate 18 one in
-    runOf opened 0 (record { points = 2; capacity = 3; orbitals = 1 }) two (plusZero ∷ one ∷ nan ∷ []) lower lower (inRoom plusZero one plusZero one plusZero one plusZero one) before before before before
+    runOf empty opened 0 (record { points = 2; capacity = 3; orbitals = 1 }) two (plusZero ∷ one ∷ nan ∷ []) lower lower (inRoom plusZero one plusZero one plusZero one plusZero one) before before before before
 
 abbrev next : Run
 next =
     let o = transientRun first in
-    runOf (record { products = replicate 8 7 }) 5 (record { points = 2; capacity = 3; orbitals = 1 }) one P12.times P12.lower P12.lower P12.imaginary (o .retarded) (o .lesser) (o .kernel) (o .lesserAdvanced)
+    runOf empty (record { products = replicate 8 7 }) 5 (record { points = 2; capacity = 3; orbitals = 1 }) one P12.times P12.lower P12.lower P12.imaginary (o .retarded) (o .lesser) (o .kernel) (o .lesserAdvanced)
 
 accepted : (transientRun first .answer ≡ Accepted 11) × (appendPoint next .answer ≡ Accepted 30)
 unfolding runComputation
@@ -41,13 +42,14 @@ inputs k hk =
       free = λ t u ht hu. square (of first (first .free)) (of next (next .free)) refl refl refl refl t u (omega arith) (omega arith);
       selfEnergy = λ t u ht hu. square (of first (first .selfEnergy)) (of next (next .selfEnergy)) refl refl refl refl t u (omega arith) (omega arith);
       lesserSelfEnergy = λ t u ht hu. square (of first (first .lesserSelfEnergy)) (of next (next .lesserSelfEnergy)) refl refl refl refl t u (omega arith) (omega arith);
+      start = λ a b ha hb. refl;
     }
 
 -- they are the calls of P12's run
 pub history : History run (appendPoint next) (11 + 30)
 history =
     appended (ran first (accepted .0)) next
-    (record { points = refl; capacity = refl; inputs = inputs; retarded = refl; lesser = refl; kernel = refl; lesserAdvanced = refl })
+    (record { points = refl; capacity = refl; form = tt; inputs = inputs; retarded = refl; lesser = refl; kernel = refl; lesserAdvanced = refl })
     (accepted .1)
 
 -- count like it, and leave what it leaves

@@ -6,6 +6,7 @@ use Rattle.transient_run.specs.declared.Solved.{Solved}
 use Rattle.transient_run.specs.declared.Solved.the-variants.{Accepted, Refused as NotSolved}
 use Rattle.transient_run.specs.declared.Session.{Session}
 use Rattle.transient_run.specs.Products.{total, formed}
+use Rattle.transient_run.specs.Form.{startProducts}
 use Rattle.transient_run.specs.Calls.{Run, counterOf, solved, booked, checksOf, verdictOf, worked, transientRun, appendPoint}
 use Rattle.transient_run.specs.Checks.{accepted-with, counter-room, desk-below}
 use Rattle.causality.specs.Sessions.{opened, inSession, Room, Call, deskOf, answerIn, afterCall, after, carried, counts, all, at, eight}
@@ -51,7 +52,7 @@ module _ (session : Session) (desk : ℕ) where
 -- ---- one call
 
 -- an accepted call is made at a desk of the eight, whose counter has room for the count that it carries
-pub room : (old points : ℕ) (r : Run) {k : ℕ} → solved (verdictOf old points r) (formed old points) ≡ Accepted k → Room (r .session) (r .desk) k
+pub room : (old points : ℕ) (r : Run) {k : ℕ} → solved (verdictOf old points r) (formed (startProducts (r .form)) old points) ≡ Accepted k → Room (r .session) (r .desk) k
 unfolding verdictOf
 room old points r ok =
     let passed = accepted-with (verdictOf old points r) _ _ ok in

@@ -6,6 +6,7 @@ use Rattle.dyson.specs.Retarded.{newRetarded}
 use Rattle.dyson.specs.Recursion.{above}
 use Rattle.dyson.specs.Calls.{Solved, dysonWithTolerance}
 use Rattle.dyson.specs.NewSolved.{green-all}
+use Rattle.transient_run.specs.Form.Form.{empty}
 use Rattle.transient_run.specs.Calls.{Run, runOf, kernelMade, retardedMade}
 use Rattle.causality.specs.Statement.{of, SameRetarded, ZeroAbove, Comparable, DysonDemanded}
 use Rattle.causality.specs.Made.{withShape, withOrbitals, callRetarded, none-held, retarded-rows}
@@ -14,7 +15,7 @@ use Rattle.causality.specs.Solvers.{left-made, equal-n, Inside, read-lef
 -- what a Dyson call is given, as a run in slices laid out for its points, with no lesser self-energy, no lesser output and no scratch X
 abbrev pub callOf : ℕ → ℕ → Float → List Float → List Float → List Float → List Float → List Float → Run
 callOf points n tolerance times free selfEnergy retarded kernel =
-    runOf (record { products = replicate 8 0 }) 0 (record { points = points; capacity = points; orbitals = n }) tolerance times free selfEnergy [] retarded [] kernel []
+    runOf empty (record { products = replicate 8 0 }) 0 (record { points = points; capacity = points; orbitals = n }) tolerance times free selfEnergy [] retarded [] kernel []
 
 abbrev pub dysonOf : Run → Solved
 dysonOf r = dysonWithTolerance (r .points) (r .orbitals) (r .tolerance) (r .times) (r .free) (r .selfEnergy) (r .retarded) (r .kernel)

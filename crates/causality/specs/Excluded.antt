@@ -40,6 +40,7 @@ start-same =
       free = λ t u ht hu. at-start (of run (run .free)) (of (short two) (short two .free)) refl t u ht (omega arith);
       selfEnergy = λ t u ht hu. at-start (of run (run .selfEnergy)) (of (short two) (short two .selfEnergy)) refl t u ht (omega arith);
       lesserSelfEnergy = at-start (of run (run .lesserSelfEnergy)) (of (short two) (short two .lesserSelfEnergy)) refl;
+      start = λ a b ha hb. refl;
     }
   where
     at-start : (y z : TwoTime) → y 0 0 0 0 ≡ z 0 0 0 0 → SquareTo 1 0 y z

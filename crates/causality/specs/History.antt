@@ -5,16 +5,19 @@ use Rattle.lists.specs.Prelude.{_≡_, ℕ, suc, _+_, _≤_, _<_}
 use Rattle.transient_run.specs.declared.Solved.the-variants.{Accepted}
 use Rattle.transient_run.specs.declared.Session.{Session}
 use Rattle.transient_run.specs.Products.{countOf}
+use Rattle.transient_run.specs.Form.{startProducts}
 use Rattle.transient_run.specs.Calls.{Run, runOf, Outcome, transientRun, appendPoint}
-use Rattle.causality.specs.Statement.{SameTo}
+use Rattle.causality.specs.Statement.{SameTo, SameKind}
 use Rattle.causality.specs.Sessions.{inSession, Room}
 
 -- An append, given as c, after calls that were those of the run r and left o: it is told the points and the capacity that they left; its n is theirs, and
--- its inputs agree with theirs up to every old index, as demand 3 supposes it; its outputs and scratch are what they left. The session, the desk and
+-- its inputs agree with theirs up to every old index, as demand 3 supposes it; L5: "L1's law, and the count of a run with its appends, ask the same form and
+-- g0 in each call"; its outputs and scratch are what they left. The session, the desk and
 -- the tolerance are free, and so are inputs at new points and in the room beyond.
 pub record Onto (r : Run) (o : Outcome) (c : Run) : Type 0 where
   pub points : r .points ≡ c .points
   pub capacity : r .capacity ≡ c .capacity
+  pub form : SameKind (r .form) (c .form)
   pub inputs : (k : ℕ) → k < r .points → SameTo k r c
   pub retarded : o .retarded ≡ c .retarded
   pub lesser : o .lesser ≡ c .lesser
@@ -24,7 +27,7 @@ pub record Onto (r : Run) (o : Outcome) (c : Run) : Type 0 where
 -- the run over one point more: the append's inputs and tolerance, on what r's outputs and scratch held
 abbrev pub longer : Run → Run → Run
 longer r c =
-    runOf (r .session) (r .desk) (record { points = suc (r .points); capacity = c .capacity; orbitals = c .orbitals }) (c .tolerance) (c .times) (c .free) (c .selfEnergy) (c .lesserSelfEnergy) (r .retarded) (r .lesser)
+    runOf (c .form) (r .session) (r .desk) (record { points = suc (r .points); capacity = c .capacity; orbitals = c .orbitals }) (c .tolerance) (c .times) (c .free) (c .selfEnergy) (c .lesserSelfEnergy) (r .retarded) (r .lesser)
     (r .kernel) (r .lesserAdvanced)
 
 -- An accepted run and any list of accepted appends, which left o and whose counts sum to `count`. They are the calls of the run r: over all points, with the
@@ -40,6 +43,6 @@ together count o = record { answer = Accepted count; retarded = o .retarded; les
 -- The law of appends, of such calls: they count like the run over all points, and that run, at any desk with room for its count (each desk of a session
 -- opened at zero has), is accepted, carries that count and leaves what they left.
 pub record LikeRun (r : Run) (o : Outcome) (count : ℕ) : Type 0 where
-  pub counts : count ≡ countOf (r .points)
+  pub counts : count ≡ countOf (startProducts (r .form)) (r .points)
   pub fits : count ≤ 0xffff_ffff_ffff_ffff
   pub leaves : (session : Session) (desk : ℕ) → Room session desk count → transientRun (inSession session desk r) ≡ together count o

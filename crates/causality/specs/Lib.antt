@@ -5,6 +5,7 @@ pub mod Statement
 -- that leaves functions which read no later data meets the demand; the transient run does, and so do Dyson calls.
 pub mod Stages
 pub mod Made
+pub mod Starts
 pub mod Observables
 pub mod Solvers
 pub mod Theorem

@@ -1,7 +1,7 @@
 -- Two calls that agree up to k, of which the second begins at 0: where the first's slices hold at old places what the second makes there, all that the
 -- two make agrees up to k, and is finite together. Demand 3 is the case where nothing is old, the law of appends the case of one new point.
 -- Assumes nothing.
-use Rattle.lists.specs.Prelude.{_≡_, sym, _∙_, true, List, ℕ, _-_, _≤_, _<_, max, le-trans, decLt, arith, Float}
+use Rattle.lists.specs.Prelude.{_≡_, sym, ap₂, _∙_, true, _&&_, List, ℕ, _-_, _≤_, _<_, max, le-trans, decLt, arith, Float}
 use Rattle.lists.specs.Indexed.{allBelow}
 use Rattle.lists.specs.Agreement.{both}
 use Rattle.block.specs.Agreement.{Agree}
@@ -9,14 +9,16 @@ use Rattle.two_time.specs.declared.capacity.Shape.{Shape}
 use Rattle.two_time.specs.declared.sums.Sums.the-variants.{Causal, LesserAdvanced, Lesser}
 use Rattle.two_time.specs.Layout.{TwoTime, readAs}
 use Rattle.two_time.specs.New.{written}
-use Rattle.two_time.specs.WeightedSum.{Terms, finiteSum}
+use Rattle.two_time.specs.WeightedSum.{Terms, weightedSum, finiteSum}
 use Rattle.two_time.specs.Agreement.{AgreeTerms, weighted-agree}
 use Rattle.two_time.specs.FiniteAgreement.{finite-agree}
 use Rattle.two_time.specs.Sums.{dysonTerms, termsAt, sumsOf, newNumbers, newFinite}
+use Rattle.two_time.specs.Start.{lesserAt, newLesserNumbers, newLesserFinite}
+use Rattle.two_time.specs.Started.{SameStart, started-agree}
 use Rattle.two_time.specs.NewPlaces.{read-new, read-old, new-each, each-new}
 use Rattle.dyson.specs.Retarded.{onwardFrom, newRetarded, newRetardedFinite}
 use Rattle.dyson.specs.Calls.{solvedNewFinite}
-use Rattle.transient_run.specs.Calls.{Run, runOf, kernelMade, retardedMade, lesserAdvancedMade, lesserMade, madeFinite}
+use Rattle.transient_run.specs.Calls.{Run, runOf, kernelMade, retardedMade, lesserAdvancedMade, lesserStart, lesserMade, madeFinite}
 use Rattle.causality.specs.Statement.{of, SameTo}
 use Rattle.causality.specs.Stages.{RowsTo, SquareTo, causal-stage, lesser-advanced-stage, lesser-stage, dyson-stage, retarded-stage}
 
@@ -44,7 +46,7 @@ module _ (n k capacity capacity' old points points' : ℕ) (f f' : TwoTime) (bef
 
 -- a run of another shape, and one with another n
 abbrev pub withShape : Run → Shape → Run
-withShape r shape = runOf (r .session) (r .desk) shape (r .tolerance) (r .times) (r .free) (r .selfEnergy) (r .lesserSelfEnergy) (r .retarded) (r .lesser) (r .kernel) (r .lesserAdvanced)
+withShape r shape = runOf (r .form) (r .session) (r .desk) shape (r .tolerance) (r .times) (r .free) (r .selfEnergy) (r .lesserSelfEnergy) (r .retarded) (r .lesser) (r .kernel) (r .lesserAdvanced)
 
 abbrev pub withOrbitals : Run → ℕ → Run
 withOrbitals r n = withShape r (record { points = r .points; capacity = r .capacity; orbitals = n })
@@ -53,9 +55,6 @@ withOrbitals r n = withShape r (record { points = r .points; capacity = r .capac
 module _ (old points : ℕ) (r : Run) where
   abbrev pub callRetarded : TwoTime
   callRetarded = onwardFrom (r .capacity) (r .orbitals) old points (r .times) (r .free) (kernelMade old points r) (r .retarded)
-
-  abbrev pub callLesser : TwoTime
-  callLesser = sumsOf Lesser (r .capacity) (r .orbitals) (r .times) (of r (retardedMade old points r)) (of r (lesserAdvancedMade old points r))
 
   -- the terms of the four sums at a place
   module _ (t u : ℕ) where
@@ -68,8 +67,11 @@ module _ (old points : ℕ) (r : Run) where
     abbrev lesserAdvancedTerms : Terms
     lesserAdvancedTerms = termsAt LesserAdvanced (r .capacity) (r .times) (of r (r .lesserSelfEnergy)) (of r (retardedMade old points r)) t u
 
-    abbrev lesserTerms : Terms
-    lesserTerms = termsAt Lesser (r .capacity) (r .times) (of r (retardedMade old points r)) (of r (lesserAdvancedMade old points r)) t u
+    abbrev pub lesserTerms : Terms
+    lesserTerms = lesserAt (lesserStart old points r) (r .capacity) (r .orbitals) (r .times) (retardedMade old points r) (lesserAdvancedMade old points r) t u
+
+  abbrev pub callLesser : TwoTime
+  callLesser t u = weightedSum (r .orbitals) (lesserTerms t u)
 
 -- what r's slices hold at old places up to k is what r' makes there of its points
 pub record HeldTo (k old points' : ℕ) (r r' : Run) : Type 0 where
@@ -100,7 +102,7 @@ pub record Fine (old points : ℕ) (r : Run) (t u a b : ℕ) : Type 0 where
   pub kernel : finiteSum (r .orbitals) (kernelTerms old points r t u) a b ≡ true
   pub retarded : finiteSum (r .orbitals) (retardedTerms old points r t u) a b ≡ true
   pub lesserAdvanced : finiteSum (r .orbitals) (lesserAdvancedTerms old points r t u) a b ≡ true
-  pub lesser : finiteSum (r .orbitals) (lesserTerms old points r t u) a b ≡ true
+  pub lesser : lesserStart old points r .finite t u a b && finiteSum (r .orbitals) (lesserTerms old points r t u) a b ≡ true
 
 module _ (k old points points' : ℕ) (r r₀ : Run) (hk : k < points) (room : points ≤ r .capacity) (hk' : k < points') (room' : points' ≤ r₀ .capacity)
     (same : SameTo k r (withOrbitals r₀ (r .orbitals))) (held : HeldTo k old points' r (withOrbitals r₀ (r .orbitals))) where
@@ -131,7 +133,7 @@ module _ (k old points points' : ℕ) (r r₀ : Run) (hk : k < points) (room : p
       dyson-stage n k _ _ (same .times) _ _ _ _ (same .free) (λ s v hs hv. kernels s v hs (le-trans hv hs)) (callRetarded old points r) (callRetarded 0 points' r') t u ht hu
       (λ s lo hi. retarded-rows s u (omega arith))
 
-  retardeds : SquareTo n k (of r (retardedMade old points r)) (of r' (retardedMade 0 points' r'))
+  pub retardeds : SquareTo n k (of r (retardedMade old points r)) (of r' (retardedMade 0 points' r'))
   unfolding newRetarded
   retardeds = written-agree n k (r .capacity) (r' .capacity) old points points' _ _ (r .retarded) (r' .retarded) hk room hk' room' (held .retarded) (λ t u ht hu. retarded-rows t u ht)
 
@@ -144,20 +146,6 @@ module _ (k old points points' : ℕ) (r r₀ : Run) (hk : k < points) (room : p
       written-agree n k (r .capacity) (r' .capacity) old points points' _ _ (r .lesserAdvanced) (r' .lesserAdvanced) hk room hk' room' (held .lesserAdvanced)
       (λ t u ht hu. weighted-agree n _ _ (lesser-advanced-terms t u ht hu))
 
-  lesser-terms : (t u : ℕ) → t ≤ k → u ≤ k → AgreeTerms n (lesserTerms old points r t u) (lesserTerms 0 points' r' t u)
-  lesser-terms t u ht hu = lesser-stage n k _ _ (same .times) (r .capacity) (r' .capacity) t u ht _ _ _ _ retardeds lesser-advanceds hu
-
-  pub lesser-square : SquareTo n k (callLesser old points r) (callLesser 0 points' r')
-  unfolding sumsOf
-  lesser-square t u ht hu = weighted-agree n _ _ (lesser-terms t u ht hu)
-
-  lessers : SquareTo n k (of r (lesserMade old points r)) (of r' (lesserMade 0 points' r'))
-  unfolding newNumbers
-  lessers = written-agree n k (r .capacity) (r' .capacity) old points points' _ _ (r .lesser) (r' .lesser) hk room hk' room' (held .lesser) lesser-square
-
-  pub made-agree : MadeTo k old points points' r r'
-  made-agree = record { kernel = kernels; retarded = retardeds; lesserAdvanced = lesser-advanceds; lesser = lessers }
-
   -- above the diagonal G^R has no term
   retarded-fine : (t u a b : ℕ) → t ≤ k → a < n → b < n → Fine old points r t u a b → finiteSum n (retardedTerms 0 points' r' t u) a b ≡ true
   unfolding finiteSum allBelow
@@ -167,14 +155,31 @@ module _ (k old points points' : ℕ) (r r₀ : Run) (hk : k < points) (room : p
         | no l ↦ sym (finite-agree n _ _ (retarded-terms t u ht (omega arith)) a b ha hb) ∙ f .retarded
       ]
 
-  pub fine-agree : (t u a b : ℕ) → t ≤ k → u ≤ k → a < n → b < n → Fine old points r t u a b → Fine 0 points' r' t u a b
-  fine-agree t u a b ht hu ha hb f =
-      record {
-        kernel = sym (finite-agree n _ _ (kernel-terms t u ht) a b ha hb) ∙ f .kernel;
-        retarded = retarded-fine t u a b ht ha hb f;
-        lesserAdvanced = sym (finite-agree n _ _ (lesser-advanced-terms t u ht hu) a b ha hb) ∙ f .lesserAdvanced;
-        lesser = sym (finite-agree n _ _ (lesser-terms t u ht hu) a b ha hb) ∙ f .lesser;
-      }
+  -- where G^< starts from the same
+  module _ (starts : (t u : ℕ) → t ≤ k → u ≤ k → SameStart n (lesserStart old points r) (lesserStart 0 points' r') t u) where
+    lesser-terms : (t u : ℕ) → t ≤ k → u ≤ k → AgreeTerms n (lesserTerms old points r t u) (lesserTerms 0 points' r' t u)
+    lesser-terms t u ht hu =
+        started-agree n (lesserStart old points r .block t u) (lesserStart 0 points' r' .block t u) _ _ (starts t u ht hu .block)
+        (lesser-stage n k _ _ (same .times) (r .capacity) (r' .capacity) t u ht _ _ _ _ retardeds lesser-advanceds hu)
+
+    pub lesser-square : SquareTo n k (callLesser old points r) (callLesser 0 points' r')
+    lesser-square t u ht hu = weighted-agree n _ _ (lesser-terms t u ht hu)
+
+    lessers : SquareTo n k (of r (lesserMade old points r)) (of r' (lesserMade 0 points' r'))
+    unfolding newLesserNumbers
+    lessers = written-agree n k (r .capacity) (r' .capacity) old points points' _ _ (r .lesser) (r' .lesser) hk room hk' room' (held .lesser) lesser-square
+
+    pub made-agree : MadeTo k old points points' r r'
+    made-agree = record { kernel = kernels; retarded = retardeds; lesserAdvanced = lesser-advanceds; lesser = lessers }
+
+    pub fine-agree : (t u a b : ℕ) → t ≤ k → u ≤ k → a < n → b < n → Fine old points r t u a b → Fine 0 points' r' t u a b
+    fine-agree t u a b ht hu ha hb f =
+        record {
+          kernel = sym (finite-agree n _ _ (kernel-terms t u ht) a b ha hb) ∙ f .kernel;
+          retarded = retarded-fine t u a b ht ha hb f;
+          lesserAdvanced = sym (finite-agree n _ _ (lesser-advanced-terms t u ht hu) a b ha hb) ∙ f .lesserAdvanced;
+          lesser = sym (ap₂ _&&_ (starts t u ht hu .finite a b ha hb) (finite-agree n _ _ (lesser-terms t u ht hu) a b ha hb)) ∙ f .lesser;
+        }
 
 -- ---- all that a call makes is finite where it is at each new place
 
@@ -183,7 +188,7 @@ module _ (old points : ℕ) (r : Run) where
   EachFine = (t u a b : ℕ) → old ≤ max t u → t < points → u < points → a < r .orbitals → b < r .orbitals → Fine old points r t u a b
 
   pub made-fine : madeFinite old points r ≡ true → EachFine
-  unfolding madeFinite solvedNewFinite newFinite newRetardedFinite
+  unfolding madeFinite solvedNewFinite newFinite newRetardedFinite newLesserFinite
   made-fine h t u a b new ht hu ha hb =
       let solved = both _ _ h in
       let first = both _ _ (solved .0) in
@@ -196,7 +201,7 @@ module _ (old points : ℕ) (r : Run) where
       }
 
   pub fine-made : EachFine → madeFinite old points r ≡ true
-  unfolding madeFinite solvedNewFinite newFinite newRetardedFinite
+  unfolding madeFinite solvedNewFinite newFinite newRetardedFinite newLesserFinite
   fine-made h =
       rw (
         each-new _ old points _ (λ t u a b new ht hu ha hb. h t u a b new ht hu ha hb .kernel),

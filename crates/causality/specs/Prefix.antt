@@ -9,6 +9,8 @@ use Rattle.block.specs.Agreement.{Agree}
 use Rattle.two_time.specs.Layout.{TwoTime, readAs}
 use Rattle.dyson.specs.Calls.{supportChecks}
 use Rattle.dyson.specs.Cases.{dysonComputation}
+use Rattle.transient_run.specs.Form.{g0Of}
+use Rattle.transient_run.specs.Form.Form.{empty}
 use Rattle.transient_run.specs.Calls.{Run, runOf, solved, isAccepted, verdictOf, worked, transientRun}
 use Rattle.transient_run.specs.Computation.{runComputation}
 use Rattle.transient_run.specs.P12 as P12
@@ -30,7 +32,7 @@ passes = P12.verdict one (replicate 18 one) refl inputs-pass
 abbrev pub short : Float → Run
 short x =
     let before = replicate 8 one in
-    runOf (record { products = replicate 8 7 }) 2 (record { points = 2; capacity = 2; orbitals = 1 }) one (plusZero ∷ one ∷ []) (one ∷ plusZero ∷ plusZero ∷ plusZero ∷ one ∷ plusZero ∷ x ∷ plusZero ∷ [])
+    runOf empty (record { products = replicate 8 7 }) 2 (record { points = 2; capacity = 2; orbitals = 1 }) one (plusZero ∷ one ∷ []) (one ∷ plusZero ∷ plusZero ∷ plusZero ∷ one ∷ plusZero ∷ x ∷ plusZero ∷ [])
     (one ∷ plusZero ∷ plusZero ∷ plusZero ∷ one ∷ plusZero ∷ one ∷ plusZero ∷ []) (plusZero ∷ one ∷ plusZero ∷ one ∷ plusZero ∷ one ∷ plusZero ∷ one ∷ []) before before before before
 
 abbrev pub two : Float
@@ -73,6 +75,7 @@ prefix-same =
       free = λ t u ht hu. square (of run (run .free)) (of (short one) (short one .free)) refl refl refl refl t u ht (omega arith);
       selfEnergy = λ t u ht hu. square (of run (run .selfEnergy)) (of (short one) (short one .selfEnergy)) refl refl refl refl t u ht (omega arith);
       lesserSelfEnergy = square (of run (run .lesserSelfEnergy)) (of (short one) (short one .lesserSelfEnergy)) refl refl refl refl;
+      start = λ a b ha hb. refl;
     }
 
 pub prefix : Comparable 1 run (short one) (isAccepted (transientRun run .answer) ≡ true) (isAccepted (transientRun (short one) .answer) ≡ true)

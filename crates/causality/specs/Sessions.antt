@@ -16,7 +16,7 @@ opened = record { products = replicate 8 0 }
 -- the same call in a session, at a desk
 abbrev pub inSession : Session → ℕ → Run → Run
 inSession session desk r =
-    runOf session desk (record { points = r .points; capacity = r .capacity; orbitals = r .orbitals }) (r .tolerance) (r .times) (r .free) (r .selfEnergy) (r .lesserSelfEnergy) (r .retarded) (r .lesser)
+    runOf (r .form) session desk (record { points = r .points; capacity = r .capacity; orbitals = r .orbitals }) (r .tolerance) (r .times) (r .free) (r .selfEnergy) (r .lesserSelfEnergy) (r .retarded) (r .lesser)
     (r .kernel) (r .lesserAdvanced)
 
 -- what 22 and 17 ask: a desk of the eight, whose counter has room for a count

@@ -14,6 +14,8 @@ use Rattle.two_time.specs.NewPlaces.{read-new}
 use Rattle.two_time.specs.SizeChecks.{SizesPassed}
 use Rattle.two_time.specs.Lengths.{none-asked, also-asked}
 use Rattle.transient_run.specs.Products.{formed}
+use Rattle.transient_run.specs.Form.{startProducts}
+use Rattle.transient_run.specs.FormChecks.{Square}
 use Rattle.transient_run.specs.Calls.{Run, solved, isAccepted, checksOf, verdictOf}
 use Rattle.transient_run.specs.Checks.{accepted, slices, checks-passed}
 use Rattle.causality.specs.Statement.{Solver, of, SameTo, SameRetarded, SameRows, ZeroAbove, Comparable, Demand3}
@@ -26,7 +28,7 @@ unfolding afterwards
 left-made cleared v made before e = rw e
 
 -- the sizes of an accepted call
-pub sizes : (old points : ℕ) (r : Run) → verdictOf old points r ≡ Pass → (2 ≤ points) × (points ≤ r .capacity) × SizesPassed (r .capacity) (r .orbitals) true (slices points r)
+pub sizes : (old points : ℕ) (r : Run) → verdictOf old points r ≡ Pass → (2 ≤ points) × (points ≤ r .capacity) × SizesPassed (r .capacity) (r .orbitals) true (slices points r) × Square (r .orbitals) (r .form)
 unfolding verdictOf
 sizes old points r v = checks-passed points r old (then-pass (checksOf old points r) _ v .0)
 
@@ -43,7 +45,7 @@ unfoldable pub solverOf : (Run → TwoTime) → (Run → TwoTime) → (Run → L
 solverOf g l kernel lesserAdvanced r =
     let holds : List Float → List Float → List Float = afterwards zeroed (verdictOf 0 (r .points) r) in
     record {
-      answer = solved (verdictOf 0 (r .points) r) (formed 0 (r .points));
+      answer = solved (verdictOf 0 (r .points) r) (formed (startProducts (r .form)) 0 (r .points));
       retarded = holds (leaves r (g r) (r .retarded)) (r .retarded);
       lesser = holds (leaves r (l r) (r .lesser)) (r .lesser);
       kernel = holds (kernel r) (r .kernel);
@@ -57,7 +59,7 @@ Inside k r = (k < r .points) × (r .points ≤ r .capacity)
 -- what g and l have to satisfy
 pub record ReadsNoLater (g l : Run → TwoTime) : Type 0 where
   pub retarded : (k : ℕ) (r r' : Run) → Inside k r → Inside k r' → SameTo k r (withOrbitals r' (r .orbitals)) → RowsTo (r .orbitals) k (g r) (g (withOrbitals r' (r .orbitals)))
-  pub lesser : (k : ℕ) (r r' : Run) → Inside k r → Inside k r' → SameTo k r (withOrbitals r' (r .orbitals)) → SquareTo (r .orbitals) k (l r) (l (withOrbitals r' (r .orbitals)))
+  pub lesser : (k : ℕ) (r r' : Run) → Inside k r → Inside k r' → verdictOf 0 (r .points) r ≡ Pass → SameTo k r (withOrbitals r' (r .orbitals)) → SquareTo (r .orbitals) k (l r) (l (withOrbitals r' (r .orbitals)))
   pub numbers : (r : Run) → verdictOf 0 (r .points) r ≡ Pass → (t u a b : ℕ) → t < r .points → u < r .points → a < r .orbitals → b < r .orbitals → cfinite (l r t u a b) ≡ true
   pub above : (r : Run) (t u a b : ℕ) → t < u → g r t u a b ≡ czero
 
@@ -114,7 +116,7 @@ module _ (g l : Run → TwoTime) (kernel lesserAdvanced : Run → List Float) (r
       let h' : Inside k r' = (c .within', sizes 0 (r' .points) r' v' .1) in
       let n = r .orbitals in
       let square : SquareTo n k (of r (leaves r (l r) (r .lesser))) (of r' (leaves r' (l r') (r' .lesser))) =
-      square-left k r r₀ h h' (l r) (l r') (r .lesser) (r' .lesser) (reads .lesser k r r₀ h h' (c .same)) in
+      square-left k r r₀ h h' (l r) (l r') (r .lesser) (r' .lesser) (reads .lesser k r r₀ h h' v (c .same)) in
       let below : (t : ℕ) → t ≤ k → t < r .points = λ t ht. omega arith in
       let below' : (t : ℕ) → t ≤ k → t < r' .points = λ t ht. omega arith in
       rw (left-made zeroed (verdict r) _ (r .retarded) v, left-made zeroed (verdict r') _ (r' .retarded) v', left-made zeroed (verdict r) _ (r .lesser) v, left-made zeroed (verdict r') _ (r' .lesser) v')

@@ -9,6 +9,8 @@ use Rattle.block.specs.Agreement.{Agree}
 use Rattle.grid.specs.Agreement.{AgreeTo}
 use Rattle.two_time.specs.Layout.{TwoTime, readAs}
 use Rattle.dyson.specs.Calls.{Solved}
+use Rattle.transient_run.specs.Form.{Form, g0Of}
+use Rattle.transient_run.specs.Form.Form.{empty, occupied}
 use Rattle.transient_run.specs.Calls.{Run, Outcome, isAccepted}
 use Rattle.observables.specs.Calls.{particleNumber, oneBodyExpectation, bondFlowInto}
 
@@ -22,14 +24,23 @@ abbrev pub of : Run → List Float → TwoTime
 of r xs = readAs (r .capacity) (r .orbitals) xs
 
 -- Two runs of equal n agree in bits up to index k: in times to k, in both retarded inputs on and below the diagonal in rows to k, and in the
--- lesser self-energy with both indices to k. All else is free: the session and the desk, the tolerance, the point counts and capacities, numbers past k
--- or above the diagonal, the room beyond the points, and what outputs and scratch held.
+-- lesser self-energy with both indices to k. Document 02, L5: "demand 3's premise adds g0 equal in bits, and the old form counts as g0 at +0". All else is
+-- free: the session and the desk, the tolerance, the point counts and capacities, numbers past k or above the diagonal, the room beyond the points, and
+-- what outputs and scratch held.
 pub record SameTo (k : ℕ) (r r' : Run) : Type 0 where
   pub orbitals : r .orbitals ≡ r' .orbitals
   pub times : AgreeTo k (r .times) (r' .times)
   pub free : (t u : ℕ) → t ≤ k → u ≤ t → Agree (r .orbitals) (of r (r .free) t u) (of r' (r' .free) t u)
   pub selfEnergy : (t u : ℕ) → t ≤ k → u ≤ t → Agree (r .orbitals) (of r (r .selfEnergy) t u) (of r' (r' .selfEnergy) t u)
   pub lesserSelfEnergy : (t u : ℕ) → t ≤ k → u ≤ k → Agree (r .orbitals) (of r (r .lesserSelfEnergy) t u) (of r' (r' .lesserSelfEnergy) t u)
+  pub start : Agree (r .orbitals) (g0Of (r .orbitals) (r .form)) (g0Of (r' .orbitals) (r' .form))
+
+-- both start empty, or both have a block g0
+abbrev pub SameKind : Form → Form → Type 0
+SameKind empty empty = Unit {0}
+SameKind empty (occupied g0) = ⊥
+SameKind (occupied g0) empty = ⊥
+SameKind (occupied g0) (occupied g0') = Unit {0}
 
 -- "a block by its shape and entries"
 pub record SameBlock (x x' : DenseMatrix) : Type 0 where

@@ -48,7 +48,7 @@ no-lesser g rows above =
     meets g nothing _ _
     (record {
       retarded = λ k r r' hk hk' same. rows k r r' same;
-      lesser = λ k r r' hk hk' same t u ht hu a b ha hb. refl;
+      lesser = λ k r r' hk hk' v same t u ht hu a b ha hb. refl;
       numbers = λ r v t u a b ht hu ha hb. zero-finite;
       above = above;
     })

@@ -65,6 +65,16 @@ module _ (capacity points n : ℕ) where
         (eqb-true _ _ (s .0), eqb-true _ _ (s .1)),
       )
 
+  -- what lies beside the slices has its length, and other slices that have theirs pass too
+  pub sizes-there : (form : Form) (there : Bool) (slices : List (List Float)) → formSizes form capacity points n (there && allLong (lengthOf capacity n) slices) ≡ Pass → there ≡ true
+  unfolding fitting
+  sizes-there form there slices e = both there _ (ask-pass _ (by 3) (then-pass _ _ (then-pass _ _ (then-pass _ _ (sizes-plain form _ e .0) .1) .1) .0)) .0
+
+  pub sizes-again : (form : Form) (fits fits' : Bool) → formSizes form capacity points n fits ≡ Pass → fits' ≡ true → formSizes form capacity points n fits' ≡ Pass
+  unfolding fitting
+  sizes-again form fits fits' e h =
+      ap (formSizes form capacity points n) (h ∙ sym (ask-pass fits (by 3) (then-pass _ _ (then-pass _ _ (then-pass _ _ (sizes-plain form fits e .0) .1) .1) .0))) ∙ e
+
   -- as the code asks them, with the limits of the capacity and of n in check 3 too
   pub sizes-by : (form : Form) (slices : List (List Float)) (there all : Bool) {v : Verdict} → all ≡ allFit capacity n slices → v ≡ formSizes form capacity points n (there && all)
       → v ≡ formSizes form capacity points n (there && allLong (lengthOf capacity n) slices)

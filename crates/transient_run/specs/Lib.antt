@@ -12,3 +12,5 @@ pub mod FormChecks
 pub mod Checks
 pub mod Ends
 pub mod Past
+-- and that G^R(t,0), from which G^< starts, is finite where K and G^R are
+pub mod Column
