@@ -83,7 +83,7 @@ module _ (r : Run) (passed : verdictOf 0 (r .points) r ≡ Pass) (session : Sess
   unfolding transientRun
   any-desk = made-left 0 (r .points) (inSession session desk r) zeroed again ∙ ap (together (formed (startProducts (r .form)) 0 (r .points))) (sym (made-left 0 (r .points) r zeroed passed))
 
-own-kind : (form : Form) → SameKind form form
+pub own-kind : (form : Form) → SameKind form form
 own-kind empty = tt
 own-kind (occupied g0) = tt
 

@@ -4,13 +4,14 @@ use Rattle.refusal.specs.declared.Refusal.{Refusal}
 use Rattle.transient_run.specs.declared.Solved.{Solved}
 use Rattle.transient_run.specs.declared.Solved.the-variants.{Accepted, Refused as NotSolved}
 use Rattle.transient_run.specs.Products.{countOf}
+use Rattle.transient_run.specs.Form.{startProducts}
 use Rattle.transient_run.specs.Calls.{Run, isAccepted, booked, worked, transientRun, appendPoint}
 use Rattle.causality.specs.Statement.{SameTo}
 use Rattle.causality.specs.Sessions.{Room}
 use Rattle.causality.specs.Counter.{room, books-both, room-for-both}
 use Rattle.causality.specs.History.{History, together}
 use Rattle.causality.specs.History.History.{ran, appended}
-use Rattle.causality.specs.Appends.{append-law}
+use Rattle.causality.specs.Appends.{own-kind, append-law}
 use Rattle.two_runs.specs.Contracts.{Step, runStep}
 use Rattle.two_runs.specs.Appending.{over, onto, appendStep, next, appends, runThenAppend, AllPoints}
 
@@ -26,6 +27,7 @@ module _ (r : Run) where
         free = λ t u ht hu a b ha hb. refl;
         selfEnergy = λ t u ht hu a b ha hb. refl;
         lesserSelfEnergy = λ t u ht hu a b ha hb. refl;
+        start = λ a b ha hb. refl;
       }
 
   -- to p points they are a history, and the desk's counter has moved by their counts
@@ -45,7 +47,7 @@ module _ (r : Run) where
   goes-on p s before (Accepted k) e ok =
       let longer : History (over r (suc p)) (appendPoint (onto r p s)) (before .count + k) =
       appended (before .history) (onto r p s)
-      (record { points = refl; capacity = refl; inputs = λ j l. same-inputs p j s; retarded = refl; lesser = refl; kernel = refl; lesserAdvanced = refl })
+      (record { points = refl; capacity = refl; form = own-kind (r .form); inputs = λ j l. same-inputs p j s; retarded = refl; lesser = refl; kernel = refl; lesserAdvanced = refl })
       e in
       record {
         count = before .count + k;
@@ -69,7 +71,7 @@ module _ (r : Run) where
   of-all : (p : ℕ) (s : Step) → p ≡ r .points → AcceptedTo p s → AllPoints r s
   of-all p s e h =
       let law = append-law (h .history) in
-      let number : h .count ≡ countOf (r .points) = law .counts ∙ ap (λ (n : ℕ). countOf n) e in
+      let number : h .count ≡ countOf (startProducts (r .form)) (r .points) = law .counts ∙ ap (λ (n : ℕ). countOf (startProducts (r .form)) n) e in
       record {
         left = ap (λ (q : ℕ). transientRun (over r q)) (sym e) ∙ law .leaves (r .session) (r .desk) (h .room) ∙ ap (λ (n : ℕ). together n (s .outcome)) number;
         session = h .session ∙ ap (λ (n : ℕ). booked (r .session) (r .desk) (Accepted n)) number;

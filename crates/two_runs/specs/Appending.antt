@@ -4,6 +4,7 @@ use Rattle.lists.specs.Prelude.{_≡_, ℕ, zero, suc, _+_, _-_, min}
 use Rattle.transient_run.specs.declared.Solved.{Solved}
 use Rattle.transient_run.specs.declared.Solved.the-variants.{Accepted, Refused as NotSolved}
 use Rattle.transient_run.specs.Products.{countOf}
+use Rattle.transient_run.specs.Form.{startProducts}
 use Rattle.transient_run.specs.Calls.{Run, runOf, booked, transientRun, appendPoint}
 use Rattle.causality.specs.Sessions.{Room}
 use Rattle.causality.specs.History.{together}
@@ -12,13 +13,13 @@ use Rattle.two_runs.specs.Contracts.{Step, stepOf, runStep}
 -- the call that is told p points: a run on what r's outputs and scratch hold, and an append after calls
 abbrev pub over : Run → ℕ → Run
 over r p =
-    runOf (r .session) (r .desk) (record { points = p; capacity = r .capacity; orbitals = r .orbitals }) (r .tolerance) (r .times) (r .free) (r .selfEnergy) (r .lesserSelfEnergy)
+    runOf (r .form) (r .session) (r .desk) (record { points = p; capacity = r .capacity; orbitals = r .orbitals }) (r .tolerance) (r .times) (r .free) (r .selfEnergy) (r .lesserSelfEnergy)
     (r .retarded) (r .lesser) (r .kernel) (r .lesserAdvanced)
 
 abbrev pub onto : Run → ℕ → Step → Run
 onto r p s =
     let o = s .outcome in
-    runOf (s .session) (r .desk) (record { points = p; capacity = r .capacity; orbitals = r .orbitals }) (r .tolerance) (r .times) (r .free) (r .selfEnergy) (r .lesserSelfEnergy) (o .retarded) (o .lesser)
+    runOf (r .form) (s .session) (r .desk) (record { points = p; capacity = r .capacity; orbitals = r .orbitals }) (r .tolerance) (r .times) (r .free) (r .selfEnergy) (r .lesserSelfEnergy) (o .retarded) (o .lesser)
     (o .kernel) (o .lesserAdvanced)
 
 abbrev pub appendStep : Run → ℕ → Step → Step
@@ -42,6 +43,6 @@ runThenAppend first r = let start = min first (r .points) in appends r start (ru
 -- count and leaves what they left; the desk's counter has room for the count, and the session is as after that run alone: the desk's counter has moved by the
 -- count, and "no other desk's counter changes"
 pub record AllPoints (r : Run) (s : Step) : Type 0 where
-  pub left : transientRun r ≡ together (countOf (r .points)) (s .outcome)
-  pub session : s .session ≡ booked (r .session) (r .desk) (Accepted (countOf (r .points)))
-  pub room : Room (r .session) (r .desk) (countOf (r .points))
+  pub left : transientRun r ≡ together (countOf (startProducts (r .form)) (r .points)) (s .outcome)
+  pub session : s .session ≡ booked (r .session) (r .desk) (Accepted (countOf (startProducts (r .form)) (r .points)))
+  pub room : Room (r .session) (r .desk) (countOf (startProducts (r .form)) (r .points))

@@ -5,12 +5,18 @@ use Rattle.matrix.specs.declared.DenseMatrix.{DenseMatrix}
 use Rattle.dyson.specs.Calls.{Solved as DysonSolved}
 use Rattle.transient_run.specs.declared.Session.{Session}
 use Rattle.transient_run.specs.declared.Booked.{Booked}
+use Rattle.transient_run.specs.Form.{Form, formBy}
 use Rattle.transient_run.specs.Calls.{Run, Outcome, isAccepted, booked, transientRun}
 use Rattle.observables.specs.declared.Observed.{Observed}
 use Rattle.observables.specs.Calls.{particleNumber, oneBodyExpectation, bondFlowInto}
 use Rattle.causality.specs.Statement.{SameBlock, Comparable, Demanded}
 use Rattle.two_runs.specs.declared.Question.{Question}
 use Rattle.two_runs.specs.declared.Answers.{Answers}
+use Rattle.two_runs.specs.declared.Start.{Start}
+
+-- the form of a run
+abbrev pub formWith : Start → Form
+formWith x = formBy (x .kind) (x .g0 .rows) (x .g0 .columns) (x .g0 .values)
 
 -- what a call answers and leaves, and the session after it
 pub record Step : Type 0 where

@@ -15,12 +15,12 @@ two-runs-spec =
     (tie.spec
     (λ c κs. tt)  -- run-and-ask-requires
     (λ c κs. tt)  -- run-and-ask-requires-2
-    (λ c. first c .run-and-ask .kept .1 .1 .1 .1 .1 .1 .1 .1 .0)  -- same-length
-    (λ c. first c .run-and-ask .kept .1 .1 .1 .1 .1 .1 .1 .1 .1 .0)  -- same-length-2
-    (λ c. first c .run-and-ask .kept .1 .1 .1 .1 .1 .1 .1 .1 .1 .1 .0)  -- same-length-3
-    (λ c. first c .run-and-ask .kept .1 .1 .1 .1 .1 .1 .1 .1 .1 .1 .1 .0)  -- same-length-4
-    (λ c. second c .run-and-ask2 .kept .1 .1 .1 .1 .1 .1 .1 .1 .0)  -- same-length-5
-    (λ c. second c .run-and-ask2 .kept .1 .1 .1 .1 .1 .1 .1 .1 .1 .0)  -- same-length-6
-    (λ c. second c .run-and-ask2 .kept .1 .1 .1 .1 .1 .1 .1 .1 .1 .1 .0)  -- same-length-7
-    (λ c. second c .run-and-ask2 .kept .1 .1 .1 .1 .1 .1 .1 .1 .1 .1 .1 .0)  -- same-length-8
+    (λ c. first c .run-and-ask .kept .1 .1 .1 .1 .1 .1 .1 .1 .1 .0)  -- same-length
+    (λ c. first c .run-and-ask .kept .1 .1 .1 .1 .1 .1 .1 .1 .1 .1 .0)  -- same-length-2
+    (λ c. first c .run-and-ask .kept .1 .1 .1 .1 .1 .1 .1 .1 .1 .1 .1 .0)  -- same-length-3
+    (λ c. first c .run-and-ask .kept .1 .1 .1 .1 .1 .1 .1 .1 .1 .1 .1 .1 .0)  -- same-length-4
+    (λ c. second c .run-and-ask2 .kept .1 .1 .1 .1 .1 .1 .1 .1 .1 .0)  -- same-length-5
+    (λ c. second c .run-and-ask2 .kept .1 .1 .1 .1 .1 .1 .1 .1 .1 .1 .0)  -- same-length-6
+    (λ c. second c .run-and-ask2 .kept .1 .1 .1 .1 .1 .1 .1 .1 .1 .1 .1 .0)  -- same-length-7
+    (λ c. second c .run-and-ask2 .kept .1 .1 .1 .1 .1 .1 .1 .1 .1 .1 .1 .1 .0)  -- same-length-8
     (λ c. blind (first c .run-and-ask .ensures) (second c .run-and-ask2 .ensures)))  -- returns
