@@ -14,11 +14,15 @@ use Rattle.two_time.specs.New.{isNew, written, everyNew}
 use Rattle.two_time.specs.WeightedSum.{weightedSum, finiteSum}
 use Rattle.two_time.specs.Sums.{sumsOf, newNumbers, newFinite}
 use Rattle.two_time.specs.Written.{laid-agree}
+use Rattle.two_time.specs.Start.{newLesserNumbers, newLesserFinite}
+use Rattle.two_time.specs.Started.{empty-numbers, empty-finite}
 use Rattle.dyson.specs.Retarded.{newRetarded, newRetardedFinite}
 use Rattle.dyson.specs.Calls.{solvedNewFinite}
 use Rattle.transient_run.specs.declared.Solved.the-variants.{Accepted}
 use Rattle.transient_run.specs.Products.{formed}
-use Rattle.transient_run.specs.Calls.{Run, kernelMade, retardedMade, lesserAdvancedMade, lesserMade, madeFinite, checksOf, verdictOf, worked, solved, transientRun}
+use Rattle.transient_run.specs.Form.{Form, startOf, startProducts}
+use Rattle.transient_run.specs.Form.Form.{empty}
+use Rattle.transient_run.specs.Calls.{Run, kernelMade, retardedMade, lesserAdvancedMade, lesserStart, lesserMade, madeFinite, checksOf, verdictOf, worked, solved, transientRun}
 use Rattle.amendments.specs.OnePoint.{now, before, kept}
 
 -- ---- the sums at new places
@@ -71,6 +75,17 @@ module _ (sums : Sums) (capacity n old points : ℕ) (times left right : List Fl
 
 -- ---- the run
 
+-- document 01's G^< of the empty form
+module _ (old points : ℕ) (r : Run) (start : r .form ≡ empty) where
+  empty-lesser : lesserMade old points r ≡ newNumbers Lesser (r .capacity) (r .orbitals) old points (r .times) (retardedMade old points r) (lesserAdvancedMade old points r) (r .lesser)
+  unfolding startOf
+  empty-lesser = rw start (empty-numbers (r .capacity) (r .orbitals) old points (r .times) (retardedMade old points r) (lesserAdvancedMade old points r) (r .lesser))
+
+  empty-lesser-finite : newLesserFinite (lesserStart old points r) (r .capacity) (r .orbitals) old points (r .times) (retardedMade old points r) (lesserAdvancedMade old points r)
+      ≡ newFinite Lesser (r .capacity) (r .orbitals) old points (r .times) (retardedMade old points r) (lesserAdvancedMade old points r)
+  unfolding startOf
+  empty-lesser-finite = rw start (empty-finite (r .capacity) (r .orbitals) old points (r .times) (retardedMade old points r) (lesserAdvancedMade old points r))
+
 module _ (old points : ℕ) (r : Run) where
   abbrev pub kernelBefore : List Float
   kernelBefore = newNumbersBefore Causal (r .capacity) (r .orbitals) old points (r .times) (r .free) (r .selfEnergy) (r .kernel)
@@ -99,7 +114,7 @@ module _ (old points : ℕ) (r : Run) where
   abbrev pub madeBefore : Bool
   madeBefore = (causal && green) && (advanced && lesser)
 
-  module _ (h : madeBefore ≡ true) where
+  module _ (start : r .form ≡ empty) (h : madeBefore ≡ true) where
     first : (causal ≡ true) × (green ≡ true)
     first = both causal green (both (causal && green) (advanced && lesser) h .0)
 
@@ -121,6 +136,7 @@ module _ (old points : ℕ) (r : Run) where
     lesser-kept =
         new-numbers-kept Lesser (r .capacity) (r .orbitals) old points (r .times) retardedBefore lesserAdvancedBefore (second .1) (r .lesser)
         ∙ ap₂ (λ (g x : List Float). newNumbers Lesser (r .capacity) (r .orbitals) old points (r .times) g x (r .lesser)) retarded-kept lesser-advanced-kept
+        ∙ sym (empty-lesser old points r start)
 
     finite-kept : madeFinite old points r ≡ true
     unfolding madeFinite solvedNewFinite
@@ -131,20 +147,20 @@ module _ (old points : ℕ) (r : Run) where
         (ap₂ _&&_
         (sym (ap (newFinite LesserAdvanced (r .capacity) (r .orbitals) old points (r .times) (r .lesserSelfEnergy)) retarded-kept)
         ∙ new-finite-kept LesserAdvanced (r .capacity) (r .orbitals) old points (r .times) (r .lesserSelfEnergy) retardedBefore (second .0))
-        (sym (ap₂ (newFinite Lesser (r .capacity) (r .orbitals) old points (r .times)) retarded-kept lesser-advanced-kept)
+        (empty-lesser-finite old points r start ∙ sym (ap₂ (newFinite Lesser (r .capacity) (r .orbitals) old points (r .times)) retarded-kept lesser-advanced-kept)
         ∙ new-finite-kept Lesser (r .capacity) (r .orbitals) old points (r .times) retardedBefore lesserAdvancedBefore (second .1)))
 
-  worked-kept : (cleared : List Float → List Float) → (checksOf old points r then finiteWork madeBefore) ≡ Pass
-      → worked old points r cleared ≡ record { answer = Accepted (formed old points); retarded = retardedBefore; lesser = lesserBefore; kernel = kernelBefore; lesserAdvanced = lesserAdvancedBefore }
-  unfolding worked verdictOf solved _then_ finiteWork ask afterwards
-  worked-kept cleared h =
+  worked-kept : r .form ≡ empty → (cleared : List Float → List Float) → (checksOf old points r then finiteWork madeBefore) ≡ Pass
+      → worked old points r cleared ≡ record { answer = Accepted (formed 0 old points); retarded = retardedBefore; lesser = lesserBefore; kernel = kernelBefore; lesserAdvanced = lesserAdvancedBefore }
+  unfolding worked verdictOf solved _then_ finiteWork ask afterwards startProducts
+  worked-kept start cleared h =
       let p = then-pass (checksOf old points r) _ h in
       let e = ask-pass madeBefore _ (p .1) in
-      rw (p .0, finite-kept e, lesser-kept e, lesser-advanced-kept e, retarded-kept e, kernel-kept e)
+      rw (p .0, finite-kept start e, lesser-kept start e, lesser-advanced-kept start e, retarded-kept start e, kernel-kept start e) (ap (λ (form : Form). record { answer = Accepted (formed (startProducts form) old points); retarded = retardedMade old points r; lesser = lesserMade old points r; kernel = kernelMade old points r; lesserAdvanced = lesserAdvancedMade old points r }) start)
 
 -- `transient_run`
-pub run-kept : (r : Run) → (checksOf 0 (r .points) r then finiteWork (madeBefore 0 (r .points) r)) ≡ Pass
+pub run-kept : (r : Run) → r .form ≡ empty → (checksOf 0 (r .points) r then finiteWork (madeBefore 0 (r .points) r)) ≡ Pass
     → transientRun r
-    ≡ record { answer = Accepted (formed 0 (r .points)); retarded = retardedBefore 0 (r .points) r; lesser = lesserBefore 0 (r .points) r; kernel = kernelBefore 0 (r .points) r; lesserAdvanced = lesserAdvancedBefore 0 (r .points) r }
+    ≡ record { answer = Accepted (formed 0 0 (r .points)); retarded = retardedBefore 0 (r .points) r; lesser = lesserBefore 0 (r .points) r; kernel = kernelBefore 0 (r .points) r; lesserAdvanced = lesserAdvancedBefore 0 (r .points) r }
 unfolding transientRun
-run-kept r h = worked-kept 0 (r .points) r zeroed h
+run-kept r start h = worked-kept 0 (r .points) r start zeroed h

@@ -12,7 +12,8 @@ use Rattle.matrix.specs.Dense.{countOf}
 use Rattle.two_time.specs.declared.sums.Sums.the-variants.{Causal, LesserAdvanced, Lesser}
 use Rattle.two_time.specs.Layout.{lengthOf}
 use Rattle.two_time.specs.Sums.{sumsNumbers, sumsFinite, newNumbers, newFinite}
-use Rattle.two_time.specs.Calls.{sizeChecks, operandChecks, inputChecks, pointEntries, pointOperands, pointChecks}
+use Rattle.two_time.specs.Started.{empty-numbers, empty-finite}
+use Rattle.two_time.specs.Calls.{capacityChecks, sizeChecks, operandChecks, inputChecks, pointEntries, pointOperands, pointChecks}
 use Rattle.two_time.specs.SizeChecks.{sizes-passed}
 use Rattle.two_time.specs.CapacityChecks.{capacity-points}
 use Rattle.two_time.specs.Lengths.{Long, lengths}
@@ -22,6 +23,8 @@ use Rattle.dyson.specs.Calls.{Equation, equationOf, kernelOf, retardedOf, solve
 use Rattle.dyson.specs.NewSolved.{finite-all, green-all}
 use Rattle.transient_run.specs.declared.Session.{Session}
 use Rattle.transient_run.specs.Products.{formed}
+use Rattle.transient_run.specs.Form.{formSizes, formEntries, startOf, startProducts}
+use Rattle.transient_run.specs.Form.Form.{empty}
 use Rattle.transient_run.specs.Calls.{Run, Outcome, counterOf, runOf, retardedMade, lesserAdvancedMade, lesserMade, madeFinite, checksOf, verdictOf, worked, solved, transientRun}
 use Rattle.observables.specs.Calls.{lesserChecks, lesserBlockChecks}
 
@@ -76,7 +79,7 @@ module _ (points n : ℕ) (lesser : List Float) where
 
 module _ (session : Session) (desk points n : ℕ) (tolerance : Float) (times free selfEnergy lesserSelfEnergy retarded lesser kernel lesserAdvanced : List Float) where
   abbrev run : Run
-  run = runOf session desk (record { points = points; capacity = points; orbitals = n }) tolerance times free selfEnergy lesserSelfEnergy retarded lesser kernel lesserAdvanced
+  run = runOf empty session desk (record { points = points; capacity = points; orbitals = n }) tolerance times free selfEnergy lesserSelfEnergy retarded lesser kernel lesserAdvanced
 
   -- document 01's: K and G^R as Dyson makes them, X of Σ^< and G^R, G^< of G^R and X
   abbrev q : Equation
@@ -93,7 +96,7 @@ module _ (session : Session) (desk points n : ℕ) (tolerance : Float) (times fr
 
   -- 22 of document 02, then checks 1 to 9, then 17 of document 02, then 10
   abbrev asked : Verdict
-  asked = deskKnown desk then checksBefore q tolerance (lesserSelfEnergy ∷ []) (retarded ∷ lesser ∷ kernel ∷ lesserAdvanced ∷ []) then counterHolds (counterOf session desk) (formed 0 points)
+  asked = deskKnown desk then checksBefore q tolerance (lesserSelfEnergy ∷ []) (retarded ∷ lesser ∷ kernel ∷ lesserAdvanced ∷ []) then counterHolds (counterOf session desk) (formed 0 0 points)
 
   abbrev verdictBefore : Verdict
   verdictBefore = asked then finiteWork finiteBefore
@@ -101,7 +104,7 @@ module _ (session : Session) (desk points n : ℕ) (tolerance : Float) (times fr
   abbrev pub runBefore : Outcome
   runBefore =
       record {
-        answer = solved verdictBefore (formed 0 points);
+        answer = solved verdictBefore (formed 0 0 points);
         retarded = afterwards zeroed verdictBefore (retardedOf q) retarded;
         lesser = afterwards zeroed verdictBefore lesserBefore lesser;
         kernel = afterwards zeroed verdictBefore (kernelOf q) kernel;
@@ -112,14 +115,14 @@ module _ (session : Session) (desk points n : ℕ) (tolerance : Float) (times fr
   slices = free ∷ selfEnergy ∷ lesserSelfEnergy ∷ retarded ∷ lesser ∷ kernel ∷ lesserAdvanced ∷ []
 
   checks-all : checksOf 0 points run ≡ asked
-  unfolding checksOf inputChecks
+  unfolding checksOf inputChecks formSizes formEntries startProducts capacityChecks
   checks-all =
       then-assoc (deskKnown desk) _ _
       ∙ ap (λ (v : Verdict). deskKnown desk then v)
       (then-agree _ _ _ _ (capacity-points points n (eqb (length times) points) slices) (λ p.
       let z = sizes-passed points n (eqb (length times) points) slices (sym (capacity-points points n (eqb (length times) points) slices) ∙ p) in
       let l = lengths z in
-      then-agree _ _ _ _ refl (λ g. then-agree _ _ _ _ (operands-all points n 0 (free ∷ selfEnergy ∷ lesserSelfEnergy ∷ []) (l .0, (l .1 .0, (l .1 .1 .0, tt)))) (λ o. refl)))
+      then-agree _ _ _ _ refl (λ g. then-agree _ _ _ _ (then-end _ ∙ operands-all points n 0 (free ∷ selfEnergy ∷ lesserSelfEnergy ∷ []) (l .0, (l .1 .0, (l .1 .1 .0, tt)))) (λ o. refl)))
       ∙ simp then-assoc)
 
   green : retardedMade 0 points run ≡ retardedOf q
@@ -130,31 +133,33 @@ module _ (session : Session) (desk points n : ℕ) (tolerance : Float) (times fr
       ap (λ (g : List Float). newNumbers LesserAdvanced points n 0 points times lesserSelfEnergy g lesserAdvanced) green ∙ all-numbers LesserAdvanced points n times lesserSelfEnergy (retardedOf q) lesserAdvanced
 
   lesser-all : lesserMade 0 points run ≡ lesserBefore
+  unfolding startOf
   lesser-all =
-      ap₂ (λ (g x : List Float). newNumbers Lesser points n 0 points times g x lesser) green lesser-advanced-all ∙ all-numbers Lesser points n times (retardedOf q) lesserAdvancedBefore lesser
+      empty-numbers points n 0 points times (retardedMade 0 points run) (lesserAdvancedMade 0 points run) lesser
+      ∙ ap₂ (λ (g x : List Float). newNumbers Lesser points n 0 points times g x lesser) green lesser-advanced-all ∙ all-numbers Lesser points n times (retardedOf q) lesserAdvancedBefore lesser
 
   made-finite-all : madeFinite 0 points run ≡ finiteBefore
-  unfolding madeFinite
+  unfolding madeFinite startOf
   made-finite-all =
       ap₂ _&&_ (finite-all points n times free selfEnergy retarded kernel)
       (ap₂ _&&_
       (ap (newFinite LesserAdvanced points n 0 points times lesserSelfEnergy) green ∙ all-finite LesserAdvanced points n times lesserSelfEnergy (retardedOf q) lesserAdvanced)
-      (ap₂ (newFinite Lesser points n 0 points times) green lesser-advanced-all ∙ all-finite Lesser points n times (retardedOf q) lesserAdvancedBefore lesser))
+      (empty-finite points n 0 points times (retardedMade 0 points run) (lesserAdvancedMade 0 points run) ∙ ap₂ (newFinite Lesser points n 0 points times) green lesser-advanced-all ∙ all-finite Lesser points n times (retardedOf q) lesserAdvancedBefore lesser))
 
   verdict-all : verdictOf 0 points run ≡ verdictBefore
   unfolding verdictOf
   verdict-all = ap₂ _then_ checks-all (ap finiteWork made-finite-all)
 
   pub run-all : transientRun run ≡ runBefore
-  unfolding transientRun worked
+  unfolding transientRun worked startProducts
   run-all = rw (verdict-all, lesser-all, lesser-advanced-all, green, all-numbers Causal points n times free selfEnergy kernel)
 
   -- at one of the eight desks whose counter has room for the count, 22 and 17 change nothing
-  pub with-room : desk < 8 → counterOf session desk + formed 0 points ≤ 0xffff_ffff_ffff_ffff
+  pub with-room : desk < 8 → counterOf session desk + formed 0 0 points ≤ 0xffff_ffff_ffff_ffff
       → verdictBefore ≡ (checksBefore q tolerance (lesserSelfEnergy ∷ []) (retarded ∷ lesser ∷ kernel ∷ lesserAdvanced ∷ []) then finiteWork finiteBefore)
   unfolding counterHolds deskKnown
   with-room known h =
       let named = ask-yes (ltb desk 8) (by 22) (lt-ltb desk 8 known) in
-      let holds = ask-yes (leb (counterOf session desk + formed 0 points) 0xffff_ffff_ffff_ffff) (by 17) (le-leb _ _ h) in
+      let holds = ask-yes (leb (counterOf session desk + formed 0 0 points) 0xffff_ffff_ffff_ffff) (by 17) (le-leb _ _ h) in
       ap (λ (v : Verdict). v then finiteWork finiteBefore)
       (then-after (deskKnown desk) _ named ∙ rw (holds, then-end (checksBefore q tolerance (lesserSelfEnergy ∷ []) (retarded ∷ lesser ∷ kernel ∷ lesserAdvanced ∷ []))))

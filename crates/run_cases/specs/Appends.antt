@@ -2,6 +2,7 @@
 use Rattle.lists.specs.Prelude.{_≡_, refl, List, [], _∷_, _++_, map, ℕ, _-_, replicate, getD, Float, nan}
 use Rattle.two_time.specs.Example.{floats, bits}
 use Rattle.complex.specs.Arithmetic.{plusZero, one}
+use Rattle.transient_run.specs.Form.Form.{empty}
 use Rattle.transient_run.specs.Calls.{Run, runOf, Outcome, solvedNumber, appendPoint}
 use Rattle.transient_run.specs.Computation.{runComputation}
 use Rattle.transient_run.specs.P12 as P12
@@ -72,7 +73,7 @@ abbrev nanAt : ℕ → List Float
 nanAt i = replicate i plusZero ++ nan ∷ replicate (17 - i) plusZero
 
 abbrev ontoTwo : List Float → List Float → List Float → List Float → Run
-ontoTwo = runOf (record { products = replicate 8 0 }) 0 (record { points = 2; capacity = 3; orbitals = 1 }) one P12.times P12.lower P12.lower P12.imaginary
+ontoTwo = runOf empty (record { products = replicate 8 0 }) 0 (record { points = 2; capacity = 3; orbitals = 1 }) one P12.times P12.lower P12.lower P12.imaginary
 
 abbrev zeros : List Float
 zeros = replicate 18 plusZero

@@ -9,6 +9,7 @@ use Rattle.two_time.specs.Computation.{computation}
 use Rattle.two_time.specs.Example as Example
 use Rattle.two_time.specs.Example.{floats, bits}
 use Rattle.transient_run.specs.declared.Solved.the-variants.{Accepted, Refused as NotSolved}
+use Rattle.transient_run.specs.Form.Form.{empty}
 use Rattle.transient_run.specs.Calls.{Run, runOf, solvedNumber, transientRun}
 use Rattle.transient_run.specs.Computation.{runComputation}
 
@@ -35,7 +36,7 @@ abbrev ones : List Float
 ones = replicate 8 one
 
 abbrev on : List Float → Float → List Float → List Float → List Float → Run
-on times tolerance free selfEnergy lesserSelfEnergy = runOf (record { products = replicate 8 0 }) 0 (record { points = 2; capacity = 2; orbitals = 1 }) tolerance times free selfEnergy lesserSelfEnergy ones ones ones ones
+on times tolerance free selfEnergy lesserSelfEnergy = runOf empty (record { products = replicate 8 0 }) 0 (record { points = 2; capacity = 2; orbitals = 1 }) tolerance times free selfEnergy lesserSelfEnergy ones ones ones ones
 
 abbrev run : Float → List Float → List Float → List Float → Run
 run = on (plusZero ∷ one ∷ [])

@@ -13,7 +13,8 @@ use Rattle.dyson.specs.Cases.{dysonComputation}
 use Rattle.transient_run.specs.declared.Solved.{Solved}
 use Rattle.transient_run.specs.declared.Solved.the-variants.{Accepted, Refused as NotSolved}
 use Rattle.transient_run.specs.declared.Session.{Session}
-use Rattle.transient_run.specs.Products.{total, formed}
+use Rattle.transient_run.specs.Products.{total, overNew, formed}
+use Rattle.transient_run.specs.Form.Form.{empty}
 use Rattle.transient_run.specs.Calls.{Run, counterOf, runOf, booked, transientRun, appendPoint}
 use Rattle.transient_run.specs.Computation.{runComputation}
 use Rattle.transient_run.specs.P12 as P12
@@ -32,8 +33,8 @@ passed : supportChecks 3 1 one (readAs 3 1 P12.lower) (readAs 3 1 P12.lower) ≡
 unfolding dysonComputation
 passed = refl
 
-room : (counterHolds (most - 41) (formed 0 3) ≡ Pass) × (counterHolds (most - 40) (formed 0 3) ≡ Refused (by 17)) × (counterHolds 0 (formed 0 3) ≡ Pass)
-unfolding counterHolds ask formed total isNew intervalCount
+room : (counterHolds (most - 41) (formed 0 0 3) ≡ Pass) × (counterHolds (most - 40) (formed 0 0 3) ≡ Refused (by 17)) × (counterHolds 0 (formed 0 0 3) ≡ Pass)
+unfolding counterHolds ask formed overNew total isNew intervalCount
 room = (refl, refl, refl)
 
 desks : (deskKnown 0 ≡ Pass) × (deskKnown 3 ≡ Pass) × (deskKnown 4 ≡ Pass) × (deskKnown 7 ≡ Pass)
@@ -44,7 +45,7 @@ desks = (refl, refl, refl, refl)
 abbrev after : Session → ℕ → Session
 after session desk = booked session desk (transientRun (P12.runIn session desk one (replicate 18 one)) .answer)
 
-counts : (session : Session) (desk : ℕ) → deskKnown desk ≡ Pass → counterHolds (counterOf session desk) (formed 0 3) ≡ Pass → after session desk ≡ record { products = set (session .products) desk (counterOf session desk + 41) }
+counts : (session : Session) (desk : ℕ) → deskKnown desk ≡ Pass → counterHolds (counterOf session desk) (formed 0 0 3) ≡ Pass → after session desk ≡ record { products = set (session .products) desk (counterOf session desk + 41) }
 unfolding booked
 counts session desk known holds = rw (P12.outcome-in one (replicate 18 one) refl passed session desk known holds)
 
@@ -68,7 +69,7 @@ first-and-last = rw (counts (at 0) 0 (desks .0) (room .2)) (ap (λ (s : Session)
 abbrev overflowing : ℕ → Run
 overflowing products =
     let ones = replicate 8 one in
-    runOf (at products) 3 (record { points = 2; capacity = 2; orbitals = 1 }) one (plusZero ∷ one ∷ []) (floats (0 ∷ 0 ∷ 0 ∷ 0 ∷ 0x4000000000000000 ∷ 0 ∷ 0 ∷ 0 ∷ []))
+    runOf empty (at products) 3 (record { points = 2; capacity = 2; orbitals = 1 }) one (plusZero ∷ one ∷ []) (floats (0 ∷ 0 ∷ 0 ∷ 0 ∷ 0x4000000000000000 ∷ 0 ∷ 0 ∷ 0 ∷ []))
     (replicate 8 plusZero) (floats (0x7fe0000000000000 ∷ 0 ∷ 0 ∷ 0 ∷ 0 ∷ 0 ∷ 0 ∷ 0 ∷ [])) ones ones ones ones
 
 -- a full counter is asked before any product: 17; with room for the 11 products 10, and the counter is as it was
@@ -82,7 +83,7 @@ overflow = (refl, refl, refl)
 abbrev zerosOver : ℕ → Session → ℕ → Run
 zerosOver points session desk =
     let none = replicate 8 plusZero in
-    runOf session desk (record { points = points; capacity = 2; orbitals = 1 }) one (plusZero ∷ one ∷ []) none none none none none none none
+    runOf empty session desk (record { points = points; capacity = 2; orbitals = 1 }) one (plusZero ∷ one ∷ []) none none none none none none none
 
 -- desk 8 is no desk, asked before line 1: 22 where no point is told
 no-desk : transientRun (zerosOver 0 (at 0) 8) .answer ≡ NotSolved (by 22)

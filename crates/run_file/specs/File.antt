@@ -10,6 +10,7 @@ use Rattle.two_time.specs.declared.capacity.Shape.{Shape}
 use Rattle.two_time.specs.Layout.{lengthOf}
 use Rattle.dyson.specs.Calls.{defaultTolerance}
 use Rattle.transient_run.specs.declared.Session.{Session}
+use Rattle.transient_run.specs.Form.Form.{empty}
 use Rattle.transient_run.specs.Calls.{Run, runOf}
 use Rattle.run_file.specs.Bytes.{u32, numbers}
 
@@ -55,5 +56,5 @@ module _ (bytes : List ℕ) where
       let each = lengthOf pointsOf orbitalsOf in
       let free = 40 + 8 * pointsOf in
       let zeros = replicate each plusZero in
-      runOf opened 0 (shapeOf pointsOf orbitalsOf) defaultTolerance (numbers 40 pointsOf bytes)
+      runOf empty opened 0 (shapeOf pointsOf orbitalsOf) defaultTolerance (numbers 40 pointsOf bytes)
       (numbers free each bytes) (numbers (free + 8 * each) each bytes) (numbers (free + 16 * each) each bytes) zeros zeros zeros zeros

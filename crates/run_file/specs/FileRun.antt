@@ -1,5 +1,5 @@
 -- The run of a file, and the text of its answer. Assumes nothing.
-use Rattle.lists.specs.Prelude.{_≡_, refl, sym, ap, _∙_, List, _∷_, ℕ, zero, suc, _+_, _*_, _≤_, not-suc-le-zero, le-of-suc-le-suc, arith, length, take, replicate}
+use Rattle.lists.specs.Prelude.{_≡_, refl, sym, ap, _∙_, List, _∷_, ℕ, zero, suc, _+_, _*_, zero-mul, _≤_, not-suc-le-zero, le-of-suc-le-suc, arith, length, take, replicate}
 use Rattle.lists.specs.Prelude.{length-replicate, length-append, le-leb, Float}
 use Rattle.lists.specs.Filling.{over}
 use Rattle.complex.specs.Arithmetic.{plusZero}
@@ -15,6 +15,7 @@ use Rattle.transient_run.specs.declared.Session.{Session}
 use Rattle.transient_run.specs.declared.Solved.{Solved}
 use Rattle.transient_run.specs.declared.Solved.the-variants.{Accepted, Refused as NotSolved}
 use Rattle.transient_run.specs.Products.{formed, formed-count, steps}
+use Rattle.transient_run.specs.Form.Form.{empty}
 use Rattle.transient_run.specs.Calls.{Run, counterOf, runOf, transientRun}
 use Rattle.run_file.specs.Bytes.{numbers}
 use Rattle.run_file.specs.File.{shapeOf, opened, pointsOf, fileChecks, fileRun}
@@ -26,12 +27,12 @@ use Rattle.run_file.specs.Appended.{Appended, as-text, whole-text}
 pub decoded-run : {points orbitals : ℕ} {bytes : List ℕ} → FileSizes points orbitals bytes → {session : Session} {times free selfEnergy lesserSelfEnergy zeros : List Float} → let each = lengthOf points orbitals in
     session ≡ opened → times ≡ numbers 40 points bytes → free ≡ numbers (40 + 8 * points) each bytes → selfEnergy ≡ numbers (40 + 8 * points + 8 * each) each bytes
     → lesserSelfEnergy ≡ numbers (40 + 8 * points + 16 * each) each bytes → zeros ≡ replicate each plusZero
-    → runOf session 0 (shapeOf points orbitals) defaultTolerance times free selfEnergy lesserSelfEnergy zeros zeros zeros zeros ≡ fileRun bytes
+    → runOf empty session 0 (shapeOf points orbitals) defaultTolerance times free selfEnergy lesserSelfEnergy zeros zeros zeros zeros ≡ fileRun bytes
 unfolding fileRun
 decoded-run s o h i j k z = rw (o, h, i, j, k, z, s .points-named, s .orbitals-named)
 
 -- its desk is known and has room for its products, so it is never refused by 22 or 17
-pub file-counted : (bytes : List ℕ) → fileChecks bytes ≡ Pass → let r = fileRun bytes in (deskKnown (r .desk) ≡ Pass) × (counterHolds (counterOf (r .session) (r .desk)) (formed 0 (r .points)) ≡ Pass)
+pub file-counted : (bytes : List ℕ) → fileChecks bytes ≡ Pass → let r = fileRun bytes in (deskKnown (r .desk) ≡ Pass) × (counterHolds (counterOf (r .session) (r .desk)) (formed 0 0 (r .points)) ≡ Pass)
 unfolding fileRun counterHolds deskKnown ask
 file-counted bytes h =
     let points = pointsOf bytes in
@@ -39,7 +40,7 @@ file-counted bytes h =
     let most = steps points (omega arith) in
     let pyramid = most .pyramid-most in
     let slab = most .slab-most in
-    (refl, ask-yes _ (by 17) (le-leb (0 + formed 0 points) 0xffff_ffff_ffff_ffff (let e = formed-count points in omega arith)))
+    (refl, ask-yes _ (by 17) (le-leb (0 + formed 0 0 points) 0xffff_ffff_ffff_ffff (let e = formed-count 0 points in let z = zero-mul (points * points) in omega arith)))
 
 -- what its answer prints
 pub answer-printed : (r : Run) {answer : Solved} {lesser : List Float} → answer ≡ transientRun r .answer → lesser ≡ transientRun r .lesser

@@ -8,6 +8,7 @@ ghost use Rattle.lists.specs.Prelude.{_≡_, _≤_, length};
 ghost use Rattle.lists.specs.Filling.{over};
 ghost use Rattle.dyson.specs.Calls.{defaultTolerance};
 ghost use Rattle.two_time.specs.Layout.{lengthOf};
+ghost use Rattle.transient_run.specs.Form.Form.{empty};
 ghost use Rattle.transient_run.specs.Calls.{runOf};
 ghost use Rattle.run_file.specs.File.{shapeOf, fileRun};
 ghost use Rattle.run_file.specs.Program.{runText, solvedText, runAnswer, printed};
@@ -81,7 +82,7 @@ fn solve(
     out: &mut [u8],
 ) -> usize
     requires { ⌜ (points ≤ 16) × (orbitals ≤ 16) × (512 ≤ length (now out)) ⌝ }
-    ensures { λ r. ⌜ Appended (now (out .entry)) (now (out .exit)) 0 r (runAnswer (runOf session 0 (shapeOf points orbitals) defaultTolerance (now (times .entry)) (now (free .entry)) (now («self_energy» .entry)) (now («lesser_self_energy» .entry))
+    ensures { λ r. ⌜ Appended (now (out .entry)) (now (out .exit)) 0 r (runAnswer (runOf empty session 0 (shapeOf points orbitals) defaultTolerance (now (times .entry)) (now (free .entry)) (now («self_energy» .entry)) (now («lesser_self_energy» .entry))
         (now (retarded .entry)) (now (lesser .entry)) (now (kernel .entry)) (now («lesser_advanced» .entry)))) ⌝ }
 {
     let shape = Shape {
