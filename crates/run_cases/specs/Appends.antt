@@ -21,6 +21,7 @@ held x = x ∷ floats (0 ∷ 0x401c000000000000 ∷ 0x401c000000000000 ∷ 0x401
 abbrev onto : ℕ → ℕ → Float → Float → Float → Float → Run
 onto points capacity g l k x =
     record {
+      form = empty;
       session = P12.opened;
       desk = 0;
       points = points;
