@@ -10,3 +10,5 @@ pub mod SeventhResidual
 pub mod ArgumentsFirst
 -- L10: a trace that is not finite is refused by 10.
 pub mod FiniteTrace
+-- L5: a block g0 at +0.
+pub mod ZeroStart
