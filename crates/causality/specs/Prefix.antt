@@ -1,16 +1,18 @@
 -- P12's run and the run of its first two points: both are accepted and agree up to 1, so what demand 3 supposes can be met, by runs of different
--- N, capacity, session and desk too. Assumes nothing.
+-- N, capacity, session and desk too, and of different forms. Assumes nothing.
 use Rattle.lists.specs.Prelude.{_≡_, refl, true, [], _∷_, ℕ, zero, suc, _≤_, arith, getD, replicate, Float, nan, binary64}
 use lib.Ieee as Ieee
 use Rattle.complex.specs.Arithmetic.{plusZero, one}
 use Rattle.refusal.specs.declared.Verdict.the-variants.{Pass}
-use Rattle.block.specs.Block.{Entries}
+use Rattle.refusal.specs.Checks.{notEmpty, withinBlock}
+use Rattle.block.specs.Block.{Entries, entriesIn}
+use Rattle.block.specs.Operations.{zeros}
 use Rattle.block.specs.Agreement.{Agree}
 use Rattle.two_time.specs.Layout.{TwoTime, readAs}
 use Rattle.dyson.specs.Calls.{supportChecks}
 use Rattle.dyson.specs.Cases.{dysonComputation}
-use Rattle.transient_run.specs.Form.{g0Of}
-use Rattle.transient_run.specs.Form.Form.{empty}
+use Rattle.transient_run.specs.Form.{Form, g0Of}
+use Rattle.transient_run.specs.Form.Form.{empty, occupied}
 use Rattle.transient_run.specs.Calls.{Run, runOf, solved, isAccepted, verdictOf, worked, transientRun}
 use Rattle.transient_run.specs.Computation.{runComputation}
 use Rattle.transient_run.specs.P12 as P12
@@ -80,3 +82,33 @@ prefix-same =
 
 pub prefix : Comparable 1 run (short one) (isAccepted (transientRun run .answer) ≡ true) (isAccepted (transientRun (short one) .answer) ≡ true)
 prefix = record { within = omega arith; within' = omega arith; accepted = answered run passes; accepted' = answered (short one) (short-passes .0); same = prefix-same }
+
+-- ---- "the old form counts as g0 at +0": the same two points with a block of +0
+
+abbrev pub zeroBlock : Form
+zeroBlock = occupied (record { rows = 1; columns = 1; values = plusZero ∷ plusZero ∷ [] })
+
+abbrev pub shortFrom : Form → Run
+shortFrom form =
+    let r = short one in
+    runOf form (r .session) (r .desk) (record { points = 2; capacity = 2; orbitals = 1 }) (r .tolerance) (r .times) (r .free) (r .selfEnergy) (r .lesserSelfEnergy) (r .retarded) (r .lesser) (r .kernel) (r .lesserAdvanced)
+
+occupied-passes : verdictOf 0 2 (shortFrom zeroBlock) ≡ Pass
+unfolding runComputation notEmpty withinBlock
+occupied-passes = refl
+
+occupied-same : SameTo 1 run (shortFrom zeroBlock)
+unfolding g0Of
+occupied-same =
+    record {
+      orbitals = refl;
+      times = prefix-same .times;
+      free = prefix-same .free;
+      selfEnergy = prefix-same .selfEnergy;
+      lesserSelfEnergy = prefix-same .lesserSelfEnergy;
+      start = one-entry zeros (entriesIn 1 (plusZero ∷ plusZero ∷ [])) refl;
+    }
+
+pub prefix-occupied : Comparable 1 run (shortFrom zeroBlock) (isAccepted (transientRun run .answer) ≡ true) (isAccepted (transientRun (shortFrom zeroBlock) .answer) ≡ true)
+prefix-occupied =
+    record { within = omega arith; within' = omega arith; accepted = answered run passes; accepted' = answered (shortFrom zeroBlock) occupied-passes; same = occupied-same }
