@@ -1,12 +1,14 @@
 """A plain reading of document 02's L1, appending a time point, L3, work in the
-answer, and L13, a counter for each desk, over that of document 01.
+answer, L13, a counter for each desk, and L5, a dot that starts occupied, over that
+of document 01.
 
 Slices are "laid out for a capacity of points (row t begins at t times capacity
 blocks)": entry (a, b) of block (t, u) begins at `place(capacity, n, t, u, a, b)`,
 and there are as many times as the capacity. The points come first; what has an
 index that is not below them is room, and no entry. Calls take and return what
 those of document01.py do. A run is told its points; an append is told the points
-before it, and its new point has that index.
+before it, and its new point has that index. The forms that start occupied take g0,
+a Block, after the three functions: it is operand 3.
 """
 
 import math
@@ -14,8 +16,9 @@ from typing import NamedTuple
 
 import document01
 from document01 import (
-    ACCEPTED, REFUSED_BLOCK, Outcome, Overflow, Refusal, adjoint_of, block_at, function_length, grid_lines, held,
-    interval_sum, lay_out, line_1, line_2, place, step_weight, support_lines, table, weighted_sum, zeros,
+    ACCEPTED, REFUSED_BLOCK, Outcome, Overflow, Refusal, adjoint_of, block_at, entries, first_sums, function_length,
+    grid_lines, held, interval_sum, lay_out, line_1, line_2, place, read, solve_dyson, step_weight, support_lines, table,
+    weighted_sum, zeros,
 )
 
 # ---- The layout -------------------------------------------------------------------
@@ -88,6 +91,11 @@ def unchanged(lent):
     return {name: list(numbers) for name, numbers in lent.items()}
 
 
+def cleared(lent):
+    """Every slice at +0 throughout, room included."""
+    return {name: [0.0] * len(numbers) for name, numbers in lent.items()}
+
+
 # ---- The run ----------------------------------------------------------------------
 
 
@@ -100,11 +108,11 @@ def transient_run(
     refusal = capacity_lines(points, capacity, orbitals, operands, lent.values(), times)
     if refusal:
         return Outcome(refusal, unchanged(lent))
-    entries = lambda numbers: within(numbers, points, capacity, orbitals)
-    slices = [entries(numbers) for numbers in lent.values()]
-    run = document01.transient_run(points, orbitals, times[:points], *map(entries, operands), tolerance, *slices)
+    of_points = lambda numbers: within(numbers, points, capacity, orbitals)
+    slices = [of_points(numbers) for numbers in lent.values()]
+    run = document01.transient_run(points, orbitals, times[:points], *map(of_points, operands), tolerance, *slices)
     if run.answer == Refusal(10):
-        return Outcome(run.answer, {name: [0.0] * len(numbers) for name, numbers in lent.items()})
+        return Outcome(run.answer, cleared(lent))
     made = {
         name: {at: block_at(numbers, points, orbitals, *at) for at in places(points)}
         for name, numbers in run.lent.items()
@@ -168,19 +176,19 @@ def new_lesser(new, n, times, retarded, sums):
     return {at: block(*at) for at in new_places(new)}
 
 
-def new_blocks(new, n, times, free, self_energy, lesser_self_energy, retarded, sums):
-    """The new row and column of all four; `retarded` and `sums` are what the buffers hold."""
+def new_blocks(new, n, times, free, self_energy, lesser_self_energy, retarded, sums, made_of=new_lesser):
+    """The new row and column of all four; `retarded` and `sums` are what the buffers hold. `made_of` makes those of G^<."""
     made_kernel = new_kernel(new, n, times, free, self_energy)
     made_retarded = new_retarded(new, n, times, free, made_kernel, retarded)
     all_retarded = with_new(retarded, made_retarded)
     made_sums = new_sums(new, n, times, lesser_self_energy, all_retarded)
-    made_lesser = new_lesser(new, n, times, all_retarded, with_new(sums, made_sums))
+    made_lesser = made_of(new, n, times, all_retarded, with_new(sums, made_sums))
     return {"retarded": made_retarded, "lesser": made_lesser, "kernel": made_kernel, "sums": made_sums}
 
 
-def solve_lines(points, capacity, orbitals, times, operands, lent, tolerance):
-    """Lines 1, 2, 3, 16 and 4 to 9, all over the points, an append's new one among them."""
-    refusal = capacity_lines(points, capacity, orbitals, operands, lent, times)
+def solve_lines(points, capacity, orbitals, times, operands, lent, tolerance, g0=None):
+    """Lines 1, 2, 3, 16 and 4 to 9, all over the points, an append's new one among them; 1, 2, 3 and 7 of g0 too."""
+    refusal = capacity_lines(points, capacity, orbitals, operands, lent, times, g0)
     if refusal:
         return refusal
     free, self_energy = (within(numbers, points, capacity, orbitals) for numbers in operands[:2])
@@ -190,20 +198,85 @@ def solve_lines(points, capacity, orbitals, times, operands, lent, tolerance):
 def append_point(
     points, capacity, orbitals, times, free, self_energy, lesser_self_energy, tolerance, retarded, lesser, kernel, sums
 ):
-    """Document 02: "On an append's 10 the new row and column hold +0 and the rest is untouched"."""
     lent = {"retarded": retarded, "lesser": lesser, "kernel": kernel, "sums": sums}
     operands = [free, self_energy, lesser_self_energy]
     refusal = solve_lines(points + 1, capacity, orbitals, times, operands, lent.values(), tolerance)
+    return appended(refusal, points, capacity, orbitals, times, operands, lent, new_lesser)
+
+
+def appended(refusal, points, capacity, orbitals, times, operands, lent, made_of):
+    """Document 02: "On an append's 10 the new row and column hold +0 and the rest is untouched"."""
     if refusal:
         return Outcome(refusal, unchanged(lent))
     reading = lambda numbers: lambda t, u: block_at(numbers, capacity, orbitals, t, u)
     try:
-        made = new_blocks(points, orbitals, times, *map(reading, [*operands, retarded, sums]))
+        read_now = [*operands, lent["retarded"], lent["sums"]]
+        made = new_blocks(points, orbitals, times, *map(reading, read_now), made_of)
         answer = ACCEPTED
     except Overflow:
         made = dict.fromkeys(lent, {at: zeros(orbitals) for at in new_places(points)})
         answer = Refusal(10)
     return Outcome(answer, {name: written(lent[name], capacity, orbitals, made[name]) for name in lent})
+
+
+# ---- A dot that starts occupied ---------------------------------------------------
+# L5: "A second form of the run takes a block g0, as operand 3"; "Appends take g0 too".
+# K, G^R and X are as before.
+
+
+def occupied_start(n, g0, retarded, t, u):
+    """(G^R(t, 0)·g0)·G^A(0, u): two products, each of which is asked by 10."""
+    first = document01.multiplied(retarded(t, 0), g0, n, n, n)
+    return document01.multiplied(first, adjoint_of(retarded(u, 0), n, n), n, n, n)
+
+
+def occupied_lesser(made, n, times, g0, retarded, sums):
+    """G^<(t, u) "then starts from" that "instead of zero"; "where t is 0 that start is the whole block"."""
+
+    def block(t, u):
+        start = occupied_start(n, g0, retarded, t, u)
+        if t == 0:
+            return start
+        terms = ((step_weight(times, s, 0, t), retarded(t, s), sums(s, u)) for s in range(t + 1))
+        return weighted_sum(n, start, terms)
+
+    return {at: block(*at) for at in made}
+
+
+def occupied_blocks(points, n, times, free, self_energy, lesser_self_energy, g0):
+    """All four of a run, by places; the functions have the points' entries alone."""
+    kernel, retarded = solve_dyson(points, n, times, free, self_energy)
+    sums = first_sums(points, n, times, read(lesser_self_energy, points, n), retarded)
+    reading = lambda function: lambda t, u: function[t][u]
+    lesser = occupied_lesser(places(points), n, times, g0, reading(retarded), reading(sums))
+    by_place = lambda function: {(t, u): function[t][u] for t, u in places(points)}
+    return {"retarded": by_place(retarded), "lesser": lesser, "kernel": by_place(kernel), "sums": by_place(sums)}
+
+
+def occupied_run(
+    points, capacity, orbitals, times, free, self_energy, lesser_self_energy, g0, tolerance, retarded, lesser, kernel, sums
+):
+    lent = {"retarded": retarded, "lesser": lesser, "kernel": kernel, "sums": sums}
+    operands = [free, self_energy, lesser_self_energy]
+    refusal = solve_lines(points, capacity, orbitals, times, operands, lent.values(), tolerance, g0)
+    if refusal:
+        return Outcome(refusal, unchanged(lent))
+    of_points = lambda numbers: within(numbers, points, capacity, orbitals)
+    try:
+        made = occupied_blocks(points, orbitals, times[:points], *map(of_points, operands), entries(g0))
+    except Overflow:
+        return Outcome(Refusal(10), cleared(lent))
+    return Outcome(ACCEPTED, {name: written(lent[name], capacity, orbitals, made[name]) for name in lent})
+
+
+def occupied_append(
+    points, capacity, orbitals, times, free, self_energy, lesser_self_energy, g0, tolerance, retarded, lesser, kernel, sums
+):
+    lent = {"retarded": retarded, "lesser": lesser, "kernel": kernel, "sums": sums}
+    operands = [free, self_energy, lesser_self_energy]
+    refusal = solve_lines(points + 1, capacity, orbitals, times, operands, lent.values(), tolerance, g0)
+    made_of = lambda new, n, times, *read_now: occupied_lesser(new_places(new), n, times, entries(g0), *read_now)
+    return appended(refusal, points, capacity, orbitals, times, operands, lent, made_of)
 
 
 # ---- Work in the answer -----------------------------------------------------------
@@ -256,6 +329,24 @@ def formula(points):
     return points * (points + 1) * (2 * points + 1) // 6 + points * points * (points + 1) - 3 * points
 
 
+def start_products(made):
+    """L5: "The two products of an entry are counted", at every place that is made."""
+    return sum(2 for _ in made)
+
+
+def occupied_run_products(points):
+    return run_products(points) + start_products(places(points))
+
+
+def occupied_append_products(points):
+    return append_products(points) + start_products(new_places(points))
+
+
+def occupied_formula(points):
+    """L5: "2·N·N more per run"."""
+    return formula(points) + 2 * points * points
+
+
 # ---- Sessions ---------------------------------------------------------------------
 # A call in a session takes the session and its desk first, and gives the session back
 # beside its outcome.
@@ -305,14 +396,15 @@ def in_session(session, desk, call, count, points, all_points, told):
     """17 comes "after line 9 and before any product"; a call that is refused adds nothing.
 
     `count` gives the products by the points that the call is told; `all_points` has an append's
-    new one too. `told` is what the call takes after its points.
+    new one too. `told` is what the call takes after its points: with g0, or without.
     """
-    capacity, orbitals, times, free, self_energy, lesser_self_energy, tolerance, *slices = told
+    capacity, orbitals, times, free, self_energy, lesser_self_energy, *g0, tolerance, retarded, lesser, kernel, sums = told
+    lent = {"retarded": retarded, "lesser": lesser, "kernel": kernel, "sums": sums}
     operands = [free, self_energy, lesser_self_energy]
-    refusal = line_22(desk) or solve_lines(all_points, capacity, orbitals, times, operands, slices, tolerance)
+    refusal = line_22(desk) or solve_lines(all_points, capacity, orbitals, times, operands, lent.values(), tolerance, *g0)
     refusal = refusal or line_17(session, desk, count(points))
     if refusal:
-        return Outcome(refusal, unchanged(dict(zip(("retarded", "lesser", "kernel", "sums"), slices)))), session
+        return Outcome(refusal, unchanged(lent)), session
     outcome = call(points, *told)
     if outcome.answer != ACCEPTED:
         return outcome, session
@@ -327,6 +419,14 @@ def run_in_session(session, desk, points, *told):
 def append_in_session(session, desk, points, *told):
     """An append adds what it forms: "A run and its appends count like the run over all points"."""
     return in_session(session, desk, append_point, append_products, points, points + 1, told)
+
+
+def occupied_run_in_session(session, desk, points, *told):
+    return in_session(session, desk, occupied_run, occupied_run_products, points, points, told)
+
+
+def occupied_append_in_session(session, desk, points, *told):
+    return in_session(session, desk, occupied_append, occupied_append_products, points, points + 1, told)
 
 
 # ---- Observables ------------------------------------------------------------------

@@ -12,10 +12,10 @@ from document01 import (
     time_convolution, trace, transient_run, weights_of, zero,
 )
 from replay_calls.calls import (
-    ADD, ADJOINT, ADJOINT_PLUS, APPEND, APPEND_BOOKED, CAUSAL, CHECK_TIMES, CONSISTENT, DENSITY, DENSITY_IN, DIFFERENCE, DYSON,
-    DYSON_DEFAULT, EXPECTATION, EXPECTATION_IN, FLOW, FLOW_IN, FROM_NUMBERS, FROM_SCALAR, FULL, FULL_WEIGHT, GET, HALF, HERMITIAN,
+    ADD, ADJOINT, ADJOINT_PLUS, APPEND, APPEND_BOOKED, APPEND_OCCUPIED, CAUSAL, CHECK_TIMES, CONSISTENT, DENSITY, DENSITY_IN, DIFFERENCE,
+    DYSON, DYSON_DEFAULT, EXPECTATION, EXPECTATION_IN, FLOW, FLOW_IN, FROM_NUMBERS, FROM_SCALAR, FULL, FULL_WEIGHT, GET, HALF, HERMITIAN,
     IDENTITY, IDENTITY_TIMES, INTERVAL, LANGRETH, MADE, MOST_IN_BLOCK, MOST_STORED, MULTIPLY, NAN, NORM, NUMBER, NUMBER_IN, REPORT,
-    RUN, RUN_BOOKED, RUN_IN, SCALE, SUBTRACT, SUPPORT, TIME_LINES, TRACE, TRAPEZOID, WEIGHTS, ZERO_OF, held, inputs, outputs,
+    RUN, RUN_BOOKED, RUN_IN, RUN_OCCUPIED, SCALE, SUBTRACT, SUPPORT, TIME_LINES, TRACE, TRAPEZOID, WEIGHTS, ZERO_OF, held, inputs, outputs,
 )
 
 # What stands for an answer that is not worked out here.
@@ -106,17 +106,22 @@ OUTCOME = {
 
 
 def in_session(solve):
-    """A run or an append at a desk, in a session that has these counters before: the outcome, and the session after."""
+    """A run or an append at a desk, in a session that has these counters before: the outcome, and the session after. The four slices that it
+    is lent come last; g0, if it has one, before them."""
 
     def booked(call):
         capacity, desk, *counters = call.more
-        told = (call.points, capacity, call.orbitals, *call.slices[:4], call.tolerance, *call.slices[4:])
+        operands = [lent_block(x) if isinstance(x, Block) else x for x in call.slices[:-4]]
+        told = (call.points, capacity, call.orbitals, *operands, call.tolerance, *call.slices[-4:])
         return solve(document02.opened(counters), desk, *told)
 
     return booked
 
 
-BOOKED = {RUN_BOOKED: in_session(document02.run_in_session), APPEND_BOOKED: in_session(document02.append_in_session)}
+BOOKED = {
+    RUN_BOOKED: in_session(document02.run_in_session), APPEND_BOOKED: in_session(document02.append_in_session),
+    RUN_OCCUPIED: in_session(document02.occupied_run_in_session), APPEND_OCCUPIED: in_session(document02.occupied_append_in_session),
+}
 
 
 def with_counters(outcome, session):

@@ -29,6 +29,7 @@ NAMES = [
     "identity_times", "adjoint_plus_is_hermitian", "from_scalar", "zero", "check_times", "check_grid", "half_step", "full_weight",
     "interval_weight", "transient_run_in_capacity", "append_point", "density_matrix_in_capacity", "particle_number_in_capacity",
     "one_body_expectation_in_capacity", "bond_flow_into_in_capacity", "transient_run_in_session", "append_point_in_session",
+    "occupied_run", "occupied_append",
 ]
 FULL, CAUSAL, SUPPORT, DYSON, DYSON_DEFAULT, RUN, DENSITY, NUMBER, EXPECTATION, FLOW = range(10)
 REPORT, CONSISTENT, LANGRETH, NORM, FROM_NUMBERS, IDENTITY, ADJOINT, SCALE = range(10, 18)
@@ -40,6 +41,8 @@ FROM_SCALAR, ZERO_OF, CHECK_TIMES, TIME_LINES, HALF, FULL_WEIGHT, TRAPEZOID = ra
 RUN_IN, APPEND, DENSITY_IN, NUMBER_IN, EXPECTATION_IN, FLOW_IN = range(36, 42)
 # The run and the append in a session: sessions.py says how these stand in the list.
 RUN_BOOKED, APPEND_BOOKED = range(42, 44)
+# Those that start occupied: occupied.py says how these stand in the list.
+RUN_OCCUPIED, APPEND_OCCUPIED = range(44, 46)
 # The questions of each function by their numbers, in their order; those of a report are followed by that of its decision.
 OF_FUNCTIONS = (1, 2, 3, 4, 5, 6, 7)
 OF_PAIRS = (1, 2, 3, 7)
@@ -59,7 +62,7 @@ OUTPUTS = {FULL: 1, CAUSAL: 1, DYSON: 2, DYSON_DEFAULT: 2, RUN: 4, LANGRETH: 4, 
 # The functions that have times.
 TIMED = (
     FULL, CAUSAL, DYSON, DYSON_DEFAULT, RUN, LANGRETH, WEIGHTS, INTERVAL, CHECK_TIMES, TIME_LINES, HALF, FULL_WEIGHT, TRAPEZOID,
-    RUN_IN, APPEND, RUN_BOOKED, APPEND_BOOKED,
+    RUN_IN, APPEND, RUN_BOOKED, APPEND_BOOKED, RUN_OCCUPIED, APPEND_OCCUPIED,
 )
 # Function k at a size that is too large to be stored has the number MADE + k: its numbers are made from a seed.
 MADE = 64
