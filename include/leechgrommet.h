@@ -24,12 +24,13 @@
  * question asks and an accepted call leaves. Questions 2 and 3 read C for N; the others are about the N points, and a position is that in the slice
  * as it is passed. With a capacity of N the layout is that of the other calls.
  *
- * Sessions. The transient run and the append are calls at a desk of a session, which counts the products of blocks that its accepted calls form, for each
- * of eight desks by itself. Its counters cross as `counters`, a slice of 8, desk 0's first, in and out: before the first call each holds the total that its
- * desk carries over, 0 if none. `desk`, 0 to 7, names the desk of a call. An accepted call adds its count to that desk's counter; no other counter changes,
- * and no other call writes any, so that the count of a call is its desk's counter after it less that before. A run over N points has
- * N(N+1)(2N+1)/6 + N*N*(N+1) - 3N, an append what the run over all points has more: a run and its appends count like the run over all points. A caller
- * that does not book passes eight counters of 0 and desk 0 to each call.
+ * Sessions. The transient run and the append, of either form, are calls at a desk of a session, which counts the products of blocks that its accepted
+ * calls form, for each of eight desks by itself. Its counters cross as `counters`, a slice of 8, desk 0's first, in and out: before the first call
+ * each holds the total that its desk carries over, 0 if none. `desk`, 0 to 7, names the desk of a call. An accepted call adds its count to that desk's
+ * counter; no other counter changes, and no other call writes any, so that the count of a call is its desk's counter after it less that before. A run
+ * over N points has N(N+1)(2N+1)/6 + N*N*(N+1) - 3N, an append what the run over all points has more: a run and its appends count like the run over
+ * all points. From a block g0 a run has 2*N*N more, an append to p points 2*(2*p+1). A caller that does not book passes eight counters of 0 and desk 0
+ * to each call.
  *
  * Blocks. A block crosses as its rows, its columns and the address of LEECHGROMMET_BLOCK_NUMBERS numbers, of which the first 2*rows*columns
  * are its entries, row by row, real part before imaginary. A block that is made is the answer's own: it is written as rows and columns to
@@ -243,6 +244,40 @@ uint8_t leechgrommet_append_point(
     const double *free_propagator, size_t free_propagator_len,
     const double *self_energy, size_t self_energy_len,
     const double *lesser_self_energy, size_t lesser_self_energy_len,
+    size_t points, size_t capacity, size_t orbitals, double tolerance,
+    double *retarded, size_t retarded_len,
+    double *lesser, size_t lesser_len,
+    double *kernel, size_t kernel_len,
+    double *lesser_advanced, size_t lesser_advanced_len,
+    size_t *places, size_t places_len, double *part, size_t part_len);
+
+/* The transient run of a dot that starts occupied: of g0, passed as an n by n block (of another shape 3; operand 3), G^<(t,t') starts from
+ * (G^R(t,0) g0) G^A(0,t') in place of zero; where t is 0 that is all of it. g0 is meant as G^<(0,0), which it is by value where G^R(0,0) is -i times the
+ * identity; no question asks that. All else is as in leechgrommet_transient_run; with g0 at 0 its bits are those, but for the count. Asks 22, 1, 2, 3, 16,
+ * 4 to 9, 17, 10. */
+uint8_t leechgrommet_transient_run_occupied(
+    uint64_t *counters, size_t counters_len, size_t desk,
+    const double *times, size_t times_len,
+    const double *free_propagator, size_t free_propagator_len,
+    const double *self_energy, size_t self_energy_len,
+    const double *lesser_self_energy, size_t lesser_self_energy_len,
+    size_t rows, size_t columns, const double *g0,
+    size_t points, size_t capacity, size_t orbitals, double tolerance,
+    double *retarded, size_t retarded_len,
+    double *lesser, size_t lesser_len,
+    double *kernel, size_t kernel_len,
+    double *lesser_advanced, size_t lesser_advanced_len,
+    size_t *places, size_t places_len, double *part, size_t part_len);
+
+/* Appends one time point to a run of leechgrommet_transient_run_occupied and appends after it. All is as in leechgrommet_append_point; that the four hold what
+ * the run over all points leaves wants the same g0 in each call, which no question asks. Asks 22, then of points + 1 points 1, 2, 3, 16, 4 to 9, 17, 10. */
+uint8_t leechgrommet_append_point_occupied(
+    uint64_t *counters, size_t counters_len, size_t desk,
+    const double *times, size_t times_len,
+    const double *free_propagator, size_t free_propagator_len,
+    const double *self_energy, size_t self_energy_len,
+    const double *lesser_self_energy, size_t lesser_self_energy_len,
+    size_t rows, size_t columns, const double *g0,
     size_t points, size_t capacity, size_t orbitals, double tolerance,
     double *retarded, size_t retarded_len,
     double *lesser, size_t lesser_len,

@@ -1,72 +1,32 @@
-// The transient run and the append, for a program in C or Rust to link: `scripts/archive`. How an answer leaves is in `answers`. A session crosses as its
-// counters, a slice of eight numbers, one for each desk.
-ghost use Rattle.lists.specs.Prelude.{_≡_, _<_, true, false, length};
+// The transient run and the append, for a program in C or Rust to link: `scripts/archive`. How an answer leaves is in `answers`, how a session
+// crosses in `counters`.
+ghost use Rattle.lists.specs.Prelude.{_≡_, false};
 ghost use Rattle.refusal.specs.Verdict.{_then_};
-ghost use Rattle.refusal.specs.Checks.{largeEnough, withinLimits, fitting, deskKnown};
-ghost use Rattle.transient_run.specs.Calls.{runOf, isAccepted, booked};
+ghost use Rattle.refusal.specs.Checks.{deskKnown};
+ghost use Rattle.transient_run.specs.Form.{formSizes};
+ghost use Rattle.transient_run.specs.Form.Form.{empty};
+ghost use Rattle.transient_run.specs.Calls.{runOf, booked};
 ghost use Rattle.answers.specs.Answer.{after, answers};
-ghost use Rattle.run_exports.specs.Counters.{sessionOf, solvedVerdict, countedRun, countedAppend};
+ghost use Rattle.counters.specs.Counters.{sessionOf, solvedVerdict, countedRun, countedAppend};
 use answers::write_answer;
+use counters::session_of;
+use counters::write_booked;
 use refusal::Verdict;
 use refusal::checks::desk_known;
-use refusal::checks::fitting;
-use refusal::checks::large_enough;
 use refusal::checks::least;
-use refusal::checks::within_limits;
-use transient_run::Booked;
-use transient_run::Session;
-use transient_run::Solved;
 use two_time::capacity::Shape;
-
-// The session whose counters the slice holds.
-fn session_of(counters: &[u64]) -> Session
-    requires { ⌜ length (now counters) ≡ 8 ⌝ }
-    ensures { λ r. ⌜ r ≡ sessionOf (now (counters .entry)) ⌝ }
-{
-    Session {
-        products: [
-            counters[0],
-            counters[1],
-            counters[2],
-            counters[3],
-            counters[4],
-            counters[5],
-            counters[6],
-            counters[7],
-        ],
-    }
-}
-
-// The answer of a run or an append at a desk, which leaves the desk's counter in the slice if it is accepted.
-fn write_booked(
-    made: Booked,
-    counters: &mut [u64],
-    desk: usize,
-    places: &mut [usize],
-    part: &mut [f64],
-) -> u8
-    requires { ⌜ (length (now counters) ≡ 8) × (made .session ≡ booked (sessionOf (now counters)) desk (made .answer)) × (isAccepted (made .answer) ≡ true → desk < 8) ⌝ }
-    ensures { λ r. ⌜ (after r places part ≡ answers (solvedVerdict (made .answer)) places part)
-        × (now (counters .exit) ≡ booked (sessionOf (now (counters .entry))) desk (made .answer) .products) ⌝ }
-{
-    let answer = made.answer;
-    let session = made.session;
-    match answer {
-        Solved::Accepted(_) => {
-            counters[desk] = session.products[desk];
-            0
-        }
-        Solved::Refused(r) => write_answer(Verdict::Refused(r), places, part),
-    }
-}
+use two_time::capacity::check_capacity;
 
 // Checks 22, 1 and 2, then 3 of counters that are not eight.
 fn no_counters(desk: usize, points: usize, capacity: usize, orbitals: usize) -> Verdict
-    ensures { λ r. ⌜ r ≡ (deskKnown desk then largeEnough points orbitals then withinLimits capacity orbitals then fitting false) ⌝ }
+    ensures { λ r. ⌜ r ≡ (deskKnown desk then formSizes empty capacity points orbitals false) ⌝ }
 {
-    let lengths = within_limits(capacity, orbitals).then(fitting(false));
-    let sizes = large_enough(points, orbitals).then(lengths);
-    desk_known(desk).then(sizes)
+    let shape = Shape {
+        points,
+        capacity,
+        orbitals,
+    };
+    desk_known(desk).then(check_capacity(shape, false))
 }
 
 // The transient run over the points: G^R and G^< in the outputs, K and X in the scratch.
@@ -90,7 +50,7 @@ pub extern "C" fn leechgrommet_transient_run(
     part: &mut [f64],
 ) -> u8
     ensures { λ r. ⌜ (let session = sessionOf (now (counters .entry)) in
-        let made = countedRun (runOf session desk (record { points = points; capacity = capacity; orbitals = orbitals }) tolerance (now (times .entry)) (now (free .entry)) (now («self_energy» .entry))
+        let made = countedRun (runOf empty session desk (record { points = points; capacity = capacity; orbitals = orbitals }) tolerance (now (times .entry)) (now (free .entry)) (now («self_energy» .entry))
         (now («lesser_self_energy» .entry)) (now (retarded .entry)) (now (lesser .entry)) (now (kernel .entry)) (now («lesser_advanced» .entry))) in
         (after r places part ≡ answers (solvedVerdict (made .answer)) places part)
         × (now (counters .exit) ≡ booked session desk (made .answer) .products)
@@ -146,7 +106,7 @@ pub extern "C" fn leechgrommet_append_point(
     part: &mut [f64],
 ) -> u8
     ensures { λ r. ⌜ (let session = sessionOf (now (counters .entry)) in
-        let made = countedAppend (runOf session desk (record { points = points; capacity = capacity; orbitals = orbitals }) tolerance (now (times .entry)) (now (free .entry)) (now («self_energy» .entry))
+        let made = countedAppend (runOf empty session desk (record { points = points; capacity = capacity; orbitals = orbitals }) tolerance (now (times .entry)) (now (free .entry)) (now («self_energy» .entry))
         (now («lesser_self_energy» .entry)) (now (retarded .entry)) (now (lesser .entry)) (now (kernel .entry)) (now («lesser_advanced» .entry))) in
         (after r places part ≡ answers (solvedVerdict (made .answer)) places part)
         × (now (counters .exit) ≡ booked session desk (made .answer) .products)

@@ -1,9 +1,11 @@
 -- `run_exports::leechgrommet_transient_run` meets its contract: by the length of the counters. Assumes nothing.
 use Rattle.lists.specs.Prelude.{_≡_, sym, ap, _∙_, length, now, needs}
 use Rattle.transient_run.specs.declared.Session.{Session}
-use Rattle.transient_run.specs.Calls.{Run, Outcome, runOf, transientRun}
-use Rattle.run_exports.specs.Counters.{sessionOf, countedRun}
-use Rattle.run_exports.proofs.Counting.{answer-written, session-left, counters-left, run-counted, run-desk, run-uncounted}
+use Rattle.transient_run.specs.declared.Solved.{Solved}
+use Rattle.transient_run.specs.Form.Form.{empty}
+use Rattle.transient_run.specs.Calls.{Run, Outcome, runOf, booked, transientRun}
+use Rattle.counters.specs.Counters.{sessionOf, countedRun}
+use Rattle.counters.specs.Counting.{answer-written, session-left, session-in, counters-after, run-counted, run-desk, run-uncounted}
 use Rattle.run_exports.proofs.leechgrommet_transient_run.Statement.{statement}
 use Rattle.run_exports.proofs.leechgrommet_transient_run.Tie as tie
 
@@ -32,7 +34,7 @@ start c = named c .before .before .before .before .before .before .before .befor
 abbrev run : tie.After-transient-run → Session → Run
 run c session =
     let x = start c .args in
-    runOf session (x .desk) (record { points = x .points; capacity = x .capacity; orbitals = x .orbitals }) (x .tolerance) (now (x .times)) (now (x .free)) (now (x .self-energy)) (now (x .lesser-self-energy)) (now (x .retarded)) (now (x .lesser))
+    runOf empty session (x .desk) (record { points = x .points; capacity = x .capacity; orbitals = x .orbitals }) (x .tolerance) (now (x .times)) (now (x .free)) (now (x .self-energy)) (now (x .lesser-self-energy)) (now (x .retarded)) (now (x .lesser))
     (now (x .kernel)) (now (x .lesser-advanced))
 
 abbrev session : tie.After-transient-run → Session
@@ -41,26 +43,23 @@ session c = sessionOf (now (start c .args .counters))
 long : (c : tie.After-transient-run) → length (now (start c .args .counters)) ≡ 8
 long c = named c .before .before .if1 .left
 
-same : (c : tie.After-transient-run) → transientRun (run c (named c .session-of .result)) ≡ countedRun (run c (session c))
-same c = ap (λ (s : Session). transientRun (run c s)) (named c .session-of .ensures) ∙ run-counted (run c (session c)) (long c)
+opened : (c : tie.After-transient-run) → named c .session-of .result ≡ session c
+opened c = named c .session-of .ensures ∙ session-in _ (long c)
 
-write-booked-requires : tie.Need-write-booked-requires
-write-booked-requires c κs =
-    let r = c .before .before .before .before .before .before .before .before .before .before .before in
-    let v = r .transient-run .ensures in (
-      long r,
-      v .1 ∙ session-left (sym (v .0)) _ (named r .session-of .ensures),
-      run-desk (run r (named r .session-of .result)) (v .0),
-    )
+same : (c : tie.After-transient-run) → transientRun (run c (named c .session-of .result)) ≡ countedRun (run c (session c))
+same c = ap (λ (s : Session). transientRun (run c s)) (opened c) ∙ run-counted (run c (session c)) (long c)
 
 returns-2 : tie.Need-returns-2
 returns-2 c =
     let w = wrote c in
     let r = ran w in
+    let x = start r .args in
     let v = r .transient-run .ensures in
     let answer = v .0 ∙ ap (λ (o : Outcome). o .answer) (same r) in (
       w .write-booked .ensures .0 ∙ answer-written answer _ _,
-      w .write-booked .ensures .1 ∙ counters-left answer _ _,
+      w .write-booked .ensures .1
+          ∙ counters-after _ (long r) (x .desk) (r .transient-run .result .answer) (r .transient-run .result .session) (v .1 ∙ session-left (sym (v .0)) (x .desk) (opened r)) (run-desk (run r (named r .session-of .result)) (v .0))
+          ∙ ap (λ (a : Solved). booked (session r) (x .desk) a .products) answer,
       v .2 ∙ ap (λ (o : Outcome). o .retarded) (same r),
       v .3 ∙ ap (λ (o : Outcome). o .lesser) (same r),
       v .4 ∙ ap (λ (o : Outcome). o .kernel) (same r),
@@ -78,7 +77,7 @@ leechgrommet-transient-run-spec =
     returns
     (λ c κs. search needs)  -- session-of-requires
     (λ c κs. search needs)  -- transient-run-requires
-    write-booked-requires
+    (λ c κs. search needs)  -- write-booked-requires
     (λ c. wrote c .write-booked .kept .1 .0)  -- same-length-3
     (λ c. ran (wrote c) .transient-run .kept .1 .1 .1 .1 .1 .1 .1 .1 .0)  -- same-length-4
     (λ c. ran (wrote c) .transient-run .kept .1 .1 .1 .1 .1 .1 .1 .1 .1 .0)  -- same-length-5

@@ -4,7 +4,7 @@ use Rattle.refusal.specs.Verdict.{numberOf}
 use Rattle.transient_run.specs.declared.Solved.{Solved}
 use Rattle.transient_run.specs.declared.Solved.the-variants.{Accepted, Refused as NotSolved}
 use Rattle.transient_run.specs.Calls.{solvedNumber}
-use Rattle.run_exports.specs.Counters.{solvedVerdict}
+use Rattle.counters.specs.Counters.{solvedVerdict}
 
 pub solved-number : (s : Solved) → numberOf (solvedVerdict s) ≡ solvedNumber s
 unfolding numberOf solvedNumber
