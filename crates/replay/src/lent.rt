@@ -27,7 +27,7 @@ pub(crate) fn begin(word: u64) -> Head {
 
 // Whether a function has a capacity of its own, the next word after its slices.
 fn in_capacity(function: u64) -> bool {
-    (function >= 36) & (function <= 43)
+    (function >= 36) & (function <= 45)
 }
 
 // The points and orbitals of a call; a function without a capacity is laid out for its points.
@@ -80,6 +80,17 @@ pub(crate) fn part<'a>(numbers: &'a [f64], at: &Places, slot: usize) -> &'a [f64
         return &numbers[..0];
     }
     &numbers[begin..end]
+}
+
+// The slice of what output k of four holds before a call in a capacity: after the operands, which in 44 and 45 have a block.
+pub(crate) fn before<'a>(function: u64, numbers: &'a [f64], at: &Places, k: usize) -> &'a [f64] {
+    if k > 3 {
+        return &numbers[..0];
+    }
+    if function >= 44 {
+        return part(numbers, at, 5 + k);
+    }
+    part(numbers, at, 4 + k)
 }
 
 // What an output holds at a place before the call: numbers of which none may stay.

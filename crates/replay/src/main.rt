@@ -20,7 +20,7 @@ use words::Word;
 fn call(head: Head, numbers: &[f64], at: &Places) -> bool {
     let function = head.function;
     match function {
-        0 | 1 | 3 | 4 | 5 | 12 | 36 | 37 | 42 | 43 => solve::call(head, numbers, at),
+        0 | 1 | 3 | 4 | 5 | 12 | 36 | 37 | 42..=45 => solve::call(head, numbers, at),
         2 | 6..=11 | 38..=41 => observe::call(head, numbers, at),
         13 => show::number(norm(words::number(), words::number())),
         25 => weights::full(head, lent::part(numbers, at, 0)),

@@ -1,9 +1,10 @@
-// Functions 0, 1, 3 to 5, 12, 36, 37, 42 and 43, which leave functions: the convolutions, the Dyson equation, the transient run, the Langreth product and,
-// in a capacity, the run and the append, 42 and 43 at a desk of a session. Times, the operands; then the length of each of four outputs, 0 for those that
-// the function has not. 36, 37, 42 and 43 have their capacity there, the latter two their desk and their session's eight counters after it, and what their
-// outputs hold before stands in four more slices.
+// Functions 0, 1, 3 to 5, 12, 36, 37 and 42 to 45, which leave functions: the convolutions, the Dyson equation, the transient run, the Langreth product
+// and, in a capacity, the run and the append, from 42 on at a desk of a session, 44 and 45 from a block. Times, the operands; then the length of each of four
+// outputs, 0 for those that the function has not. 36, 37 and 42 to 45 have their capacity there, those from 42 on their desk and their session's eight
+// counters after it, and what their outputs hold before stands in four more slices.
 use crate::lent::Head;
 use crate::lent::Places;
+use crate::lent::before;
 use crate::lent::output_of;
 use crate::lent::part;
 use crate::lent::shape;
@@ -75,7 +76,7 @@ fn with_outputs(
 ) {
     let function = head.function;
     match function {
-        5 | 36 | 37 | 42 | 43 => show::booked(
+        5 | 36 | 37 | 42..=45 => show::booked(
             transient::in_session(function),
             transient::call(head, shape, numbers, at, a, b, c, d),
         ),
@@ -99,10 +100,10 @@ pub(crate) fn call(head: Head, numbers: &[f64], at: &Places) {
     let mut fourth = [0.0; 131072];
     let function = head.function;
     let shape = shape(head);
-    let a = output_of(function, part(numbers, at, 4), &mut first);
-    let b = output_of(function, part(numbers, at, 5), &mut second);
-    let c = output_of(function, part(numbers, at, 6), &mut third);
-    let d = output_of(function, part(numbers, at, 7), &mut fourth);
+    let a = output_of(function, before(function, numbers, at, 0), &mut first);
+    let b = output_of(function, before(function, numbers, at, 1), &mut second);
+    let c = output_of(function, before(function, numbers, at, 2), &mut third);
+    let d = output_of(function, before(function, numbers, at, 3), &mut fourth);
     with_outputs(head, shape, numbers, at, a, b, c, d);
     print_outputs(head.made, a, b, c, d);
 }

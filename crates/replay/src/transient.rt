@@ -1,5 +1,6 @@
-// Functions 5, 36, 37, 42 and 43: the transient run, and in a capacity the run and the append of a point, at desk 0 of a session that is opened at
-// zeros, and at the desk that the next word names, of one whose eight counters follow.
+// Functions 5, 36, 37 and 42 to 45: the transient run, and in a capacity the run and the append of a point, at desk 0 of a session that is opened at
+// zeros, and at the desk that the next word names, of one whose eight counters follow; 44 and 45 start from a block, whose shape comes last.
+use crate::blocks::block;
 use crate::lent::Head;
 use crate::lent::Places;
 use crate::lent::part;
@@ -7,7 +8,9 @@ use crate::words;
 use transient_run::Booked;
 use transient_run::Session;
 use transient_run::append_point;
+use transient_run::append_point_occupied;
 use transient_run::transient_run;
+use transient_run::transient_run_occupied;
 use two_time::capacity::Shape;
 
 // Whether a function is told its desk and its session's counters.
@@ -98,6 +101,66 @@ fn append(
     )
 }
 
+// With the numbers of the block after the lesser self-energy.
+fn run_occupied(
+    head: Head,
+    shape: Shape,
+    numbers: &[f64],
+    at: &Places,
+    a: &mut [f64],
+    b: &mut [f64],
+    c: &mut [f64],
+    d: &mut [f64],
+) -> Booked {
+    let named = at_desk(head.function);
+    let g0 = block(part(numbers, at, 4));
+    transient_run_occupied(
+        named.session,
+        named.desk,
+        part(numbers, at, 0),
+        part(numbers, at, 1),
+        part(numbers, at, 2),
+        part(numbers, at, 3),
+        g0,
+        shape,
+        head.tolerance,
+        a,
+        b,
+        c,
+        d,
+    )
+}
+
+// The same, of an append.
+fn append_occupied(
+    head: Head,
+    shape: Shape,
+    numbers: &[f64],
+    at: &Places,
+    a: &mut [f64],
+    b: &mut [f64],
+    c: &mut [f64],
+    d: &mut [f64],
+) -> Booked {
+    let named = at_desk(head.function);
+    let g0 = block(part(numbers, at, 4));
+    append_point_occupied(
+        named.session,
+        named.desk,
+        part(numbers, at, 0),
+        part(numbers, at, 1),
+        part(numbers, at, 2),
+        part(numbers, at, 3),
+        g0,
+        shape,
+        head.tolerance,
+        a,
+        b,
+        c,
+        d,
+    )
+}
+
 pub(crate) fn call(
     head: Head,
     shape: Shape,
@@ -111,6 +174,8 @@ pub(crate) fn call(
     let function = head.function;
     match function {
         37 | 43 => append(head, shape, numbers, at, a, b, c, d),
+        44 => run_occupied(head, shape, numbers, at, a, b, c, d),
+        45 => append_occupied(head, shape, numbers, at, a, b, c, d),
         _ => run(head, shape, numbers, at, a, b, c, d),
     }
 }
