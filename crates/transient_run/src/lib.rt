@@ -1,34 +1,29 @@
 // The transient run of a device that starts empty (document 01, transient) or occupied (document 02, L5), and an append of one time point (L1), each in a
 // session that counts their products (L3), a counter for each desk (L13): the meaning of the calls is in specs/.
-ghost use Rattle.lists.specs.Prelude.{_≡_, ℕ, _+_, _<_, _≤_, min, true, List, [], _∷_, Float};
+mod checking;
+mod counting;
+
+ghost use Rattle.lists.specs.Prelude.{_≡_, ℕ, _≤_, true, [], _∷_, Float};
 ghost use Rattle.two_time.specs.New.{clearedNew};
-ghost use Rattle.two_time.specs.Calls.{allFit};
 ghost use Rattle.two_time.specs.SizeChecks.{SizesPassed};
-ghost use Rattle.transient_run.specs.declared.Solved.the-variants.{Accepted};
-ghost use Rattle.transient_run.specs.Products.{formed, countOf};
-ghost use Rattle.transient_run.specs.Form.{formBy, formOf, formSizes, formEntries, startProducts, Small, HoldsBlock};
+ghost use Rattle.transient_run.specs.Form.{formOf, HoldsBlock};
 ghost use Rattle.transient_run.specs.Form.Form.{empty, occupied};
 ghost use Rattle.transient_run.specs.Steps.{lesserOutcome};
-ghost use Rattle.transient_run.specs.Calls.{counterOf, runOf, booked, kernelMade, retardedMade, lesserAdvancedMade, lesserMade, madeFinite, checksOf, worked, transientRun, appendPoint};
+ghost use Rattle.transient_run.specs.Calls.{runOf, booked, kernelMade, retardedMade, lesserAdvancedMade, lesserMade, madeFinite, worked, transientRun, appendPoint};
+use checking::checks;
+use counting::formed;
+use counting::start_products;
+use counting::with_count;
 use dyson::solve_new;
-use grid::check_grid;
 use lesser::new_lesser_from;
 use matrix::DenseMatrix;
 use refusal::Refusal;
 use refusal::Verdict;
-use refusal::checks::counter_holds;
-use refusal::checks::desk_known;
-use refusal::checks::finite_entries;
 use refusal::checks::least;
 use sums::new_sums;
-use support::check_retarded_inputs;
 use two_time::capacity::Shape;
-use two_time::capacity::check_block_sizes;
-use two_time::capacity::check_capacity;
-use two_time::capacity::check_points;
 use two_time::capacity::clear_new;
 use two_time::checks::all_fit;
-use two_time::checks::has_length;
 use two_time::layout::clear;
 use two_time::sums::Summed;
 use two_time::sums::Sums;
@@ -71,121 +66,6 @@ impl Session {
     {
         Session { products: totals }
     }
-}
-
-// The counter of a desk.
-fn counter_of(session: Session, desk: usize) -> u64
-    requires { ⌜ desk < 8 ⌝ }
-    ensures { λ r. ⌜ r ≡ counterOf session desk ⌝ }
-{
-    session.products[desk]
-}
-
-// The session after an accepted call of that count.
-fn with_count(session: Session, desk: usize, count: u64) -> Session
-    requires { ⌜ (desk < 8) × (counterOf session desk + count ≤ 0xffff_ffff_ffff_ffff) ⌝ }
-    ensures { λ r. ⌜ r ≡ booked session desk (Accepted count) ⌝ }
-{
-    let mut products = session.products;
-    products[desk] += count;
-    Session { products }
-}
-
-// How many products the start of G^< takes at a place.
-fn start_products(kind: Kind) -> u64
-    ensures { λ r. ⌜ ((rows columns : ℕ) (values : List Float) → r ≡ startProducts (formBy kind rows columns values)) × (r ≤ 2) ⌝ }
-{
-    match kind {
-        Kind::Empty => 0,
-        Kind::Occupied => 2,
-    }
-}
-
-// How many products a run over the points forms, cut at 256 points, where the start of G^< takes `start` at each place:
-// N(N+1)(2N+1)/6 + N·N·(N+1) − 3N, and `start`·N·N more.
-fn count_of(start: u64, points: usize) -> u64
-    requires { ⌜ start ≤ 2 ⌝ }
-    ensures { λ r. ⌜ r ≡ countOf start (min points 256) ⌝ }
-{
-    let n = least(points, 256) as u64;
-    n * (n + 1) * (2 * n + 1) / 6 + n * n * (n + 1) - 3 * n + start * (n * n)
-}
-
-// How many products a call forms that works out the places from `old` on.
-fn formed(start: u64, old: usize, points: usize) -> u64
-    requires { ⌜ (start ≤ 2) × (old ≤ points) × (points ≤ 256) ⌝ }
-    ensures { λ r. ⌜ r ≡ formed start old points ⌝ }
-{
-    let before = count_of(start, old);
-    count_of(start, points) - before
-}
-
-// Checks 1, 2, 3 and 16, those of the block in their lines, where `fits` says whether each slice has its length.
-fn form_sizes(initial: Initial, shape: Shape, fits: bool) -> Verdict
-    ensures { λ r. ⌜ ((values : List Float) → r ≡ formSizes (formOf initial values) (shape .capacity) (shape .points) (shape .orbitals) fits) ⌝ }
-{
-    let kind = initial.kind;
-    match kind {
-        Kind::Empty => check_capacity(shape, fits),
-        Kind::Occupied => {
-            let square = (initial.rows == shape.orbitals) & (initial.columns == shape.orbitals);
-            check_block_sizes(shape, initial.rows, initial.columns, fits & square)
-        }
-    }
-}
-
-// Check 7 of the block, operand 3.
-fn form_entries(initial: Initial, g0: &[f64]) -> Verdict
-    requires { ⌜ Small (formOf initial (now g0)) ⌝ }
-    ensures { λ r. ⌜ r ≡ formEntries (formOf initial (now (g0 .entry))) ⌝ }
-{
-    let kind = initial.kind;
-    match kind {
-        Kind::Empty => Verdict::Pass,
-        Kind::Occupied => finite_entries(3, g0, 2 * (initial.rows * initial.columns)),
-    }
-}
-
-// Checks 22, 1 to 9, 16 and 17, where `fits` says whether the outputs and the scratch have their length.
-fn checks(
-    initial: Initial,
-    session: Session,
-    desk: usize,
-    times: &[f64],
-    free: &[f64],
-    self_energy: &[f64],
-    lesser_self_energy: &[f64],
-    g0: &[f64],
-    shape: Shape,
-    old: usize,
-    tolerance: f64,
-    fits: bool,
-) -> Verdict
-    requires { ⌜ old ≤ shape .points ⌝ }
-    ensures { λ r. ⌜ ((retarded lesser kernel lesserAdvanced : List Float) → fits ≡ allFit (shape .capacity) (shape .orbitals) (retarded ∷ lesser ∷ kernel ∷ lesserAdvanced ∷ [])
-        → r ≡ checksOf old (shape .points) (runOf (formOf initial (now (g0 .entry))) session desk shape tolerance (now (times .entry)) (now (free .entry)) (now («self_energy» .entry)) (now («lesser_self_energy» .entry)) retarded lesser kernel lesserAdvanced)) ⌝ }
-{
-    let named = desk_known(desk);
-    let Verdict::Pass = named else {
-        return named;
-    };
-    let free_fits = has_length(shape.capacity, shape.orbitals, free);
-    let self_energy_fits = has_length(shape.capacity, shape.orbitals, self_energy);
-    let lesser_self_energy_fits = has_length(shape.capacity, shape.orbitals, lesser_self_energy);
-    let long = free_fits & (self_energy_fits & (lesser_self_energy_fits & fits));
-    let sizes = form_sizes(initial, shape, (times.len() == shape.capacity) & long);
-    let Verdict::Pass = sizes else {
-        return sizes;
-    };
-    let second = check_points(1, self_energy, shape);
-    let later = second.then(check_points(2, lesser_self_energy, shape));
-    let functions = check_points(0, free, shape).then(later);
-    let entries = functions.then(form_entries(initial, g0));
-    let support = check_retarded_inputs(free, self_energy, shape, tolerance);
-    let kind = initial.kind;
-    let count = formed(start_products(kind), old, shape.points);
-    let holds = counter_holds(counter_of(session, desk), count);
-    check_grid(times, shape.points).then(entries.then(support.then(holds)))
 }
 
 // G^< at the new places, by the form.

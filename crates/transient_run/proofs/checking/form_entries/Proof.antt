@@ -1,9 +1,9 @@
--- `transient_run::form_entries` meets its contract: a block has at most 256 entries. Assumes nothing.
+-- `transient_run::checking::form_entries` meets its contract: a block has at most 256 entries. Assumes nothing.
 use Rattle.lists.specs.Prelude.{_*_, _≤_, arith, needs}
 use Rattle.two_time.specs.Places.{product-most}
 use Rattle.transient_run.specs.Form.{formBy, formEntries}
-use Rattle.transient_run.proofs.form_entries.Statement.{statement}
-use Rattle.transient_run.proofs.form_entries.Tie as tie
+use Rattle.transient_run.proofs.checking.form_entries.Statement.{statement}
+use Rattle.transient_run.proofs.checking.form_entries.Tie as tie
 
 few : (c : tie.After-enum-told2) → let x = c .before .before .before .args .initial in x .rows * x .columns ≤ 256
 unfolding formBy

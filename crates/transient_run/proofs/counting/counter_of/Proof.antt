@@ -1,7 +1,7 @@
--- `transient_run::counter_of` meets its contract: it reads the desk's counter. Assumes nothing.
+-- `transient_run::counting::counter_of` meets its contract: it reads the desk's counter. Assumes nothing.
 use Rattle.lists.specs.Prelude.{refl, arith}
-use Rattle.transient_run.proofs.counter_of.Statement.{statement}
-use Rattle.transient_run.proofs.counter_of.Tie as tie
+use Rattle.transient_run.proofs.counting.counter_of.Statement.{statement}
+use Rattle.transient_run.proofs.counting.counter_of.Tie as tie
 
 pub counter-of-spec : {M : Type 1} → statement M
 counter-of-spec =

@@ -1,4 +1,4 @@
--- `transient_run::checks` meets its contract: it makes the checks in their order. Assumes nothing.
+-- `transient_run::checking::checks` meets its contract: it makes the checks in their order. Assumes nothing.
 use Rattle.lists.specs.Prelude.{_≡_, sym, ap, ap₂, _∙_, ℕ, _≤_, List, [], _∷_, eqb, length, ltb-true, Float, now, needs}
 use Rattle.refusal.specs.declared.Verdict.the-variants.{Pass}
 use Rattle.refusal.specs.Verdict.{by}
@@ -11,8 +11,8 @@ use Rattle.transient_run.specs.Form.{formOf, Small}
 use Rattle.transient_run.specs.FormChecks.{sizes-by, sizes-small}
 use Rattle.transient_run.specs.Calls.{Run, runOf}
 use Rattle.transient_run.specs.Checks.{slices, sizesAsked, desk-refused, sizes-refused, checks-asked}
-use Rattle.transient_run.proofs.checks.Statement.{statement}
-use Rattle.transient_run.proofs.checks.Tie as tie
+use Rattle.transient_run.proofs.checking.checks.Statement.{statement}
+use Rattle.transient_run.proofs.checking.checks.Tie as tie
 
 abbrev lengths : tie.After-form-sizes → tie.After-has-length3
 lengths c = c .before .before

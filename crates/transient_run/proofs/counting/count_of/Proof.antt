@@ -1,9 +1,9 @@
--- `transient_run::count_of` meets its contract: every step of the formula fits. Assumes nothing.
+-- `transient_run::counting::count_of` meets its contract: every step of the formula fits. Assumes nothing.
 use Rattle.lists.specs.Prelude.{_≡_, ap, ℕ, _+_, _*_, _≤_, min, min-le-right, arith, needs}
 use Rattle.two_time.specs.Places.{product-most}
 use Rattle.transient_run.specs.Products.{countOf, Steps, steps}
-use Rattle.transient_run.proofs.count_of.Statement.{statement}
-use Rattle.transient_run.proofs.count_of.Tie as tie
+use Rattle.transient_run.proofs.counting.count_of.Statement.{statement}
+use Rattle.transient_run.proofs.counting.count_of.Tie as tie
 
 most : (c : tie.After-least) → c .least .result ≤ 256
 most c = rw (c .least .ensures) (min-le-right (c .before .args .points) 256)

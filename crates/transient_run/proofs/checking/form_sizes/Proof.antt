@@ -1,8 +1,8 @@
--- `transient_run::form_sizes` meets its contract: each form asks its own. Assumes nothing.
+-- `transient_run::checking::form_sizes` meets its contract: each form asks its own. Assumes nothing.
 use Rattle.lists.specs.Prelude.{needs}
 use Rattle.transient_run.specs.Form.{formBy, formSizes}
-use Rattle.transient_run.proofs.form_sizes.Statement.{statement}
-use Rattle.transient_run.proofs.form_sizes.Tie as tie
+use Rattle.transient_run.proofs.checking.form_sizes.Statement.{statement}
+use Rattle.transient_run.proofs.checking.form_sizes.Tie as tie
 
 pub form-sizes-spec : {M : Type 1} → statement M
 unfolding formBy formSizes

@@ -1,9 +1,9 @@
--- `transient_run::start_products` meets its contract. Assumes nothing.
+-- `transient_run::counting::start_products` meets its contract. Assumes nothing.
 use Rattle.lists.specs.Prelude.{sym, ap, arith, needs}
 use Rattle.transient_run.specs.declared.Kind.{Kind}
 use Rattle.transient_run.specs.Form.{formBy, startProducts}
-use Rattle.transient_run.proofs.start_products.Statement.{statement}
-use Rattle.transient_run.proofs.start_products.Tie as tie
+use Rattle.transient_run.proofs.counting.start_products.Statement.{statement}
+use Rattle.transient_run.proofs.counting.start_products.Tie as tie
 
 pub start-products-spec : {M : Type 1} → statement M
 unfolding formBy startProducts

@@ -1,8 +1,8 @@
--- `transient_run::formed` meets its contract: the counts of two runs, and what lies between. Assumes nothing.
+-- `transient_run::counting::formed` meets its contract: the counts of two runs, and what lies between. Assumes nothing.
 use Rattle.lists.specs.Prelude.{_≡_, sym, ap, _∙_, ℕ, _+_, _≤_, min, min-eq-left, le-trans, arith, needs}
 use Rattle.transient_run.specs.Products.{formed, countOf, formed-count, formed-on}
-use Rattle.transient_run.proofs.formed.Statement.{statement}
-use Rattle.transient_run.proofs.formed.Tie as tie
+use Rattle.transient_run.proofs.counting.formed.Statement.{statement}
+use Rattle.transient_run.proofs.counting.formed.Tie as tie
 
 -- a count that is cut at 256 is that of points within it
 within : (start count p : ℕ) → count ≡ countOf start (min p 256) → p ≤ 256 → count ≡ formed start 0 p

@@ -1,8 +1,8 @@
--- `transient_run::with_count` meets its contract: the desk's counter moves by the count. Assumes nothing.
+-- `transient_run::counting::with_count` meets its contract: the desk's counter moves by the count. Assumes nothing.
 use Rattle.lists.specs.Prelude.{refl, arith}
 use Rattle.transient_run.specs.Calls.{booked}
-use Rattle.transient_run.proofs.with_count.Statement.{statement}
-use Rattle.transient_run.proofs.with_count.Tie as tie
+use Rattle.transient_run.proofs.counting.with_count.Statement.{statement}
+use Rattle.transient_run.proofs.counting.with_count.Tie as tie
 
 returns : tie.Need-returns
 unfolding booked
