@@ -1,10 +1,10 @@
 //! The calls on two-time functions: what each takes, ours and the port's.
 use crate::inputs::{Call, Takes};
 use crate::mirrored;
-use crate::sides::{block_outcome, counted, filled, judged, ours, outcome, Outcome, LENT};
+use crate::sides::{block_outcome, counted, filled, held, judged, ours, outcome, Outcome, LENT};
 use crate::source::Source;
 use here::{Booking, Lent, Shape};
-use judge::products;
+use judge::{occupied_products, products};
 
 /// A function that is compared.
 pub struct Function {
@@ -34,8 +34,9 @@ impl Function {
 const GRID: &[Takes] = &[Takes::Times];
 const SOLVER: &[Takes] = &[Takes::Times, Takes::Tolerance];
 const RUN: &[Takes] = &[Takes::Times, Takes::Tolerance, Takes::Session];
+const OCCUPIED: &[Takes] = &[Takes::Times, Takes::Tolerance, Takes::Session, Takes::Block];
 
-pub const FUNCTIONS: [Function; 11] = [
+pub const FUNCTIONS: [Function; 12] = [
     Function {
         name: "consistency_report",
         retarded: &[true, false, false, false],
@@ -86,6 +87,14 @@ pub const FUNCTIONS: [Function; 11] = [
     },
     Function { name: "transient_run", retarded: &[true, true, false], made: 4, takes: RUN, arrange: as_drawn, compare: transient_run },
     Function {
+        name: "transient_run_occupied",
+        retarded: &[true, true, false],
+        made: 4,
+        takes: OCCUPIED,
+        arrange: as_drawn,
+        compare: transient_run_occupied,
+    },
+    Function {
         name: "particle_number",
         retarded: &[false],
         made: 0,
@@ -106,7 +115,7 @@ pub const FUNCTIONS: [Function; 11] = [
         name: "one_body_expectation",
         retarded: &[false],
         made: 0,
-        takes: &[Takes::Time, Takes::Observable, Takes::Tolerance],
+        takes: &[Takes::Time, Takes::Block, Takes::Tolerance],
         arrange: half_real,
         compare: one_body_expectation,
     },
@@ -123,7 +132,7 @@ fn as_drawn(_: &mut Source, _: &mut Call) {}
 pub fn half_real(source: &mut Source, call: &mut Call) {
     if source.one_in(2) {
         call.operands[0].iter_mut().step_by(2).for_each(|x| *x = 0.0);
-        call.observable.numbers.iter_mut().skip(1).step_by(2).for_each(|x| *x = 0.0);
+        call.block.numbers.iter_mut().skip(1).step_by(2).for_each(|x| *x = 0.0);
     }
 }
 
@@ -183,6 +192,20 @@ fn transient_run(call: &Call) -> Outcome {
     filled(answer, made, theirs).and(&counted(&counters, &left))
 }
 
+/// The same from a block.
+fn transient_run_occupied(call: &Call) -> Outcome {
+    let (points, orbitals, times, operands, tolerance) = (call.points, call.orbitals, &call.times, call.operands(), call.tolerance);
+    let (held_before, g0): ([Vec<f64>; 4], _) = (lent(call.made()), call.block.lent());
+    let (mut made, before) = (held_before.clone(), call.desk.before(occupied_products(points)));
+    let mut counters = before.counters;
+    let booking = Booking { counters: &mut counters, desk: before.desk };
+    let lent = Lent { times, operands, shape: Shape::of(points, orbitals), tolerance };
+    let answer = here::transient_run_occupied(booking, lent, &ours(&g0), made.each_mut().map(|xs| &mut xs[..]));
+    let shape = judge::Shape { points, capacity: points, orbitals };
+    let theirs = judge::transient_run_occupied(before, shape, times, operands, &g0, tolerance, held_before.each_ref().map(|xs| &xs[..]));
+    held(answer, &made, &counters, &theirs)
+}
+
 fn particle_number(call: &Call) -> Outcome {
     let (points, orbitals, [lesser]) = (call.points, call.orbitals, call.operands());
     let ours = here::particle_number(lesser, Shape::of(points, orbitals), call.time, call.tolerance);
@@ -196,7 +219,7 @@ fn density_matrix(call: &Call) -> Outcome {
 }
 
 fn one_body_expectation(call: &Call) -> Outcome {
-    let (points, orbitals, [lesser], observable) = (call.points, call.orbitals, call.operands(), call.observable.lent());
+    let (points, orbitals, [lesser], observable) = (call.points, call.orbitals, call.operands(), call.block.lent());
     let here = here::one_body_expectation(lesser, Shape::of(points, orbitals), call.time, &ours(&observable), call.tolerance);
     let theirs = judge::one_body_expectation(points, orbitals, lesser, call.time, &observable, call.tolerance);
     judged(here, theirs, |x| vec![x])

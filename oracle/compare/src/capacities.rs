@@ -2,48 +2,76 @@
 //! by itself.
 use crate::calls;
 use crate::inputs::{faults, wrapped, Takes, VAST};
-use crate::laid::{Laid, Left};
+use crate::laid::{Form, Laid, Left};
 use crate::sides::Outcome;
 use crate::source::{Source, NOT_FINITE};
 use crate::Job;
-use judge::{appended_products, products, Booking, Shape};
+use judge::stages::Stage;
+use judge::{Booking, Shape};
 
 const PART: &str = "capacities";
 
 /// A function in a capacity: its name, that of the function without one, and the call.
 pub type Function = (&'static str, &'static str, fn(&Laid) -> Outcome);
 
-pub const RUN: Function =
-    ("transient_run in a capacity", "transient_run", |laid| laid.run(laid.call.desk.before(products(laid.shape.points))).0);
+pub const RUN: Function = ("transient_run in a capacity", "transient_run", run);
 pub const APPEND: Function = ("append_point", "transient_run", append);
+pub const RUN_OCCUPIED: Function = ("transient_run_occupied in a capacity", "transient_run_occupied", run);
+pub const APPEND_OCCUPIED: Function = ("append_point_occupied", "transient_run_occupied", append);
 
-const FUNCTIONS: [Function; 6] = [
+/// Those at a desk of a session.
+pub const BOOKED: [Function; 4] = [RUN, APPEND, RUN_OCCUPIED, APPEND_OCCUPIED];
+
+fn appends((name, ..): Function) -> bool {
+    [APPEND.0, APPEND_OCCUPIED.0].contains(&name)
+}
+
+fn form((_, base, _): Function) -> Form {
+    if base == RUN_OCCUPIED.1 {
+        Form::Occupied
+    } else {
+        Form::Empty
+    }
+}
+
+const FUNCTIONS: [Function; 8] = [
     RUN,
     APPEND,
+    RUN_OCCUPIED,
+    APPEND_OCCUPIED,
     ("density_matrix in a capacity", "density_matrix", Laid::density_matrix),
     ("particle_number in a capacity", "particle_number", Laid::particle_number),
     ("one_body_expectation in a capacity", "one_body_expectation", Laid::one_body_expectation),
     ("bond_flow_into in a capacity", "bond_flow_into", Laid::bond_flow_into),
 ];
 
-/// Counted under where its work stops.
+/// Counted under where its work stops, if that is told.
+fn run(laid: &Laid) -> Outcome {
+    let (outcome, _, stage) = laid.run(laid.call.desk.before(laid.form.products(laid.shape.points)));
+    stopped(outcome, RUN_OCCUPIED.1, stage)
+}
+
 fn append(laid: &Laid) -> Outcome {
-    let (outcome, _, stage) = laid.append(laid.call.desk.before(appended_products(laid.shape.points)));
+    let (outcome, _, stage) = laid.append(laid.call.desk.before(laid.form.appended_products(laid.shape.points)));
+    stopped(outcome, if laid.form == Form::Empty { APPEND.0 } else { APPEND_OCCUPIED.0 }, stage)
+}
+
+fn stopped(outcome: Outcome, name: &str, stage: Option<Stage>) -> Outcome {
     match stage {
-        Some(stage) => outcome.under(format!("{}, {}", APPEND.0, stage.join(", "))),
+        Some(stage) => outcome.under(format!("{name}, {}", stage.join(", "))),
         None => outcome,
     }
 }
 
 impl Laid {
     /// The run or the append, booked so, and the count of its products.
-    pub fn booked(&self, (name, ..): Function, booking: Booking) -> (Outcome, Left, u64) {
-        if name == APPEND.0 {
+    pub fn booked(&self, function: Function, booking: Booking) -> (Outcome, Left, u64) {
+        if appends(function) {
             let (outcome, left, _) = self.append(booking);
-            return (outcome, left, appended_products(self.shape.points));
+            return (outcome, left, self.form.appended_products(self.shape.points));
         }
-        let (outcome, left) = self.run(booking);
-        (outcome, left, products(self.shape.points))
+        let (outcome, left, _) = self.run(booking);
+        (outcome, left, self.form.products(self.shape.points))
     }
 }
 
@@ -64,21 +92,21 @@ impl Source {
     }
 
     /// A call in a capacity that may have faults, and how many it has.
-    pub fn laid(&mut self, (name, base, _): Function) -> (Laid, usize) {
-        let f = calls::function(base);
+    pub fn laid(&mut self, function: Function) -> (Laid, usize) {
+        let (f, append) = (calls::function(function.1), appends(function));
         let (mut call, count) = self.faulty_contents(f);
-        if name == APPEND.0 && self.one_in(2) {
+        if append && self.one_in(2) {
             call.tolerance = self.tolerance();
         }
         let full = Shape { points: call.points, capacity: call.points + self.pick(&[0, 1, 1, 2, 5]), orbitals: call.orbitals };
         let (times, operands) = self.lent(&call, full);
-        let told = Shape { points: full.points - usize::from(name == APPEND.0), ..full };
-        let before = [(); 4].map(|()| match (f.made, name == APPEND.0) {
+        let told = Shape { points: full.points - usize::from(append), ..full };
+        let before = [(); 4].map(|()| match (f.made, append) {
             (0, _) => vec![],
             (_, false) => self.room(wrapped(full.capacity, full.orbitals)),
             (_, true) => self.contents(told),
         });
-        let mut laid = Laid { shape: told, times, operands, before, call };
+        let mut laid = Laid { form: form(function), shape: told, times, operands, before, call };
         let sizes = if self.one_in(2) { 0 } else { self.damage_sizes(f.takes(Takes::Times), &mut laid) };
         (laid, count + sizes)
     }

@@ -47,7 +47,7 @@ pub fn call_of(f: &Function, orbitals: usize, operands: Vec<Vec<f64>>) -> Call {
         bond: [0; 2],
         hopping: [1.0, 0.0],
         charge: 1.0,
-        observable: Numbers { rows: orbitals, columns: orbitals, numbers: vec![1.0; 2 * orbitals * orbitals] },
+        block: Numbers { rows: orbitals, columns: orbitals, numbers: vec![1.0; 2 * orbitals * orbitals] },
         desk: Desk::FIRST,
     }
 }
@@ -85,6 +85,15 @@ fn flow(index: u64) -> Outcome {
     (f.compare)(&call).under("bond_flow_into, five numbers of eight")
 }
 
+/// Free of leads: the first column of G^R and the block that the run starts from.
+fn occupied(index: u64) -> Outcome {
+    let (f, digits) = (calls::function("transient_run_occupied"), &mut Digits(index));
+    let free = [digits.numbers(2, &SIGNS), vec![0.0; 2], digits.numbers(2, &SIGNS), vec![1.0, 0.0]].concat();
+    let mut call = call_of(f, 1, vec![free, vec![0.0; 8], vec![0.0; 8]]);
+    call.block.numbers = digits.numbers(2, &SIGNS);
+    (f.compare)(&call).under("transient_run_occupied, six numbers of eight")
+}
+
 fn hermitian(index: u64) -> Outcome {
     let x = Numbers { rows: 2, columns: 2, numbers: Digits(index).numbers(8, &ZEROS) };
     let call = BlockCall { blocks: vec![x], factor: [1.0, 0.0], row: 0, column: 0, tolerance: 0.5 };
@@ -118,6 +127,7 @@ pub fn jobs() -> Vec<Job> {
         two_operands(calls::function("retarded_dyson_with_tolerance")),
     ];
     jobs.push(Job::of(PART, "bond_flow_into", count(&[(5, SIGNS.len())]), flow));
+    jobs.push(Job::of(PART, "transient_run_occupied", count(&[(6, SIGNS.len())]), occupied));
     jobs.push(Job::of(PART, "block_is_hermitian", count(&[(8, ZEROS.len())]), hermitian));
     jobs.push(Job::of(PART, "block_multiply", count(&[(4, SIGNS.len())]), product));
     jobs.push(Job::of(PART, "is_consistent", count(&[(7, RESIDUALS.len()), (1, TOLERANCES.len())]), consistent));

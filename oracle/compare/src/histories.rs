@@ -1,20 +1,22 @@
-//! Histories: a run in a capacity, then appends, each told the points that the call before left, all in one session, at one desk or at several. After each
+//! Histories of either form: a run in a capacity, then appends, each told the points that the call before left, all in one session, at one desk or at several. After each
 //! the four slices are those of the port's own run over all points, in bits, what stood beyond the points stands there still, and the counters have more by
 //! the counts of their desks' calls, together as much as the run over all points. Then the observables, asked in the capacity.
 use crate::calls;
 use crate::inputs::{wrapped, Call, Counter};
-use crate::laid::Laid;
+use crate::laid::{Form, Laid};
 use crate::one_point;
 use crate::sessions::sum;
 use crate::sides::{counted, Outcome};
 use crate::source::Source;
 use crate::stages::{grown, STEPS};
 use crate::Job;
-use judge::{appended_products, products, Booking, Counters, Refused, Shape, Slices, DESKS};
+use judge::{Booking, Counters, Refused, Shape, Slices, DESKS};
 
 const PART: &str = "histories";
 const LONG_PART: &str = "long histories";
-const FUNCTION: &str = "append_point";
+/// The append of each form, the function whose inputs it takes, and the form.
+const FORMS: [(&str, &str, Form); 2] =
+    [("append_point", "transient_run", Form::Empty), ("append_point_occupied", "transient_run_occupied", Form::Occupied)];
 
 const OBSERVABLES: [fn(&Laid) -> Outcome; 4] =
     [Laid::density_matrix, Laid::particle_number, Laid::one_body_expectation, Laid::bond_flow_into];
@@ -22,6 +24,7 @@ const OBSERVABLES: [fn(&Laid) -> Outcome; 4] =
 /// What a history is made of: its inputs over all points, the points of its run, the capacity, the desks that its calls name by turns, and what the counters
 /// hold before the first.
 struct Plan {
+    form: Form,
     call: Call,
     first: usize,
     capacity: usize,
@@ -37,13 +40,20 @@ impl Plan {
     /// What a call that is told so many points, and reads so many, is lent: other room each time, and slices that hold this.
     fn lent(&self, source: &mut Source, told: usize, read: usize, before: &Slices<4>) -> Laid {
         let (times, operands) = source.lent(&self.call, self.shape(read));
-        Laid { shape: self.shape(told), times, operands, before: before.clone(), call: self.call.clone() }
+        Laid { form: self.form, shape: self.shape(told), times, operands, before: before.clone(), call: self.call.clone() }
     }
 
     /// The observables of a lesser function of so many points, at a time that may be past them.
     fn observed(&self, source: &mut Source, points: usize, lesser: &[f64]) -> Outcome {
         let call = Call { time: source.below(points + 1), ..self.call.clone() };
-        let laid = Laid { shape: self.shape(points), times: vec![], operands: vec![lesser.to_vec()], before: Default::default(), call };
+        let laid = Laid {
+            form: self.form,
+            shape: self.shape(points),
+            times: vec![],
+            operands: vec![lesser.to_vec()],
+            before: Default::default(),
+            call,
+        };
         OBSERVABLES.iter().fold(Outcome::of(Refused::by(0), 0, 0), |all, observe| all.and(&observe(&laid)))
     }
 
@@ -60,9 +70,9 @@ impl Plan {
     /// The counters after the run and the appends up to so many points, and the sum of what they have more.
     fn booked(&self, points: usize, counters: &Counters) -> Outcome {
         let mut due = self.counters;
-        due[self.desks[0]] += products(self.first);
-        (self.first..points).for_each(|old| due[self.desk(old)] += appended_products(old));
-        let more = sum(counters) == sum(&self.counters) + u128::from(products(points));
+        due[self.desks[0]] += self.form.products(self.first);
+        (self.first..points).for_each(|old| due[self.desk(old)] += self.form.appended_products(old));
+        let more = sum(counters) == sum(&self.counters) + u128::from(self.form.products(points));
         counted(counters, &due).and(&Outcome::of(Refused::by(0), 1, usize::from(!more)))
     }
 
@@ -70,7 +80,7 @@ impl Plan {
     fn compared(mut self, source: &mut Source) -> Outcome {
         let before = self.begun(source);
         let booking = Booking { desk: self.desks[0], counters: self.counters };
-        let (mut all, mut left) = self.lent(source, self.first, self.first, &before).run(booking);
+        let (mut all, mut left, _) = self.lent(source, self.first, self.first, &before).run(booking);
         let (ran, mut points, mut lesser) = (all.number == 0, self.first, left.slices[1].clone());
         while all.number == 0 && points < self.call.points {
             self.call.tolerance = source.tolerance();
@@ -97,12 +107,12 @@ impl Plan {
     fn compared_at_the_end(self, source: &mut Source) -> Outcome {
         let before = self.begun(source);
         let booking = Booking { desk: self.desks[0], counters: self.counters };
-        let (mut answer, mut left) = self.lent(source, self.first, self.first, &before).solved(here::transient_run, booking);
+        let (mut answer, mut left) = self.lent(source, self.first, self.first, &before).ran(booking);
         let mut last = None;
         for points in self.first..self.call.points {
             assert_eq!(answer.number, 0, "a history of ordinary numbers");
             let laid = self.lent(source, points, points + 1, &left.slices);
-            (answer, left) = laid.solved(here::append_point, Booking { desk: self.desk(points), counters: left.counters });
+            (answer, left) = laid.appended(Booking { desk: self.desk(points), counters: left.counters });
             last = Some(laid);
         }
         let accepted = Outcome::of(Refused::by(answer.number), 0, 0);
@@ -115,8 +125,8 @@ impl Plan {
 
 impl Source {
     /// Inputs of ordinary numbers or of any, of which some grow at late points until an append overflows.
-    fn plan(&mut self) -> Plan {
-        let f = calls::function("transient_run");
+    fn plan(&mut self, base: &str, form: Form) -> Plan {
+        let f = calls::function(base);
         let mut call = match self.below(8) {
             0 | 1 => self.small_call(f),
             2 => one_point::run(self),
@@ -131,20 +141,20 @@ impl Source {
         if self.one_in(3) {
             self.grow(&mut call, first);
         }
-        let (desks, counters) = self.desks(call.points);
-        Plan { first, capacity: call.points + self.pick(&[0, 0, 1, 2, 4]), call, desks, counters }
+        let (desks, counters) = self.desks(form.products(call.points));
+        Plan { form, first, capacity: call.points + self.pick(&[0, 0, 1, 2, 4]), call, desks, counters }
     }
 
-    /// One to three desks, and the counters. Those of the desks have room for so many points, but one in six times one of them has not.
-    fn desks(&mut self, points: usize) -> (Vec<usize>, Counters) {
+    /// One to three desks, and the counters. Those of the desks have room for so many products, but one in six times one of them has not.
+    fn desks(&mut self, count: u64) -> (Vec<usize>, Counters) {
         let desks: Vec<usize> = (0..1 + self.below(3)).map(|_| self.below(DESKS)).collect();
         let mut counters = self.counters();
         for &desk in &desks {
-            counters[desk] = self.counter().before(products(points));
+            counters[desk] = self.counter().before(count);
         }
         if self.one_in(6) {
-            let short = Counter::Past(1 + self.below(products(points) as usize) as i64);
-            counters[self.pick(&desks)] = short.before(products(points));
+            let short = Counter::Past(1 + self.below(count as usize) as i64);
+            counters[self.pick(&desks)] = short.before(count);
         }
         (desks, counters)
     }
@@ -169,28 +179,32 @@ impl Source {
 }
 
 pub fn jobs(calls: u64, seed: u64) -> Vec<Job> {
-    let call = move |index| {
-        let source = &mut Source::of(seed, [PART, FUNCTION], index);
-        source.plan().compared(source)
-    };
-    vec![Job::of(PART, FUNCTION, calls, call)]
+    let jobs = FORMS.map(|(name, base, form)| {
+        Job::of(PART, name, calls, move |index| {
+            let source = &mut Source::of(seed, [PART, name], index);
+            source.plan(base, form).compared(source)
+        })
+    });
+    jobs.into()
 }
 
 /// From two points up to each size of the benchmark.
 const LONG: [(usize, usize); 5] = [(256, 1), (128, 2), (64, 4), (32, 8), (16, 16)];
 
 pub fn long(seed: u64) -> Vec<Job> {
-    let call = move |index| {
-        let source = &mut Source::of(seed, [LONG_PART, FUNCTION], index);
-        let (points, orbitals) = LONG[index as usize];
-        let times = source.times_of_step(points, 0.1);
-        let mut call = source.plain_call(calls::function("transient_run"), (points, orbitals), times);
-        call.tolerance = 1e-12;
-        // Larger numbers overflow on so many points.
-        call.operands.iter_mut().for_each(|xs| xs.iter_mut().for_each(|x| *x /= (points * orbitals) as f64));
-        let capacity = if points < 256 { points + 3 } else { points };
-        let (desks, counters) = (vec![7, 0, 3], [(); DESKS].map(|()| source.counter().before(products(points))));
-        Plan { call, first: 2, capacity, desks, counters }.compared_at_the_end(source)
-    };
-    vec![Job::of(LONG_PART, FUNCTION, LONG.len() as u64, call)]
+    let jobs = FORMS.map(|(name, base, form)| {
+        Job::of(LONG_PART, name, LONG.len() as u64, move |index| {
+            let source = &mut Source::of(seed, [LONG_PART, name], index);
+            let (points, orbitals) = LONG[index as usize];
+            let times = source.times_of_step(points, 0.1);
+            let mut call = source.plain_call(calls::function(base), (points, orbitals), times);
+            call.tolerance = 1e-12;
+            // Larger numbers overflow on so many points.
+            call.operands.iter_mut().for_each(|xs| xs.iter_mut().for_each(|x| *x /= (points * orbitals) as f64));
+            let capacity = if points < 256 { points + 3 } else { points };
+            let (desks, counters) = (vec![7, 0, 3], [(); DESKS].map(|()| source.counter().before(form.products(points))));
+            Plan { form, call, first: 2, capacity, desks, counters }.compared_at_the_end(source)
+        })
+    });
+    jobs.into()
 }

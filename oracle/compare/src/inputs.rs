@@ -12,7 +12,8 @@ pub enum Takes {
     Time,
     /// Two orbitals, the hopping between them and the charge factor.
     Bond,
-    Observable,
+    /// That of the expectation, or the one that a run starts from.
+    Block,
     Session,
 }
 
@@ -68,7 +69,7 @@ pub struct Call {
     pub bond: [usize; 2],
     pub hopping: [f64; 2],
     pub charge: f64,
-    pub observable: Numbers,
+    pub block: Numbers,
     pub desk: Desk,
 }
 
@@ -137,7 +138,7 @@ const FAULTS: [(Fault, Option<Takes>); 12] = [
     (Fault::Time, Some(Takes::Time)),
     (Fault::Orbital, Some(Takes::Bond)),
     (Fault::Factor, Some(Takes::Bond)),
-    (Fault::Shape, Some(Takes::Observable)),
+    (Fault::Shape, Some(Takes::Block)),
     (Fault::Counter, Some(Takes::Session)),
     (Fault::Desk, Some(Takes::Session)),
     (Fault::Points, None),
@@ -254,7 +255,7 @@ impl Source {
         self.call(f, (points, orbitals), times, operands, Palette::Ordinary)
     }
 
-    fn call(&mut self, f: &Function, sizes: (usize, usize), times: Vec<f64>, operands: Vec<Vec<f64>>, observable: Palette) -> Call {
+    fn call(&mut self, f: &Function, sizes: (usize, usize), times: Vec<f64>, operands: Vec<Vec<f64>>, block: Palette) -> Call {
         let (points, orbitals) = sizes;
         Call {
             points,
@@ -267,7 +268,7 @@ impl Source {
             bond: [self.below(orbitals), self.below(orbitals)],
             hopping: [self.any(), self.any()],
             charge: self.any(),
-            observable: self.block_numbers([orbitals; 2], observable),
+            block: self.block_numbers([orbitals; 2], block),
             desk: Desk::FIRST,
         }
     }
@@ -311,7 +312,7 @@ impl Source {
                 let [re, im] = &mut call.hopping;
                 *[re, im, &mut call.charge][self.below(3)] = self.pick(&NOT_FINITE);
             }
-            Fault::Shape => self.damage_shape(&mut call.observable),
+            Fault::Shape => self.damage_shape(&mut call.block),
             Fault::Counter => call.desk.counter = self.full_counter(),
             Fault::Desk => call.desk.number = self.no_desk(),
             Fault::Points => {
@@ -352,11 +353,11 @@ impl Source {
         }
     }
 
-    /// Up to three numbers that are not finite, in the observable too.
+    /// Up to three numbers that are not finite, in the block too.
     fn damage_entries(&mut self, f: &Function, call: &mut Call) {
         for _ in 0..1 + self.below(3) {
-            let operand = self.below(f.retarded.len() + usize::from(f.takes(Takes::Observable)));
-            let xs = call.operands.get_mut(operand).unwrap_or(&mut call.observable.numbers);
+            let operand = self.below(f.retarded.len() + usize::from(f.takes(Takes::Block)));
+            let xs = call.operands.get_mut(operand).unwrap_or(&mut call.block.numbers);
             let at = self.below(xs.len());
             xs[at] = self.pick(&NOT_FINITE);
         }

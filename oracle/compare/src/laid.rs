@@ -5,8 +5,34 @@ use crate::sides::{block_outcome, held, judged, ours, outcome, Outcome};
 use crate::source::Source;
 use judge::{Booking, Counters, Held, Shape, Slices};
 
+/// What a run or an append starts from: nothing, or the call's block.
+#[derive(Clone, Copy, PartialEq)]
+pub enum Form {
+    Empty,
+    Occupied,
+}
+
+impl Form {
+    /// Of how many products a run over so many points is.
+    pub fn products(self, points: usize) -> u64 {
+        match self {
+            Self::Empty => judge::products(points),
+            Self::Occupied => judge::occupied_products(points),
+        }
+    }
+
+    /// The same of an append to so many.
+    pub fn appended_products(self, points: usize) -> u64 {
+        match self {
+            Self::Empty => judge::appended_products(points),
+            Self::Occupied => judge::appended_occupied_products(points),
+        }
+    }
+}
+
 #[derive(Clone)]
 pub struct Laid {
+    pub form: Form,
     pub shape: Shape,
     pub times: Vec<f64>,
     pub operands: Vec<Vec<f64>>,
@@ -55,9 +81,6 @@ fn ours_of(shape: Shape) -> here::Shape {
     here::Shape { points: shape.points, capacity: shape.capacity, orbitals: shape.orbitals }
 }
 
-pub type Ours = fn(here::Booking, here::Lent, [&mut [f64]; 4]) -> here::Answer;
-type Theirs = fn(Booking, Shape, &[f64], [&[f64]; 3], f64, [&[f64]; 4]) -> Held;
-
 /// What the slices for G^R, G^<, K and X hold after a call, and the session's counters.
 pub struct Left {
     pub slices: Slices<4>,
@@ -70,39 +93,73 @@ impl Laid {
     }
 
     /// The answer of a call here that is booked so, and what is left.
-    pub fn solved(&self, solve: Ours, Booking { desk, mut counters }: Booking) -> (here::Answer, Left) {
+    fn solved(
+        &self,
+        Booking { desk, mut counters }: Booking,
+        solve: impl FnOnce(here::Booking, here::Lent, &here::Block, [&mut [f64]; 4]) -> here::Answer,
+    ) -> (here::Answer, Left) {
         let mut slices = self.before.clone();
         let lent = here::Lent { times: &self.times, operands: self.operands(), shape: ours_of(self.shape), tolerance: self.call.tolerance };
         let booking = here::Booking { counters: &mut counters, desk };
-        let answer = solve(booking, lent, slices.each_mut().map(|xs| &mut xs[..]));
+        let answer = solve(booking, lent, &ours(&self.call.block.lent()), slices.each_mut().map(|xs| &mut xs[..]));
         (answer, Left { slices, counters })
     }
 
-    /// The same of the judge, begun on these slices.
-    fn judged(&self, solve: Theirs, booking: Booking, before: &Slices<4>) -> Held {
-        solve(booking, self.shape, &self.times, self.operands(), self.call.tolerance, before.each_ref().map(|xs| &xs[..]))
+    pub fn ran(&self, booking: Booking) -> (here::Answer, Left) {
+        self.solved(booking, |booking, lent, g0, made| match self.form {
+            Form::Empty => here::transient_run(booking, lent, made),
+            Form::Occupied => here::transient_run_occupied(booking, lent, g0, made),
+        })
     }
 
-    pub fn run(&self, booking: Booking) -> (Outcome, Left) {
-        let (answer, left) = self.solved(here::transient_run, booking);
-        (held(answer, &left.slices, &left.counters, &self.judged(judge::transient_run_in_capacity, booking, &self.before)), left)
+    pub fn appended(&self, booking: Booking) -> (here::Answer, Left) {
+        self.solved(booking, |booking, lent, g0, made| match self.form {
+            Form::Empty => here::append_point(booking, lent, made),
+            Form::Occupied => here::append_point_occupied(booking, lent, g0, made),
+        })
+    }
+
+    /// The run of the judge, begun on these slices.
+    fn judged_run(&self, booking: Booking, before: &Slices<4>) -> Held {
+        let (shape, times, operands, tolerance) = (self.shape, &self.times, self.operands(), self.call.tolerance);
+        let before = before.each_ref().map(|xs| &xs[..]);
+        match self.form {
+            Form::Empty => judge::transient_run_in_capacity(booking, shape, times, operands, tolerance, before),
+            Form::Occupied => judge::transient_run_occupied(booking, shape, times, operands, &self.call.block.lent(), tolerance, before),
+        }
+    }
+
+    fn judged_append(&self, booking: Booking) -> Held {
+        let (shape, times, operands, tolerance) = (self.shape, &self.times, self.operands(), self.call.tolerance);
+        let before = self.before.each_ref().map(|xs| &xs[..]);
+        match self.form {
+            Form::Empty => judge::append_point(booking, shape, times, operands, tolerance, before),
+            Form::Occupied => judge::append_point_occupied(booking, shape, times, operands, &self.call.block.lent(), tolerance, before),
+        }
+    }
+
+    /// A run, and where its work stops, which is told of one from a block.
+    pub fn run(&self, booking: Booking) -> (Outcome, Left, Option<judge::stages::Stage>) {
+        let (answer, left) = self.ran(booking);
+        let theirs = self.judged_run(booking, &self.before);
+        (held(answer, &left.slices, &left.counters, &theirs), left, theirs.stage)
     }
 
     /// An append beside the port's operations on blocks, and where its work stops.
     pub fn append(&self, booking: Booking) -> (Outcome, Left, Option<judge::stages::Stage>) {
-        let (answer, left) = self.solved(here::append_point, booking);
-        let theirs = self.judged(judge::append_point, booking, &self.before);
+        let (answer, left) = self.appended(booking);
+        let theirs = self.judged_append(booking);
         (held(answer, &left.slices, &left.counters, &theirs), left, theirs.stage)
     }
 
-    /// What an append leaves in its slices beside the port's run over all points, begun on the slices before the first call of the history. Of a refused
+    /// What an append leaves in its slices beside the judge's run over all points, which without a block is the port's, begun on the slices before the first call of the history. Of a refused
     /// append the answer alone is compared; 17 is of the append's desk, and the run over all points is not asked it.
     pub fn whole(&self, appended: &Outcome, slices: &Slices<4>, before: &Slices<4>) -> Outcome {
         if appended.number == 17 {
             return Outcome::of(judge::Refused::by(17), 0, 0);
         }
         let shape = Shape { points: self.shape.points + 1, ..self.shape };
-        let theirs = Self { shape, ..self.clone() }.judged(judge::transient_run_in_capacity, Booking::FIRST, before);
+        let theirs = Self { shape, ..self.clone() }.judged_run(Booking::FIRST, before);
         let number = theirs.judged.answer.map_or_else(|refused| refused.number, |_| 0);
         let (listed, agrees) = (theirs.judged.listed, theirs.judged.agrees);
         let differs = usize::from(number != appended.number) + usize::from(!agrees);
@@ -127,7 +184,7 @@ impl Laid {
     }
 
     pub fn one_body_expectation(&self) -> Outcome {
-        let ([lesser], time, tolerance, observable) = (self.operands(), self.call.time, self.call.tolerance, self.call.observable.lent());
+        let ([lesser], time, tolerance, observable) = (self.operands(), self.call.time, self.call.tolerance, self.call.block.lent());
         let here = here::one_body_expectation(lesser, ours_of(self.shape), time, &ours(&observable), tolerance);
         judged(here, judge::one_body_expectation_in_capacity(self.shape, lesser, time, &observable, tolerance), |x| vec![x])
     }

@@ -94,7 +94,7 @@ fn observable(x: &Smallest) -> Outcome {
         observable[at] = x.observable;
     }
     let mut call = call_of(f, n, vec![lesser]);
-    (call.observable.numbers, call.time, call.tolerance) = (observable, x.time, x.tolerance);
+    (call.block.numbers, call.time, call.tolerance) = (observable, x.time, x.tolerance);
     (f.compare)(&call)
 }
 

@@ -1,6 +1,6 @@
 //! Sessions: the run and the append at a desk, by what the counters hold before, and lists of calls of one session, each at a desk and onto contents of its
 //! own, of which the accepted ones move their desks' counters by their counts.
-use crate::capacities::{APPEND, RUN};
+use crate::capacities::{self, Function, APPEND, RUN};
 use crate::inputs::{Counter, Desk};
 use crate::sides::{counted, Outcome};
 use crate::source::Source;
@@ -23,13 +23,16 @@ const BOOKED: [(&str, Drawn); 8] = [
     ("no desk", |source| Desk { number: source.no_desk(), ..source.desk() }),
 ];
 
+/// Lists of calls that start from nothing, and of calls of both forms.
+const LISTS: [(&str, &[Function]); 2] = [("lists of calls", &[RUN, APPEND]), ("lists of both forms", &capacities::BOOKED)];
+
 /// Two to nine calls, of which one in eight names no desk. From zeros the eight sum to the counts of the accepted ones.
-fn list(source: &mut Source) -> Outcome {
+fn list(functions: &[Function], source: &mut Source) -> Outcome {
     let mut counters = if source.one_in(2) { [0; DESKS] } else { source.counters() };
     let (mut due, mut total, mut accepted) = (counters, sum(&counters), 0);
     let mut all = Outcome::of(Refused::by(0), 0, 0);
     for _ in 0..2 + source.below(8) {
-        let function = source.pick(&[RUN, APPEND]);
+        let function = source.pick(functions);
         let (laid, _) = source.laid(function);
         let desk = if source.one_in(8) { source.no_desk() } else { source.below(DESKS) };
         let (call, left, count) = laid.booked(function, Booking { desk, counters });
@@ -43,7 +46,7 @@ fn list(source: &mut Source) -> Outcome {
     }
     let sums = Outcome::of(Refused::by(0), 1, usize::from(sum(&counters) != total));
     let label = ["none", "one", "two", "three or more"][accepted.min(3)];
-    all.and(&counted(&counters, &due)).and(&sums).under(format!("lists of calls, {label} accepted"))
+    all.and(&counted(&counters, &due)).and(&sums).under(format!("{label} accepted"))
 }
 
 /// What the counters hold together.
@@ -53,7 +56,7 @@ pub fn sum(counters: &judge::Counters) -> u128 {
 
 /// The run and the append, counted under what the counters hold, and the lists.
 pub fn jobs(calls: u64, seed: u64) -> Vec<Job> {
-    let alone = [RUN, APPEND].map(|function| {
+    let alone = capacities::BOOKED.map(|function| {
         let (name, _, compare) = function;
         Job::of(PART, name, calls, move |index| {
             let source = &mut Source::of(seed, [PART, name], index);
@@ -63,6 +66,12 @@ pub fn jobs(calls: u64, seed: u64) -> Vec<Job> {
             compare(&laid).under(format!("{name}, {label}"))
         })
     });
-    let lists = Job::of(PART, "lists of calls", calls, move |index| list(&mut Source::of(seed, [PART, "lists of calls"], index)));
-    alone.into_iter().chain([lists]).collect()
+    let lists = LISTS.map(|(name, functions)| {
+        Job::of(PART, name, calls, move |index| {
+            let outcome = list(functions, &mut Source::of(seed, [PART, name], index));
+            let label = format!("{name}, {}", outcome.label);
+            outcome.under(label)
+        })
+    });
+    alone.into_iter().chain(lists).collect()
 }

@@ -2,7 +2,7 @@
 use crate::block_inputs::BlockCall;
 use crate::blocks::{self, Operation};
 use crate::calls::{self, Function};
-use crate::inputs::Call;
+use crate::inputs::{Call, Takes};
 use crate::sides::Outcome;
 use crate::source::{Palette, Source};
 use crate::Job;
@@ -18,16 +18,20 @@ type Patterns = &'static [&'static [usize]];
 
 const PAIR: Patterns = &[&[0], &[1], &[0, 1]];
 const RUN: Patterns = &[&[0], &[0], &[0], &[0], &[1], &[2], &[0, 1], &[0, 2], &[1, 2], &[0, 1, 2]];
+const OCCUPIED: Patterns = &[&[0], &[0], &[1], &[2], &[3], &[3], &[0, 3], &[0, 3], &[2, 3], &[0, 1, 2, 3]];
 const LANGRETH: Patterns = &[&[0, 4], &[4], &[1, 5], &[1], &[0], &[5], &[6], &[2], &[2, 6], &[7], &[3], &[3, 7], &[2, 3, 6, 7]];
 const REPORT: Patterns = &[&[0], &[1], &[0, 1], &[2], &[3], &[2, 3], &[0, 1, 2, 3]];
 
-const FUNCTIONS: [(&str, Patterns, Told); 6] = [
+const FUNCTIONS: [(&str, Patterns, Told); 7] = [
     ("time_convolution", PAIR, |call| stages::time_convolution(call.points, call.orbitals, &call.times, call.operands())),
     ("causal_volterra_convolution", PAIR, |call| {
         stages::causal_volterra_convolution(call.points, call.orbitals, &call.times, call.operands())
     }),
     ("retarded_dyson_with_tolerance", PAIR, |call| stages::retarded_dyson(call.points, call.orbitals, &call.times, call.operands())),
     ("transient_run", RUN, |call| stages::transient_run(call.points, call.orbitals, &call.times, call.operands())),
+    ("transient_run_occupied", OCCUPIED, |call| {
+        stages::transient_run_occupied(call.points, call.orbitals, &call.times, call.operands(), &call.block.lent())
+    }),
     ("langreth_product", LANGRETH, |call| stages::langreth_product(call.points, call.orbitals, &call.times, call.operands())),
     ("consistency_report", REPORT, |call| stages::consistency_report(call.points, call.orbitals, call.operands())),
 ];
@@ -109,10 +113,16 @@ fn function(seed: u64, f: &Function, (patterns, told): (Patterns, Told), index: 
     let times = source.times_of_step(sizes.0, step);
     let plain = source.plain_call(f, sizes, times);
     let pattern = source.pick(patterns);
-    let growths: Vec<_> = (0..plain.operands.len()).map(|at| Growth::drawn(source, pattern.contains(&at))).collect();
+    // A block counts as one more operand.
+    let inputs = plain.operands.len() + usize::from(f.takes(Takes::Block));
+    let growths: Vec<_> = (0..inputs).map(|at| Growth::drawn(source, pattern.contains(&at))).collect();
     let call = |steps| {
         let operands = plain.operands.iter().zip(&growths).map(|(xs, growth)| grown(xs, growth.at(steps)));
-        Call { operands: operands.collect(), ..plain.clone() }
+        let mut call = Call { operands: operands.collect(), ..plain.clone() };
+        if let Some(growth) = growths.get(plain.operands.len()) {
+            call.block.numbers = grown(&plain.block.numbers, growth.at(steps));
+        }
+        call
     };
     let steps = refused(source, |steps| told(&call(steps)));
     let call = call(near(source, steps));
@@ -132,7 +142,7 @@ fn observable(seed: u64, f: &Function, index: u64) -> Outcome {
     let growths = [Growth::drawn(source, true), Growth::drawn(source, true)];
     let call = |steps| {
         let mut call = Call { operands: vec![grown(&plain.operands[0], growths[0].at(steps))], ..plain.clone() };
-        call.observable.numbers = grown(&plain.observable.numbers, growths[1].at(steps));
+        call.block.numbers = grown(&plain.block.numbers, growths[1].at(steps));
         call
     };
     let steps = first(MOST, |steps| (f.compare)(&call(steps)).number == 10);

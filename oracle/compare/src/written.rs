@@ -131,46 +131,70 @@ fn is_consistent(index: u64) -> Outcome {
     outcome(number, vec![decided, numbers(&places), part], vec![(PLACE as f64, written)], theirs)
 }
 
-/// A call at a desk, whose session's counters are a slice of eight: the points that it is told of a call's, how many products it forms, and both sides.
+/// A call at a desk, whose session's counters are a slice of eight: the function whose inputs it takes, the points that it is told of a call's, how many
+/// products it forms, and both sides; the form without a block leaves the block out.
 struct Booked {
     name: &'static str,
+    base: &'static str,
     told: fn(usize) -> usize,
     products: fn(usize) -> u64,
-    ours: fn(here::Booking, Lent, [&mut [f64]; 4], &mut [usize], &mut [f64]) -> u8,
-    theirs: fn(judge::Booking, judge::Shape, &[f64], [&[f64]; 3], f64, [&[f64]; 4]) -> judge::Held,
+    ours: fn(here::Booking, Lent, &here::Block, [&mut [f64]; 4], &mut [usize], &mut [f64]) -> u8,
+    theirs: fn(judge::Booking, judge::Shape, &[f64], [&[f64]; 3], &judge::Block, f64, [&[f64]; 4]) -> judge::Held,
 }
 
 const RUN: Booked = Booked {
     name: "transient_run",
+    base: "transient_run",
     told: |points| points,
     products: judge::products,
-    ours: here::transient_run_written,
-    theirs: judge::transient_run_in_capacity,
+    ours: |booking, lent, _, made, places, part| here::transient_run_written(booking, lent, made, places, part),
+    theirs: |booking, shape, times, operands, _, tolerance, before| {
+        judge::transient_run_in_capacity(booking, shape, times, operands, tolerance, before)
+    },
 };
 
 const APPEND: Booked = Booked {
     name: "append_point",
     told: |points| points.wrapping_sub(1),
     products: judge::appended_products,
-    ours: here::append_point_written,
-    theirs: judge::append_point,
+    ours: |booking, lent, _, made, places, part| here::append_point_written(booking, lent, made, places, part),
+    theirs: |booking, shape, times, operands, _, tolerance, before| judge::append_point(booking, shape, times, operands, tolerance, before),
+    ..RUN
+};
+
+const RUN_OCCUPIED: Booked = Booked {
+    name: "transient_run_occupied",
+    base: "transient_run_occupied",
+    told: |points| points,
+    products: judge::occupied_products,
+    ours: here::transient_run_occupied_written,
+    theirs: judge::transient_run_occupied,
+};
+
+const APPEND_OCCUPIED: Booked = Booked {
+    name: "append_point_occupied",
+    told: |points| points.wrapping_sub(1),
+    products: judge::appended_occupied_products,
+    ours: here::append_point_occupied_written,
+    theirs: judge::append_point_occupied,
+    ..RUN_OCCUPIED
 };
 
 /// Line 3 asks the counters' length alone; what they hold is compared beside the numbers, a whole word each.
 fn in_session(seed: u64, x: Booked, index: u64) -> Outcome {
-    let (mut lengths, f) = (Lengths(index), calls::function("transient_run"));
+    let (mut lengths, f) = (Lengths(index), calls::function(x.base));
     let (length, (mut places, mut part)) = (lengths.next(DESKS), lengths.places_and_part());
     let (call, _) = Source::of(seed, [PART, x.name], index).faulty_call(f);
-    let (points, capacity, orbitals) = ((x.told)(call.points), call.points, call.orbitals);
+    let (points, capacity, orbitals, g0) = ((x.told)(call.points), call.points, call.orbitals, call.block.lent());
     let (before, held) = (call.desk.before((x.products)(points)), call.made::<4>().map(|length| vec![LENT; length]));
     let passed: Vec<u64> = before.counters.into_iter().cycle().take(length).collect();
     let (mut counters, mut made) = (passed.clone(), held.clone());
     let lent =
         Lent { times: &call.times, operands: call.operands(), shape: Shape { points, capacity, orbitals }, tolerance: call.tolerance };
     let booking = here::Booking { counters: &mut counters, desk: before.desk };
-    let number = (x.ours)(booking, lent, made.each_mut().map(|xs| &mut xs[..]), &mut places, &mut part);
+    let number = (x.ours)(booking, lent, &ours(&g0), made.each_mut().map(|xs| &mut xs[..]), &mut places, &mut part);
     let shape = judge::Shape { points, capacity, orbitals };
-    let theirs = (x.theirs)(before, shape, &call.times, call.operands(), call.tolerance, held.each_ref().map(|xs| &xs[..]));
+    let theirs = (x.theirs)(before, shape, &call.times, call.operands(), &g0, call.tolerance, held.each_ref().map(|xs| &xs[..]));
     let due = if length == DESKS { theirs.counters.to_vec() } else { passed };
     let unequal = counters.iter().zip(&due).filter(|(x, y)| x != y).count();
     let written = theirs.slices.into_iter().map(|xs| (LENT, xs));
@@ -188,5 +212,7 @@ pub fn jobs(seed: u64) -> Vec<Job> {
         Job::of(PART, "is_consistent", 256 * TURNS, is_consistent),
         Job::of(PART, RUN.name, 64 * TURNS, move |index| in_session(seed, RUN, index)),
         Job::of(PART, APPEND.name, 64 * TURNS, move |index| in_session(seed, APPEND, index)),
+        Job::of(PART, RUN_OCCUPIED.name, 64 * TURNS, move |index| in_session(seed, RUN_OCCUPIED, index)),
+        Job::of(PART, APPEND_OCCUPIED.name, 64 * TURNS, move |index| in_session(seed, APPEND_OCCUPIED, index)),
     ]
 }

@@ -1,4 +1,4 @@
-//! The functions that `crates/two_time_exports`, `crates/run_exports` and `crates/block_exports` export, over slices.
+//! The functions that `crates/two_time_exports`, `crates/run_exports`, `crates/occupied_exports` and `crates/block_exports` export, over slices.
 mod blocks;
 mod keldysh;
 mod norm;
@@ -90,6 +90,40 @@ type Solve = unsafe extern "C" fn(
     self_energy_len: usize,
     lesser_self_energy: *const f64,
     lesser_self_energy_len: usize,
+    points: usize,
+    capacity: usize,
+    orbitals: usize,
+    tolerance: f64,
+    retarded: *mut f64,
+    retarded_len: usize,
+    lesser: *mut f64,
+    lesser_len: usize,
+    kernel: *mut f64,
+    kernel_len: usize,
+    lesser_advanced: *mut f64,
+    lesser_advanced_len: usize,
+    places: *mut usize,
+    places_len: usize,
+    part: *mut f64,
+    part_len: usize,
+) -> u8;
+
+/// A block crosses as its rows, its columns and the address of its 512 numbers.
+type SolveFrom = unsafe extern "C" fn(
+    counters: *mut u64,
+    counters_len: usize,
+    desk: usize,
+    times: *const f64,
+    times_len: usize,
+    free: *const f64,
+    free_len: usize,
+    self_energy: *const f64,
+    self_energy_len: usize,
+    lesser_self_energy: *const f64,
+    lesser_self_energy_len: usize,
+    rows: usize,
+    columns: usize,
+    g0: *const f64,
     points: usize,
     capacity: usize,
     orbitals: usize,
@@ -219,6 +253,72 @@ mod exported {
             self_energy_len: usize,
             lesser_self_energy: *const f64,
             lesser_self_energy_len: usize,
+            points: usize,
+            capacity: usize,
+            orbitals: usize,
+            tolerance: f64,
+            retarded: *mut f64,
+            retarded_len: usize,
+            lesser: *mut f64,
+            lesser_len: usize,
+            kernel: *mut f64,
+            kernel_len: usize,
+            lesser_advanced: *mut f64,
+            lesser_advanced_len: usize,
+            places: *mut usize,
+            places_len: usize,
+            part: *mut f64,
+            part_len: usize,
+        ) -> u8;
+
+        pub fn leechgrommet_transient_run_occupied(
+            counters: *mut u64,
+            counters_len: usize,
+            desk: usize,
+            times: *const f64,
+            times_len: usize,
+            free: *const f64,
+            free_len: usize,
+            self_energy: *const f64,
+            self_energy_len: usize,
+            lesser_self_energy: *const f64,
+            lesser_self_energy_len: usize,
+            rows: usize,
+            columns: usize,
+            g0: *const f64,
+            points: usize,
+            capacity: usize,
+            orbitals: usize,
+            tolerance: f64,
+            retarded: *mut f64,
+            retarded_len: usize,
+            lesser: *mut f64,
+            lesser_len: usize,
+            kernel: *mut f64,
+            kernel_len: usize,
+            lesser_advanced: *mut f64,
+            lesser_advanced_len: usize,
+            places: *mut usize,
+            places_len: usize,
+            part: *mut f64,
+            part_len: usize,
+        ) -> u8;
+
+        pub fn leechgrommet_append_point_occupied(
+            counters: *mut u64,
+            counters_len: usize,
+            desk: usize,
+            times: *const f64,
+            times_len: usize,
+            free: *const f64,
+            free_len: usize,
+            self_energy: *const f64,
+            self_energy_len: usize,
+            lesser_self_energy: *const f64,
+            lesser_self_energy_len: usize,
+            rows: usize,
+            columns: usize,
+            g0: *const f64,
             points: usize,
             capacity: usize,
             orbitals: usize,
@@ -375,6 +475,51 @@ fn solve(
     }
 }
 
+fn solve_from(
+    call: SolveFrom,
+    Booking { counters, desk }: Booking,
+    Lent { times, operands: [free, self_energy, lesser_self_energy], shape, tolerance }: Lent,
+    g0: &Block,
+    [retarded, lesser, kernel, lesser_advanced]: [&mut [f64]; 4],
+    places: &mut [usize],
+    part: &mut [f64],
+) -> u8 {
+    unsafe {
+        call(
+            counters.as_mut_ptr(),
+            counters.len(),
+            desk,
+            times.as_ptr(),
+            times.len(),
+            free.as_ptr(),
+            free.len(),
+            self_energy.as_ptr(),
+            self_energy.len(),
+            lesser_self_energy.as_ptr(),
+            lesser_self_energy.len(),
+            g0.rows,
+            g0.columns,
+            g0.values.as_ptr(),
+            shape.points,
+            shape.capacity,
+            shape.orbitals,
+            tolerance,
+            retarded.as_mut_ptr(),
+            retarded.len(),
+            lesser.as_mut_ptr(),
+            lesser.len(),
+            kernel.as_mut_ptr(),
+            kernel.len(),
+            lesser_advanced.as_mut_ptr(),
+            lesser_advanced.len(),
+            places.as_mut_ptr(),
+            places.len(),
+            part.as_mut_ptr(),
+            part.len(),
+        )
+    }
+}
+
 /// G^R and G^<, and K and X in the scratch.
 pub fn transient_run(booking: Booking, lent: Lent, made: [&mut [f64]; 4]) -> Answer {
     answer(|places, part| transient_run_written(booking, lent, made, places, part))
@@ -392,6 +537,37 @@ pub fn transient_run_written(booking: Booking, lent: Lent, made: [&mut [f64]; 4]
 
 pub fn append_point_written(booking: Booking, lent: Lent, made: [&mut [f64]; 4], places: &mut [usize], part: &mut [f64]) -> u8 {
     solve(exported::leechgrommet_append_point, booking, lent, made, places, part)
+}
+
+/// The run and the append that start from a block.
+pub fn transient_run_occupied(booking: Booking, lent: Lent, g0: &Block, made: [&mut [f64]; 4]) -> Answer {
+    answer(|places, part| transient_run_occupied_written(booking, lent, g0, made, places, part))
+}
+
+pub fn append_point_occupied(booking: Booking, lent: Lent, g0: &Block, made: [&mut [f64]; 4]) -> Answer {
+    answer(|places, part| append_point_occupied_written(booking, lent, g0, made, places, part))
+}
+
+pub fn transient_run_occupied_written(
+    booking: Booking,
+    lent: Lent,
+    g0: &Block,
+    made: [&mut [f64]; 4],
+    places: &mut [usize],
+    part: &mut [f64],
+) -> u8 {
+    solve_from(exported::leechgrommet_transient_run_occupied, booking, lent, g0, made, places, part)
+}
+
+pub fn append_point_occupied_written(
+    booking: Booking,
+    lent: Lent,
+    g0: &Block,
+    made: [&mut [f64]; 4],
+    places: &mut [usize],
+    part: &mut [f64],
+) -> u8 {
+    solve_from(exported::leechgrommet_append_point_occupied, booking, lent, g0, made, places, part)
 }
 
 /// The numbers that the call writes, or the refusal: after 10 they are +0, after another number as they were.

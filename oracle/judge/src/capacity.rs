@@ -1,11 +1,12 @@
 //! Calls on slices laid out for a capacity of points (document 02, L1). Over the points' entries the answers are the port's. It has no append: the new row
-//! and column are made by its operations on blocks, of what the slices hold at old places. Runs and appends are at a desk of a session (L3, L13).
+//! and column are made by its operations on blocks, of what the slices hold at old places. Nor has it a run that starts from a block (L5), which is made by
+//! the same operations. Runs and appends are at a desk of a session (L3, L13).
 use crate::functions;
-use crate::lines::{functions_of_times, lengths, refusal, require};
-use crate::session::{appended_products, products, Booking, Counters};
-use crate::sums::{OnePoint, Stage, Work};
+use crate::lines::{functions_of_times, lengths, matrix, refusal, require};
+use crate::session::{appended_occupied_products, appended_products, occupied_products, products, Booking, Counters};
+use crate::sums::{OnePoint, Stage, Start, Work};
 use crate::{Answer, Block, Judged, Refused, Slices};
-use keldysh_green::kept;
+use keldysh_green::{kept, DenseMatrix, RealTimeGrid, TwoTimeMatrix};
 use shared::{function, numbers};
 
 /// So many points and orbitals, in slices laid out for a capacity of points: row t begins at t·capacity blocks.
@@ -120,45 +121,105 @@ pub fn transient_run_in_capacity(
     Held::of(judged.booked(booking, count), count, before, |xs| vec![0.0; xs.len()])
 }
 
-/// The new row and column, or where they are not finite: an old entry of X, or of G^R on or below its diagonal, that is not finite is read.
-fn appended(shape: Shape, times: &[f64], operands: [&[f64]; 3], tolerance: f64, before: [&[f64]; 4]) -> Answer<Result<Slices<4>, Stage>> {
-    shape.lines(Some(times), &operands, &before.map(<[f64]>::len), &[])?;
-    let (points, orbitals, new) = (shape.points, shape.orbitals, shape.points - 1);
+/// Lines 1 to 9 and 16 of a call that starts from a block, or does not: 7 of the block comes after that of the functions.
+fn asked(
+    shape: Shape,
+    times: &[f64],
+    operands: [&[f64]; 3],
+    g0: Option<&Block>,
+    tolerance: f64,
+    before: [&[f64]; 4],
+) -> Answer<(RealTimeGrid, [TwoTimeMatrix; 3], Option<DenseMatrix>)> {
+    let sides: Vec<usize> = g0.iter().flat_map(|x| [x.rows, x.columns]).collect();
+    shape.lines(Some(times), &operands, &before.map(<[f64]>::len), &sides)?;
     let entries = operands.map(|xs| shape.within(xs));
     let operands = entries.each_ref().map(|xs| &xs[..]);
-    let (grid, operands) =
-        functions_of_times(points, orbitals, &times[..points], operands, &[]).map_err(|refused| shape.lent(3, refused))?;
+    let (grid, operands) = functions_of_times(shape.points, shape.orbitals, &times[..shape.points], operands, &[])
+        .map_err(|refused| shape.lent(3, refused))?;
+    let g0 = g0.map(|x| matrix(3, x.rows, x.columns, x.entries())).transpose()?;
     for (operand, xs) in operands[..2].iter().enumerate() {
         kept::check_retarded_support(xs, tolerance).map_err(|error| Refused { operand, ..refusal(error) })?;
     }
+    Ok((grid, operands, g0))
+}
+
+fn start(g0: &Option<DenseMatrix>) -> Start<'_> {
+    g0.as_ref().map_or(Start::Empty, Start::Occupied)
+}
+
+/// What a call leaves, or where it stops by 10, in these slices.
+type Worked = Answer<Result<Slices<4>, Stage>>;
+
+fn held_of(worked: Worked, booking: Booking, count: u64, before: [&[f64]; 4], after_10: impl Fn(&[f64]) -> Vec<f64>) -> Held {
+    let (answer, stage) = match worked {
+        Ok(Ok(slices)) => (Ok(slices), None),
+        Ok(Err(stage)) => (Err(Refused::by(10)), Some(stage)),
+        Err(refused) => (Err(refused), None),
+    };
+    let held = Held::of(Judged::from(answer).booked(booking, count), count, before, after_10);
+    Held { stage: stage.filter(|_| held.judged.answer == Err(Refused::by(10))), ..held }
+}
+
+/// The run that starts from a block: its sums by the port's operations.
+pub fn transient_run_occupied(
+    booking: Booking,
+    shape: Shape,
+    times: &[f64],
+    operands: [&[f64]; 3],
+    g0: &Block,
+    tolerance: f64,
+    before: [&[f64]; 4],
+) -> Held {
+    let worked = asked(shape, times, operands, Some(g0), tolerance, before).map(|(grid, operands, g0)| {
+        let made = Work { grid, one_point: OnePoint::LeftOut }.transient_run_from(start(&g0), &operands)?;
+        Ok(std::array::from_fn(|at| shape.written(before[at], &numbers(&made[at]), |_, _| true)))
+    });
+    held_of(worked, booking, occupied_products(shape.points), before, |xs| vec![0.0; xs.len()])
+}
+
+/// The new row and column, or where they are not finite: an old entry of X, or of G^R on or below its diagonal, that is not finite is read.
+fn appended(shape: Shape, times: &[f64], operands: [&[f64]; 3], g0: Option<&Block>, tolerance: f64, before: [&[f64]; 4]) -> Worked {
+    let (grid, operands, g0) = asked(shape, times, operands, g0, tolerance, before)?;
+    let (points, orbitals, new) = (shape.points, shape.orbitals, shape.points - 1);
     let old = |xs: &[f64], at: fn(usize, usize) -> bool| {
         let xs = shape.entries(xs, |t, u| t.max(u) < new && at(t, u));
         function(points, orbitals, &xs).map_err(|_| ["an old entry", "not finite"])
     };
     let sums = || {
         let read = [old(before[0], |t, u| t >= u)?, old(before[3], |_, _| true)?];
-        let made = Work { grid, one_point: OnePoint::LeftOut }.append_point(new, &operands, &read)?;
+        let made = Work { grid, one_point: OnePoint::LeftOut }.append_point(start(&g0), new, &operands, &read)?;
         Ok(std::array::from_fn(|at| shape.written(before[at], &numbers(&made[at]), |t, u| t.max(u) == new)))
     };
     Ok(sums())
 }
 
-/// The append to the points that the shape tells. After 10 its new row and column are +0.
-pub fn append_point(booking: Booking, shape: Shape, times: &[f64], operands: [&[f64]; 3], tolerance: f64, before: [&[f64]; 4]) -> Held {
+/// The append to the points that the shape tells, of so many products. After 10 its new row and column are +0.
+fn append(booking: Booking, shape: Shape, count: u64, before: [&[f64]; 4], worked: impl FnOnce(Shape) -> Worked) -> Held {
     let new = shape.points;
     // The largest count and one more is above every capacity.
     let shape = Shape { points: new.saturating_add(1), ..shape };
-    let (answer, stage) = match appended(shape, times, operands, tolerance, before) {
-        Ok(Ok(slices)) => (Ok(slices), None),
-        Ok(Err(stage)) => (Err(Refused::by(10)), Some(stage)),
-        Err(refused) => (Err(refused), None),
-    };
-    let count = appended_products(new);
-    let held = Held::of(Judged::from(answer).booked(booking, count), count, before, |xs| {
+    held_of(worked(shape), booking, count, before, |xs| {
         let none = vec![0.0; shape.points * shape.points * shape.block()];
         shape.written(xs, &none, |t, u| t.max(u) == new)
-    });
-    Held { stage: stage.filter(|_| held.judged.answer == Err(Refused::by(10))), ..held }
+    })
+}
+
+pub fn append_point(booking: Booking, shape: Shape, times: &[f64], operands: [&[f64]; 3], tolerance: f64, before: [&[f64]; 4]) -> Held {
+    append(booking, shape, appended_products(shape.points), before, |shape| appended(shape, times, operands, None, tolerance, before))
+}
+
+/// The same of a run that starts from a block.
+pub fn append_point_occupied(
+    booking: Booking,
+    shape: Shape,
+    times: &[f64],
+    operands: [&[f64]; 3],
+    g0: &Block,
+    tolerance: f64,
+    before: [&[f64]; 4],
+) -> Held {
+    let worked = |shape| appended(shape, times, operands, Some(g0), tolerance, before);
+    append(booking, shape, appended_occupied_products(shape.points), before, worked)
 }
 
 /// A question to the points' entries of a lesser function.

@@ -30,6 +30,15 @@ pub fn appended_products(points: usize) -> u64 {
     products(points.saturating_add(1)) - products(points)
 }
 
+/// Those of a run that starts from a block: two more at each place.
+pub fn occupied_products(points: usize) -> u64 {
+    products(points) + 2 * (points.min(256) as u64).pow(2)
+}
+
+pub fn appended_occupied_products(points: usize) -> u64 {
+    occupied_products(points.saturating_add(1)) - occupied_products(points)
+}
+
 impl<T> Judged<T> {
     /// The answer of a call of so many products that is booked so, and the counters afterwards. 22 comes before all others, 10 after 17.
     pub fn booked(self, Booking { desk, mut counters }: Booking, count: u64) -> (Self, Counters) {

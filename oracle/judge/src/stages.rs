@@ -1,7 +1,8 @@
 //! Where the work of a call first makes a block that is not finite: in which function or sum, by which operation. The inputs are as lines 1
 //! to 9 want them. The port does not say where it stops: its sums are done again.
-use crate::lines::{functions, functions_of_times};
-use crate::sums::{self, Made, OnePoint, Work};
+use crate::lines::{functions, functions_of_times, matrix};
+use crate::sums::{self, Made, OnePoint, Start, Work};
+use crate::Block;
 use keldysh_green::TwoTimeMatrix;
 
 pub use crate::sums::{Stage, ONE_POINT};
@@ -32,6 +33,13 @@ pub fn retarded_dyson(points: usize, orbitals: usize, times: &[f64], operands: [
 
 pub fn transient_run(points: usize, orbitals: usize, times: &[f64], operands: [&[f64]; 3]) -> Option<Stage> {
     told(points, orbitals, times, operands, Work::transient_run)
+}
+
+/// The port has no run that starts from a block: of this one no product is on one point.
+pub fn transient_run_occupied(points: usize, orbitals: usize, times: &[f64], operands: [&[f64]; 3], g0: &Block) -> Option<Stage> {
+    let (grid, operands) = functions_of_times(points, orbitals, times, operands, &[]).expect("lines 1 to 7");
+    let g0 = matrix(3, g0.rows, g0.columns, g0.entries()).expect("lines 1 to 7");
+    Work { grid, one_point: OnePoint::LeftOut }.transient_run_from(Start::Occupied(&g0), &operands).err()
 }
 
 pub fn langreth_product(points: usize, orbitals: usize, times: &[f64], operands: [&[f64]; 8]) -> Option<Stage> {

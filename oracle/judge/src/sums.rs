@@ -45,6 +45,26 @@ fn plus_term(total: &DenseMatrix, left: &DenseMatrix, right: &DenseMatrix, weigh
     by("add", kept::add(total, &scaled))
 }
 
+/// What the lesser function of a run starts from: zero, or a block g0 at the first time.
+#[derive(Clone, Copy)]
+pub enum Start<'a> {
+    Empty,
+    Occupied(&'a DenseMatrix),
+}
+
+impl Start<'_> {
+    /// (G^R(t,0)·g0)·G^A(0,t').
+    fn block(self, retarded: &TwoTimeMatrix, [t, u]: [usize; 2]) -> Result<DenseMatrix> {
+        match self {
+            Self::Empty => zero(retarded.orbitals()),
+            Self::Occupied(g0) => {
+                let first = by("product with g0", retarded.get(t, 0)?.multiply(g0))?;
+                by("product of the start", first.multiply(&retarded.get(u, 0)?.adjoint()))
+            }
+        }
+    }
+}
+
 /// Sums over these times.
 pub struct Work {
     pub grid: RealTimeGrid,
@@ -53,15 +73,32 @@ pub struct Work {
 
 impl Work {
     /// The sum over s from start to end by the weights of that interval, 0 where it is empty.
-    fn over(&self, left: &TwoTimeMatrix, right: &TwoTimeMatrix, [t, u]: [usize; 2], [start, end]: [usize; 2]) -> Result<DenseMatrix> {
+    fn over(&self, left: &TwoTimeMatrix, right: &TwoTimeMatrix, place: [usize; 2], interval: [usize; 2]) -> Result<DenseMatrix> {
+        self.onto(zero(left.orbitals())?, left, right, place, interval)
+    }
+
+    /// The same onto a block.
+    fn onto(
+        &self,
+        first: DenseMatrix,
+        left: &TwoTimeMatrix,
+        right: &TwoTimeMatrix,
+        [t, u]: [usize; 2],
+        [start, end]: [usize; 2],
+    ) -> Result<DenseMatrix> {
         let mut terms = start..=end;
         let sum =
             |total: DenseMatrix, s| plus_term(&total, left.get(t, s)?, right.get(s, u)?, kept::interval_weight(&self.grid, s, start, end));
         match self.one_point {
-            OnePoint::LeftOut if start == end => zero(left.orbitals()),
-            OnePoint::Formed if start == end => by(ONE_POINT, terms.try_fold(zero(left.orbitals())?, sum)),
-            _ => terms.try_fold(zero(left.orbitals())?, sum),
+            OnePoint::LeftOut if start == end => Ok(first),
+            OnePoint::Formed if start == end => by(ONE_POINT, terms.try_fold(first, sum)),
+            _ => terms.try_fold(first, sum),
         }
+    }
+
+    /// G^<(t,t') of a run.
+    fn lesser(&self, start: Start, retarded: &TwoTimeMatrix, lesser_advanced: &TwoTimeMatrix, [t, u]: [usize; 2]) -> Result<DenseMatrix> {
+        self.onto(start.block(retarded, [t, u])?, retarded, lesser_advanced, [t, u], [0, t])
     }
 
     fn causal(&self, name: &'static str, left: &TwoTimeMatrix, right: &TwoTimeMatrix) -> One {
@@ -105,12 +142,17 @@ impl Work {
     }
 
     /// G^R, G^<, K, X.
-    pub fn transient_run(&self, [free, self_energy, lesser_self_energy]: &[TwoTimeMatrix; 3]) -> Made<4> {
+    pub fn transient_run(&self, operands: &[TwoTimeMatrix; 3]) -> Made<4> {
+        self.transient_run_from(Start::Empty, operands)
+    }
+
+    /// The same, where G^< starts so.
+    pub fn transient_run_from(&self, start: Start, [free, self_energy, lesser_self_energy]: &[TwoTimeMatrix; 3]) -> Made<4> {
         let kernel = self.causal("K", free, self_energy)?;
         let retarded = self.retarded(free, &kernel)?;
         let advanced = function("G^A", free, |t, u| Ok(retarded.get(u, t)?.adjoint()))?;
         let lesser_advanced = function("X", free, |t, u| self.over(lesser_self_energy, &advanced, [t, u], [0, u]))?;
-        let lesser = function("G^<", free, |t, u| self.over(&retarded, &lesser_advanced, [t, u], [0, t]))?;
+        let lesser = function("G^<", free, |t, u| self.lesser(start, &retarded, &lesser_advanced, [t, u]))?;
         Ok([retarded, lesser, kernel, lesser_advanced])
     }
 
@@ -118,19 +160,20 @@ impl Work {
     /// are not read, are any.
     pub fn append_point(
         &self,
+        start: Start,
         new: usize,
         [free, self_energy, lesser_self_energy]: &[TwoTimeMatrix; 3],
         [old_retarded, old_lesser_advanced]: &[TwoTimeMatrix; 2],
     ) -> Made<4> {
         let kernel = with_new("K", new, free, |t, u| self.over(free, self_energy, [t, u], [u, t]))?;
         let retarded = with_new("G", new, old_retarded, |t, u| {
-            let start = if t < u { zero(free.orbitals())? } else { free.get(t, u)?.clone() };
+            let first = if t < u { zero(free.orbitals())? } else { free.get(t, u)?.clone() };
             let weight = |s| kept::interval_weight(&self.grid, s, u, t);
-            (u..t).try_fold(start, |total, s| plus_term(&total, kernel.get(t, s)?, old_retarded.get(s, u)?, weight(s)))
+            (u..t).try_fold(first, |total, s| plus_term(&total, kernel.get(t, s)?, old_retarded.get(s, u)?, weight(s)))
         })?;
         let advanced = function("G^A", free, |t, u| Ok(retarded.get(u, t)?.adjoint()))?;
         let lesser_advanced = with_new("X", new, old_lesser_advanced, |t, u| self.over(lesser_self_energy, &advanced, [t, u], [0, u]))?;
-        let lesser = with_new("G^<", new, free, |t, u| self.over(&retarded, &lesser_advanced, [t, u], [0, t]))?;
+        let lesser = with_new("G^<", new, free, |t, u| self.lesser(start, &retarded, &lesser_advanced, [t, u]))?;
         Ok([retarded, lesser, kernel, lesser_advanced])
     }
 

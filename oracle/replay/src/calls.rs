@@ -50,6 +50,8 @@ pub fn answer(function: u64, x: &mut Inputs) -> String {
         41 => bond_flow_into_in_capacity(x),
         42 => booked(in_session(x, judge::transient_run_in_capacity)),
         43 => booked(in_session(x, judge::append_point)),
+        44 => booked(occupied(x, judge::transient_run_occupied)),
+        45 => booked(occupied(x, judge::append_point_occupied)),
         function => panic!("no function {function}"),
     }
 }
@@ -190,10 +192,24 @@ fn opened_at_0(x: &mut Inputs, judged: Solve) -> Held {
 }
 
 /// The desk is the word after the capacity, and the session's counters are the next eight.
+fn booking(x: &mut Inputs) -> Booking {
+    let desk = x.place();
+    Booking { desk, counters: std::array::from_fn(|_| x.word()) }
+}
+
 fn in_session(x: &mut Inputs, judged: Solve) -> Held {
-    let (shape, desk) = (shape(x), x.place());
-    let counters = std::array::from_fn(|_| x.word());
-    solved(x, Booking { desk, counters }, shape, judged)
+    let (shape, booking) = (shape(x), booking(x));
+    solved(x, booking, shape, judged)
+}
+
+type SolveFrom = fn(Booking, Shape, &[f64], [&[f64]; 3], &Block, f64, [&[f64]; 4]) -> Held;
+
+/// The block's numbers stand between the operands and what the four slices hold before, its shape after the counters.
+fn occupied(x: &mut Inputs, judged: SolveFrom) -> Held {
+    let (shape, booking, g0) = (shape(x), booking(x), x.block(3));
+    let [free, self_energy, lesser_self_energy, _, retarded, lesser, kernel, lesser_advanced] = x.operands();
+    let before = [retarded, lesser, kernel, lesser_advanced];
+    judged(booking, shape, &x.times, [free, self_energy, lesser_self_energy], &g0, x.tolerance, before)
 }
 
 fn density_matrix_in_capacity(x: &mut Inputs) -> String {
