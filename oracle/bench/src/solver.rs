@@ -1,7 +1,7 @@
 //! The convolutions, the support test, Dyson and the transient run.
 use crate::inputs::Inputs;
 use crate::measure::{Bench, Times};
-use here::{Lent, Shape};
+use here::{Booking, Lent, Shape};
 use keldysh_green::{RealTimeGrid, TwoTimeMatrix};
 use shared::numbers;
 use std::hint::black_box;
@@ -75,7 +75,7 @@ pub fn transient_run(bench: &mut Bench, points: usize, orbitals: usize) -> Times
     let here = |out: &mut [Vec<f64>; 4]| {
         let operands = black_box(&inputs.functions).each_ref().map(|xs| &xs[..]);
         let lent = Lent { times: &inputs.times, operands, shape: Shape::of(points, orbitals), tolerance: TOLERANCE };
-        here::transient_run(&mut 0, lent, out.each_mut().map(|xs| &mut xs[..]))
+        here::transient_run(Booking { counters: &mut [0; 8], desk: 0 }, lent, out.each_mut().map(|xs| &mut xs[..]))
     };
     let port = || shared::transient_run(&grid, black_box(&free), &self_energy, &lesser_self_energy, TOLERANCE);
     let mut out = [(); 4].map(|()| inputs.room());

@@ -51,7 +51,8 @@ fn table(sizes: &[String; 5], rows: &[Row], cell: impl Fn(&Times) -> Option<Stri
     println!();
 }
 
-/// An append beside the run over all points: times in milliseconds, and of the append's work, its time and its products, that part of the run's.
+/// An append beside the run over all points: times in milliseconds, and of the append's work, its time and its products, that part of the run's; both from a
+/// block beside those from nothing.
 pub fn appends(sizes: [(usize, usize); 5], appends: &[Append]) {
     if appends.is_empty() {
         return;
@@ -66,6 +67,8 @@ pub fn appends(sizes: [(usize, usize); 5], appends: &[Append]) {
     milliseconds("its questions", |x| x.run_asked);
     milliseconds("`append_point`", |x| x.append);
     milliseconds("its questions", |x| x.append_asked);
+    milliseconds("`transient_run_occupied`", |x| x.run_occupied);
+    milliseconds("`append_point_occupied`", |x| x.append_occupied);
     let parts = |name: &str, part: &dyn Fn(usize, &Append) -> f64| {
         line(name, &appends.iter().enumerate().map(|(at, x)| format!("1/{}", significant(part(at, x)))).collect::<Vec<_>>());
     };
@@ -75,6 +78,9 @@ pub fn appends(sizes: [(usize, usize); 5], appends: &[Append]) {
         let points = sizes[at].0 as f64;
         products(points) / (products(points) - products(points - 1.0))
     });
+    let ratios = |name: &str, of: fn(&Append) -> f64| line(name, &appends.iter().map(|x| ratio(of(x))).collect::<Vec<_>>());
+    ratios("the run from a block, to the run", |x| x.run_occupied / x.run);
+    ratios("the append from a block, to the append", |x| x.append_occupied / x.append);
     println!();
 }
 
