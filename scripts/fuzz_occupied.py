@@ -32,7 +32,7 @@ from check_sessions import formed  # noqa: E402
 from document01 import ACCEPTED, Block, Refusal, block_at, function_length  # noqa: E402
 from document02 import DESKS, Formed, occupied_formula, written  # noqa: E402
 from fuzz_appends import (  # noqa: E402
-    LENT, Asked, Inputs, agree, all_agree, any_append, check_read, check_stays, compare, damaged, given_again, hold, inputs_of, is_new, is_unread,
+    LENT, MOST_CAPACITY, Asked, Inputs, agree, all_agree, any_append, check_read, check_stays, compare, damaged, given_again, hold, inputs_of, is_new, is_unread,
     places_in, room, sizes, told, tolerance,
 )  # fmt: skip
 from fuzz_calls import LARGE, SMALL  # noqa: E402
@@ -281,7 +281,7 @@ def other_later(inputs, points, k, choose):
 def check_later_data(session, inputs, points, capacity, g0, left, choose):
     """Demand 3 of what a history left and of a run whose later data differ; from zeros the latter may be of the empty form."""
     k, n = choose.randrange(points), inputs.orbitals
-    count = choose.randint(max(k + 1, 2), points + 1)
+    count = choose.randint(max(k + 1, 2), min(points + 1, MOST_CAPACITY))
     other = other_later(inputs, count, k, choose)
     lent = [room(function_length(count, n), choose) for _ in LENT]
     call = occupied(at_desk(run(count, count, n, other.times, other.operands, lent, 1.0), 0, NOTHING), g0)
