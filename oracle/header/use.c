@@ -1,4 +1,4 @@
-/* A program of the header, in C and in C++ alike: P12's run, the same by appends in one session, then answers that refuse and what they leave. */
+/* A program of the header, in C and in C++ alike: P12's run, the same by appends in one session and from an occupied start, then answers that refuse and what they leave. */
 #include "leechgrommet.h"
 
 #include <float.h>
@@ -105,6 +105,51 @@ static void appends(void)
     print_counters(counters);
 }
 
+/* P12 from g0 = i to two points in a capacity of three, at desk 7, and an append: what the run over three points leaves, particle numbers 1, 3.8125 and
+ * 26.3125, of 59 products. Then shapes and a number of g0 that are refused, and 1 of g0 with seven counters. */
+static void occupied(void)
+{
+    double times[POINTS] = {0, 1, 2}, step[NUMBERS] = {0}, lesser_self_energy[NUMBERS] = {0}, value[1], g0[LEECHGROMMET_BLOCK_NUMBERS] = {0, 1};
+    double retarded[NUMBERS], lesser[NUMBERS], kernel[NUMBERS], lesser_advanced[NUMBERS];
+    const size_t shapes[4][2] = {{1, 0}, {17, 1}, {2, 2}, {1, 1}};
+    uint64_t counters[DESKS] = {0};
+    size_t t, u;
+    uint8_t answer;
+
+    for (t = 0; t < NUMBERS; t++)
+        retarded[t] = lesser[t] = kernel[t] = lesser_advanced[t] = LENT;
+    for (t = 0; t < POINTS; t++)
+        for (u = 0; u < POINTS; u++) {
+            step[2 * (t * POINTS + u)] = u <= t;
+            lesser_self_energy[2 * (t * POINTS + u) + 1] = 1;
+        }
+    answer = leechgrommet_transient_run_occupied(counters, DESKS, 7, times, POINTS, step, NUMBERS, step, NUMBERS, lesser_self_energy, NUMBERS, 1, 1, g0, 2,
+        POINTS, 1, 1e-12, retarded, NUMBERS, lesser, NUMBERS, kernel, NUMBERS, lesser_advanced, NUMBERS, places, 3, part, 1);
+    print_answer("transient_run_occupied", answer, lesser, NUMBERS);
+    print_counters(counters);
+    answer = leechgrommet_append_point_occupied(counters, DESKS, 7, times, POINTS, step, NUMBERS, step, NUMBERS, lesser_self_energy, NUMBERS, 1, 1, g0, 2,
+        POINTS, 1, 1e-12, retarded, NUMBERS, lesser, NUMBERS, kernel, NUMBERS, lesser_advanced, NUMBERS, places, 3, part, 1);
+    print_answer("append_point_occupied", answer, lesser, NUMBERS);
+    print_counters(counters);
+    for (t = 0; t < POINTS; t++)
+        particle_number("particle_number from an occupied start", lesser, POINTS, t, value, 1);
+
+    g0[1] = DBL_MAX * 2;
+    for (t = 0; t < 4; t++) {
+        answer = leechgrommet_transient_run_occupied(counters, DESKS, 7, times, POINTS, step, NUMBERS, step, NUMBERS, lesser_self_energy, NUMBERS,
+            shapes[t][0], shapes[t][1], g0, POINTS, POINTS, 1, 1e-12, retarded, NUMBERS, lesser, NUMBERS, kernel, NUMBERS, lesser_advanced, NUMBERS, places, 3,
+            part, 1);
+        print_answer("transient_run_occupied refused by g0", answer, lesser, 2);
+    }
+    answer = leechgrommet_append_point_occupied(counters, DESKS - 1, 7, times, POINTS, step, NUMBERS, step, NUMBERS, lesser_self_energy, NUMBERS, 1, 0, g0, 2,
+        POINTS, 1, 1e-12, retarded, NUMBERS, lesser, NUMBERS, kernel, NUMBERS, lesser_advanced, NUMBERS, places, 3, part, 1);
+    print_answer("append_point_occupied with seven counters and no columns", answer, lesser, 2);
+    answer = leechgrommet_append_point_occupied(counters, DESKS - 1, 7, times, POINTS, step, NUMBERS, step, NUMBERS, lesser_self_energy, NUMBERS, 1, 1, g0, 2,
+        POINTS, 1, 1e-12, retarded, NUMBERS, lesser, NUMBERS, kernel, NUMBERS, lesser_advanced, NUMBERS, places, 3, part, 1);
+    print_answer("append_point_occupied with seven counters", answer, lesser, 2);
+    print_counters(counters);
+}
+
 int main(void)
 {
     double times[POINTS] = {0, 1, 2}, step[NUMBERS] = {0}, lesser_self_energy[NUMBERS] = {0}, none[NUMBERS] = {0}, most[NUMBERS], least[NUMBERS];
@@ -144,6 +189,7 @@ int main(void)
     print_answer("particle_number that is infinite", answer, value, 1);
 
     appends();
+    occupied();
 
     times[2] = 1;
     answer = leechgrommet_causal_volterra_convolution(times, POINTS, step, NUMBERS, step, NUMBERS, POINTS, 1, retarded, NUMBERS,
