@@ -253,7 +253,8 @@ uint8_t leechgrommet_append_point(
 
 /* The transient run of a dot that starts occupied: of g0, passed as an n by n block (of another shape 3; operand 3), G^<(t,t') starts from
  * (G^R(t,0) g0) G^A(0,t') in place of zero; where t is 0 that is all of it. g0 is meant as G^<(0,0), which it is by value where G^R(0,0) is -i times the
- * identity; no question asks that. All else is as in leechgrommet_transient_run. Asks 22, 1, 2, 3, 16, 4 to 9, 17, 10. */
+ * identity; no question asks that. All else is as in leechgrommet_transient_run; with g0 at +0 its bits are those, but for the count and where 17 is
+ * answered. Asks 22, 1, 2, 3, 16, 4 to 9, 17, 10. */
 uint8_t leechgrommet_transient_run_occupied(
     uint64_t *counters, size_t counters_len, size_t desk,
     const double *times, size_t times_len,
