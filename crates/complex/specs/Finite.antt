@@ -4,7 +4,7 @@ use Rattle.lists.specs.Prelude.{_≡_, refl, sym, _∙_, Bool, true, false, con
 use lib.Ieee as Ieee
 use Rattle.lists.specs.Agreement.{never, both}
 use Rattle.complex.specs.declared.Complex.{Complex}
-use Rattle.complex.specs.Arithmetic.{add, sub, mul, finite, cfinite, cadd, cmul}
+use Rattle.complex.specs.Arithmetic.{add, sub, mul, finite, cfinite, cadd, cmul, conj}
 
 -- a choice between a NaN and an infinity, in either order
 nan-or-inf : (b s : Bool) → finite (cond b nan (inf s)) ≡ false
@@ -50,7 +50,8 @@ sub-finite : (x y : Float) → finite (sub x y) ≡ true → Both x y
 unfolding Ieee.sub
 sub-finite x y h = let b = add-finite x (Ieee.neg y) h in (b .0, sym (neg-finite y) ∙ b .1)
 
-parts : (z : Complex) → cfinite z ≡ true → Both (z .re) (z .im)
+-- of a finite number both parts are
+pub parts : (z : Complex) → cfinite z ≡ true → Both (z .re) (z .im)
 unfolding cfinite
 parts z h = both (finite (z .re)) (finite (z .im)) h
 
@@ -74,3 +75,7 @@ cmul-finite x y h =
     let a = mul-finite (x .re) (y .re) (r .0) in
     let b = mul-finite (x .im) (y .im) (r .1) in
     (of-parts x (a .0, b .0), of-parts y (a .1, b .1))
+
+pub conj-finite : (z : Complex) → cfinite (conj z) ≡ cfinite z
+unfolding conj cfinite
+conj-finite z = rw neg-finite

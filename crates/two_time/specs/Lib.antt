@@ -26,6 +26,7 @@ pub mod Factors
 pub mod Column
 pub mod Zeros
 pub mod Finite
+pub mod Relation
 pub mod Agreement
 pub mod FiniteAgreement
 pub mod Started
