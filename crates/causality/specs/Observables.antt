@@ -73,6 +73,22 @@ observed-agree v v' x x' e h = ap (λ (w : Verdict). observed w x) e ∙ by-case
     by-case Pass k = rw (k refl)
     by-case (Refused r) k = refl
 
+-- a bond flow reads one entry, and asks of the time only whether it is one of the points
+module _ (n capacity capacity' points points' : ℕ) (xs xs' : List Float) (left : Left capacity points n xs) (left' : Left capacity' points' n xs') (t : ℕ)
+    (inside : ltb t points ≡ ltb t points') (a b : ℕ) (same : t < points → a < n → b < n → readAs capacity n xs t t b a ≡ readAs capacity' n xs' t t b a) where
+  pub flow-agree : (hopping : Complex) (charge : Float) → bondFlowInto capacity points n xs t a b hopping charge ≡ bondFlowInto capacity' points' n xs' t a b hopping charge
+  unfolding bondFlowInto timeBelow density
+  flow-agree hopping charge =
+      observed-agree _ _ _ _
+      (rw (checks-pass capacity points n xs left, checks-pass capacity' points' n xs' left', inside))
+      (λ passed.
+      let factors = then-pass (lesserChecks capacity points n xs) _ passed .1 in
+      let asked = then-pass _ _ (then-pass (finiteFactors hopping charge) _ factors .1) in
+      let orbitals = then-pass (orbitalBelow a n) (orbitalBelow b n) (asked .0) in
+      let below : t < points = ltb-true t points (ask-pass (ltb t points) (by 11) (asked .1)) in
+      ap (λ (z : Complex). mul (mul (ofBits binary64 0x4000_0000_0000_0000) charge) (cmul hopping (cmul minusI z) .im))
+      (same below (orbital-below a n (orbitals .0)) (orbital-below b n (orbitals .1))))
+
 -- ---- blocks with the same shape and entries have the same numbers
 
 columns-pos : (m c q : ℕ) → q < m * c → 0 < c
@@ -127,15 +143,8 @@ module _ (n capacity capacity' points points' : ℕ) (xs xs' : List Float) (left
       rw (checks-pass capacity points n xs left, checks-pass capacity' points' n xs' left', below-pass t points ht, below-pass t points' ht', trace-agree n rho rho' density-agree)
 
   pub flows-agree : (a b : ℕ) (hopping : Complex) (charge : Float) → bondFlowInto capacity points n xs t a b hopping charge ≡ bondFlowInto capacity' points' n xs' t a b hopping charge
-  unfolding bondFlowInto
   flows-agree a b hopping charge =
-      observed-agree _ _ _ _
-      (rw (checks-pass capacity points n xs left, checks-pass capacity' points' n xs' left', below-pass t points ht, below-pass t points' ht'))
-      (λ passed.
-      let factors = then-pass (lesserChecks capacity points n xs) _ passed .1 in
-      let orbitals = then-pass (orbitalBelow a n) (orbitalBelow b n) (then-pass _ _ (then-pass (finiteFactors hopping charge) _ factors .1) .0) in
-      ap (λ (z : Complex). mul (mul (ofBits binary64 0x4000_0000_0000_0000) charge) (cmul hopping z .im))
-      (density-agree b a (orbital-below b n (orbitals .1)) (orbital-below a n (orbitals .0))))
+      flow-agree n capacity capacity' points points' xs xs' left left' t (lt-ltb t points ht ∙ sym (lt-ltb t points' ht')) a b (λ l ha hb. same b a hb ha) hopping charge
 
   -- the block's checks: all but the block's own shape and numbers pass
   block-checks-agree : (x x' : DenseMatrix) → SameBlock x x' → lesserBlockChecks capacity points n xs x ≡ lesserBlockChecks capacity' points' n xs' x'

@@ -92,7 +92,7 @@ module _ (g l : Run → TwoTime) (kernel lesserAdvanced : Run → List Float) (r
   verdict r = verdictOf 0 (r .points) r
 
   -- the lesser function that an accepted run leaves
-  left : (r : Run) → verdict r ≡ Pass → Left (r .capacity) (r .points) (r .orbitals) (leaves r (l r) (r .lesser))
+  pub left : (r : Run) → verdict r ≡ Pass → Left (r .capacity) (r .points) (r .orbitals) (leaves r (l r) (r .lesser))
   left r v =
       let s = sizes 0 (r .points) r v in
       record {

@@ -34,12 +34,12 @@ column r v =
     (λ _. first-block (r .capacity) (r .points) (r .orbitals) 0 (r .free) (let least = s .0 in omega arith) (then-pass _ _ (then-pass _ _ entries .0) .0))
 
 -- and so is each entry of G^<
-numbers : (r : Run) → verdictOf 0 (r .points) r ≡ Pass → (t u a b : ℕ) → t < r .points → u < r .points → a < r .orbitals → b < r .orbitals → cfinite (callLesser 0 (r .points) r t u a b) ≡ true
+pub numbers : (r : Run) → verdictOf 0 (r .points) r ≡ Pass → (t u a b : ℕ) → t < r .points → u < r .points → a < r .orbitals → b < r .orbitals → cfinite (callLesser 0 (r .points) r t u a b) ≡ true
 numbers r v t u a b ht hu ha hb =
     let f = both _ _ (made-fine 0 (r .points) r (all-finite 0 (r .points) r v) t u a b (omega arith) ht hu ha hb .lesser) in
     sum-finite (r .orbitals) (lesserTerms 0 (r .points) r t u) a b (start-finite (r .form) (r .capacity) (r .orbitals) (retardedMade 0 (r .points) r) t u a b (f .0)) (f .1)
 
-reads-no-later : ReadsNoLater (λ r. callRetarded 0 (r .points) r) (λ r. callLesser 0 (r .points) r)
+pub reads-no-later : ReadsNoLater (λ r. callRetarded 0 (r .points) r) (λ r. callLesser 0 (r .points) r)
 reads-no-later =
     record {
       retarded = λ k r r' h h' same. retarded-rows k 0 (r .points) (r' .points) r r' (h .0) (h .1) (h' .0) (h' .1) same (none-held k (r' .points) r _);
