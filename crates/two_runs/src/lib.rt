@@ -62,7 +62,7 @@ pub struct Start {
 }
 
 // The run of that form.
-fn run_by(
+pub fn run_by(
     start: Start,
     session: Session,
     desk: usize,
