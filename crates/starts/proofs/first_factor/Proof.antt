@@ -14,7 +14,7 @@ use Rattle.groups.specs.Forward.{Sizes, sizes-of}
 use Rattle.groups.specs.Groups.{Grouped}
 use Rattle.groups.specs.Onto.{outcome-unfit, outcome-written}
 use Rattle.starts.specs.Calls.{firstOf, firstFactor}
-use Rattle.starts.specs.Products.{block-held, first-product}
+use Rattle.starts.specs.Products.{block-held, first-product, dot, rightAt, storedBlock}
 use Rattle.starts.specs.Lanes.{one-finite, one-laid}
 use Rattle.starts.proofs.first_factor.Statement.{statement}
 use Rattle.starts.proofs.first_factor.Tie as tie
@@ -77,12 +77,18 @@ product-lanes-requires c κs =
 abbrev lanes : tie.After-product-lanes → List Float
 lanes r = r .product-lanes .last .1 .1 .1 .1 .1 .1 .0
 
+-- what they hold is the product that the definition names
+product-is : (c : tie.After-check-sizes) (a b : ℕ) → let x = start c .args in let n = x .orbitals in
+    dot n (now (x .retarded)) (x .t * (x .points * (2 * n * n)) + a * (2 * n)) (rightAt (storedBlock n) (now (x .g0)) 0 b) ≡ made c a b
+unfolding occupiedFirst
+product-is c a b = let x = start c .args in first-product (x .points) (x .orbitals) (now (x .retarded)) (now (x .g0)) (x .t) 0 a b
+
 returns-2 : tie.Need-returns-2
-unfolding firstFactor occupiedFirst
+unfolding firstFactor
 returns-2 c =
     let w = c .before .before in let r = w .before .before .before .before in let e = r .before .before in
     let s = e .before .before in let x = start s .args in let n = x .orbitals in
-    let same : (a b : ℕ) → a < n → b < n → laneAt (lanes r) a (0 * n + b) ≡ made s a b = λ a b ha hb. r .product-lanes .ensures .1 a 0 b ha (omega arith) hb ∙ first-product (x .points) n (now (x .retarded)) (now (x .g0)) (x .t) 0 a b in
+    let same : (a b : ℕ) → a < n → b < n → laneAt (lanes r) a (0 * n + b) ≡ made s a b = λ a b ha hb. r .product-lanes .ensures .1 a 0 b ha (omega arith) hb ∙ product-is s a b in
     let is = outcome-written n 1 (checks s) (allFinite n n (made s)) (layOut n n (made s)) (now (x .out)) (stands e .there) (passed e) (lanes r) (r .product-lanes .ensures .0)
     (one-finite n (made s) (lanes r) same) (one-laid n (made s) (lanes r) same) in
     (w .write-group .ensures .0 ∙ ap (λ (o : SumsOutcome). o .answer) is, w .write-group .ensures .1 ∙ ap (λ (o : SumsOutcome). o .out) is)
