@@ -9,7 +9,7 @@ use matrix::Value;
 use refusal::{Measured, Verdict};
 
 // A verdict, and how many of the values an accepted call answers with: at most seven.
-#[derive(Drop)]
+#[derive(Clone, Copy)]
 pub struct Numbers {
     pub verdict: Verdict,
     pub count: usize,

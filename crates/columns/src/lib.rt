@@ -20,7 +20,7 @@ use two_time::layout::clear;
 use two_time::sums::{Summed, Sums};
 
 // The s of a sum, from 0 to `end`: the right number of s stands at `first` + s·`step`.
-#[derive(Drop)]
+#[derive(Clone, Copy)]
 pub struct Walk {
     pub end: usize,
     pub first: usize,

@@ -4,7 +4,7 @@ pub mod bits;
 ghost use Rattle.lists.specs.Prelude.{◌≡◌};
 ghost use Rattle.complex.specs.Arithmetic.{real, finite, size, larger, cadd, csub, cmul, conj, cfinite};
 
-#[derive(Drop)]
+#[derive(Clone, Copy)]
 pub struct Complex {
     pub re: f64,
     pub im: f64,

@@ -14,7 +14,7 @@ use two_time::layout::clear;
 use two_time::sums::Summed;
 
 // An entry of a block that is made during the work, or that it, or a block on the way to it, is not finite.
-#[derive(Drop)]
+#[derive(Clone, Copy)]
 pub enum CheckedEntry {
     Finite(Complex),
     Overflow,

@@ -12,7 +12,7 @@ ghost use Rattle.matrix.specs.Made.{made_in};
 use complex::Complex;
 
 // What is made of a block a, or of blocks a and b.
-#[derive(Drop)]
+#[derive(Clone, Copy)]
 pub enum Operation {
     Zero,
     Identity,

@@ -17,7 +17,7 @@ use refusal::checks::{finite_entries, finite_work, orbital_below, valid_toleranc
 use refusal::{Decision, Measured, Refusal, Verdict};
 
 // rows·columns entries by rows, the real part before the imaginary. What stands beyond them changes nothing.
-#[derive(Drop)]
+#[derive(Clone, Copy)]
 pub struct DenseMatrix {
     pub rows: usize,
     pub columns: usize,
@@ -25,14 +25,14 @@ pub struct DenseMatrix {
 }
 
 // The answer of a call that makes a block. Beside a refusal the block has no rows and is +0 throughout.
-#[derive(Drop)]
+#[derive(Clone, Copy)]
 pub struct Checked {
     pub verdict: Verdict,
     pub block: DenseMatrix,
 }
 
 // The answer of a call that gives one complex number.
-#[derive(Drop)]
+#[derive(Clone, Copy)]
 pub enum Value {
     Of(Complex),
     Refused(Refusal),

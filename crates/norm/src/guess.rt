@@ -77,7 +77,7 @@ fn settled_at_unit(t: u64, m: u64, d: i16) -> u64
 }
 
 // The sum of two squares, in steps of 2^44·4^more; `more` is 0 or 1.
-#[derive(Drop)]
+#[derive(Clone, Copy)]
 struct Sum {
     t: u64,
     more: i16,

@@ -4,7 +4,7 @@ ghost use Rattle.norm.specs.Words.{two, three, read, Reads};
 
 use super::wide::{Three, Wide, at_most, minus, with_digit, with_two_digits};
 
-#[derive(Drop)]
+#[derive(Clone, Copy)]
 pub(crate) struct Root {
     pub(crate) root: Wide,
     pub(crate) rest: Wide,

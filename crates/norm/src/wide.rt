@@ -7,14 +7,14 @@ ghost use Rattle.norm.specs.Words.{two, three};
 use super::exponent::{places, places_beside};
 
 // hi·2^64 + lo
-#[derive(Drop)]
+#[derive(Clone, Copy)]
 pub(crate) struct Wide {
     pub(crate) hi: u64,
     pub(crate) lo: u64,
 }
 
 // high·2^128 + mid·2^64 + low
-#[derive(Drop)]
+#[derive(Clone, Copy)]
 pub(crate) struct Three {
     pub(crate) high: u64,
     pub(crate) mid: u64,

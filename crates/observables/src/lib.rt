@@ -19,7 +19,7 @@ use refusal::{Refusal, Verdict};
 use two_time::capacity::Shape;
 
 // An observable's answer (document 01, "How to write each place").
-#[derive(Drop)]
+#[derive(Clone, Copy)]
 pub enum Observed {
     // The number; a bond flow may be infinite or a NaN.
     Number(f64),

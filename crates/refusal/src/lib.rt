@@ -5,7 +5,7 @@ ghost use Rattle.refusal.specs.Verdict.{by, ◌then◌};
 pub mod checks;
 
 // The number of the check whose answer is no, with its places. A place that the check does not have is 0, a part +0.
-#[derive(Drop)]
+#[derive(Clone, Copy)]
 pub struct Refusal {
     pub number: u8,
     // Checks 7 and 9: the operand, from 0 in call order, times not counted.
@@ -19,21 +19,21 @@ pub struct Refusal {
 }
 
 // The answer to one question, or to several asked in order.
-#[derive(Drop)]
+#[derive(Clone, Copy)]
 pub enum Verdict {
     Pass,
     Refused(Refusal),
 }
 
 // The answer of a call that measures one number.
-#[derive(Drop)]
+#[derive(Clone, Copy)]
 pub enum Measured {
     Of(f64),
     Refused(Refusal),
 }
 
 // The answer of a call that says yes or no.
-#[derive(Drop)]
+#[derive(Clone, Copy)]
 pub enum Decision {
     Yes,
     No,

@@ -3,7 +3,7 @@ use crate::{made, words};
 use two_time::capacity::Shape;
 
 // What every call begins with: the function, whether its slices are made, points, orbitals and the tolerance.
-#[derive(Drop)]
+#[derive(Clone, Copy)]
 pub(crate) struct Head {
     pub(crate) function: u64,
     pub(crate) made: bool,

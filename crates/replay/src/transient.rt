@@ -14,7 +14,7 @@ pub(crate) fn in_session(function: u64) -> bool {
 }
 
 // A session, and the desk that a call is at.
-#[derive(Drop)]
+#[derive(Clone, Copy)]
 struct AtDesk {
     session: Session,
     desk: usize,

@@ -4,7 +4,7 @@ ghost use Rattle.lists.specs.Prelude.{◌<◌};
 use complex::bits::from_bits;
 use libc::STDIN_FILENO;
 
-#[derive(Drop)]
+#[derive(Clone, Copy)]
 pub(crate) enum Word {
     Of(u64),
     End,

@@ -10,7 +10,7 @@ ghost use Rattle.report.specs.Passed.{Passed};
 use complex::Complex;
 
 // An identity of the components, by its residual in the report.
-#[derive(Drop)]
+#[derive(Clone, Copy)]
 pub(crate) enum Identity {
     RetardedCausality,
     AdvancedCausality,

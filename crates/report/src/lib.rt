@@ -12,7 +12,7 @@ use refusal::{Decision, Refusal, Verdict};
 use residuals::residuals;
 
 // The largest violation of each identity, by norm.
-#[derive(Drop)]
+#[derive(Clone, Copy)]
 pub struct ConsistencyReport {
     // Retarded support: places t < t'.
     pub retarded_causality: f64,
@@ -31,7 +31,7 @@ pub struct ConsistencyReport {
 }
 
 // The answer of consistency_report.
-#[derive(Drop)]
+#[derive(Clone, Copy)]
 pub enum Reported {
     Of(ConsistencyReport),
     Refused(Refusal),

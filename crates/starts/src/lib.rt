@@ -20,7 +20,7 @@ use two_time::sums::{Summed, Sums};
 
 // Where the right factors of neighbouring places stand: number (k, b) of place p at `first` + p·`next` + b·`beside` + k·`below`, stored or to be
 // conjugated.
-#[derive(Drop)]
+#[derive(Clone, Copy)]
 pub struct Right {
     pub factor: Factor,
     pub first: usize,

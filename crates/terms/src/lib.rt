@@ -11,7 +11,7 @@ use grid::{full_weight, interval_weight};
 use two_time::sums::Sums;
 
 // The right factor at (s, t').
-#[derive(Drop)]
+#[derive(Clone, Copy)]
 pub enum Factor {
     // The block (s, t') as it is stored.
     Stored,
@@ -33,7 +33,7 @@ impl Factor {
 
 // How a term goes to the `lanes` lanes of a group: to those below `below` and those from `above` on by the common weight, to those from
 // `before` to before `after` by the weight at the end of their interval, to no other.
-#[derive(Drop)]
+#[derive(Clone, Copy)]
 pub struct Term {
     pub common: f64,
     pub ends: f64,
@@ -45,7 +45,7 @@ pub struct Term {
 }
 
 // Which s a group has: those from `first` to before `last`.
-#[derive(Drop)]
+#[derive(Clone, Copy)]
 pub struct Span {
     pub first: usize,
     pub last: usize,

@@ -25,7 +25,7 @@ use two_time::layout::clear;
 use two_time::sums::{Summed, Sums};
 
 // The answer of a transient run, or of an append.
-#[derive(Drop)]
+#[derive(Clone, Copy)]
 pub enum Solved {
     // With the count of matrix products.
     Accepted(u64),
@@ -33,27 +33,27 @@ pub enum Solved {
 }
 
 // What counts the products of accepted runs and appends: a counter for each desk.
-#[derive(Drop)]
+#[derive(Clone, Copy)]
 pub struct Session {
     pub products: [u64; 8],
 }
 
 // An answer, and the session after it.
-#[derive(Drop)]
+#[derive(Clone, Copy)]
 pub struct Booked {
     pub answer: Solved,
     pub session: Session,
 }
 
 // What the device starts from: nothing, or a block g0.
-#[derive(Drop)]
+#[derive(Clone, Copy)]
 pub enum Kind {
     Empty,
     Occupied,
 }
 
 // The form of a call: its kind, and how many rows and columns its block has, whose numbers stand in a slice beside it.
-#[derive(Drop)]
+#[derive(Clone, Copy)]
 pub struct Initial {
     pub kind: Kind,
     pub rows: usize,

@@ -11,7 +11,7 @@ use two_runs::{Start, run_by};
 use two_time::capacity::Shape;
 
 // A bond, its hopping and factor, and the time at which its flow is asked.
-#[derive(Drop)]
+#[derive(Clone, Copy)]
 pub struct Bond {
     pub time: usize,
     pub a: usize,
@@ -21,14 +21,14 @@ pub struct Bond {
 }
 
 // The answer of a run with the session after it, and the flow of a bond in what it left.
-#[derive(Drop)]
+#[derive(Clone, Copy)]
 pub struct Flow {
     pub run: Booked,
     pub flow: Observed,
 }
 
 // What each of two runs answers.
-#[derive(Drop)]
+#[derive(Clone, Copy)]
 pub struct BothFlows {
     pub first: Flow,
     pub second: Flow,

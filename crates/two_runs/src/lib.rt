@@ -20,7 +20,7 @@ use transient_run::{
 use two_time::capacity::Shape;
 
 // What is asked of a run beside a block: the time, the tolerance of the imaginary part, and the bond.
-#[derive(Drop)]
+#[derive(Clone, Copy)]
 pub struct Question {
     pub time: usize,
     pub tolerance: f64,
@@ -31,7 +31,7 @@ pub struct Question {
 }
 
 // The answer of a run with the session after it, and what the three observables answer of what it left.
-#[derive(Drop)]
+#[derive(Clone, Copy)]
 pub struct Answers {
     pub run: Booked,
     pub number: Observed,
@@ -40,21 +40,21 @@ pub struct Answers {
 }
 
 // What each of two runs answers.
-#[derive(Drop)]
+#[derive(Clone, Copy)]
 pub struct BothRuns {
     pub first: Answers,
     pub second: Answers,
 }
 
 // What each of two Dyson calls answers.
-#[derive(Drop)]
+#[derive(Clone, Copy)]
 pub struct BothVerdicts {
     pub first: Verdict,
     pub second: Verdict,
 }
 
 // The form of a run: what the device starts from, where it is occupied the block g0.
-#[derive(Drop)]
+#[derive(Clone, Copy)]
 pub struct Start {
     pub kind: Kind,
     pub g0: DenseMatrix,

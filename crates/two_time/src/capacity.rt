@@ -15,7 +15,7 @@ use refusal::checks::{
 };
 
 // Functions of so many points and orbitals, in slices laid out for a capacity of points: row t begins at t·capacity blocks.
-#[derive(Drop)]
+#[derive(Clone, Copy)]
 pub struct Shape {
     pub points: usize,
     pub capacity: usize,

@@ -9,7 +9,7 @@ use complex::Complex;
 use refusal::checks::least;
 
 // What a slice holds at a place of a function.
-#[derive(Drop)]
+#[derive(Clone, Copy)]
 pub enum Stored {
     Entry(Complex),
     // The indices, N, n or the slice do not reach.

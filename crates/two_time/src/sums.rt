@@ -3,7 +3,7 @@ ghost use Rattle.lists.specs.Prelude.{◌≡◌};
 ghost use Rattle.two_time.specs.Outcome.{all_summed};
 
 // What is summed at every place (t, t').
-#[derive(Drop)]
+#[derive(Clone, Copy)]
 pub enum Sums {
     // All s, by full weights.
     Full,
@@ -18,7 +18,7 @@ pub enum Sums {
 }
 
 // What became of sums.
-#[derive(Drop)]
+#[derive(Clone, Copy)]
 pub enum Summed {
     // All that is made for them is finite.
     Finite,

@@ -14,7 +14,7 @@ use refusal::{Refusal, Verdict};
 use two_time::layout::{Stored, read};
 
 // The lent numbers, N and n.
-#[derive(Drop)]
+#[derive(Clone, Copy)]
 pub struct View<'a> {
     pub numbers: &'a [f64],
     pub points: usize,
