@@ -1,6 +1,6 @@
 -- An answer as it leaves: its number, what a refusal carries, and numbers, a decision or a block, each in slices passed for it.
-use Rattle.std.specs.Borrow.{Bor}
-use Rattle.lists.specs.Prelude.{ℕ, ◌-◌, min, Bool, cond, ◌||◌, ◌&&◌, List, [], ◌∷◌, ◌++◌, eqb, length, replicate, take, Float, RefT, now}
+use Rattle.std.specs.Borrow.{MutBor}
+use Rattle.lists.specs.Prelude.{ℕ, ◌-◌, min, Bool, cond, ◌||◌, ◌&&◌, List, [], ◌∷◌, ◌++◌, eqb, length, replicate, take, Float}
 use denote.Triple.Both.{Both}
 use Rattle.complex.specs.Arithmetic.{plus_zero}
 use Rattle.refusal.specs.declared.Verdict.{Verdict}
@@ -19,7 +19,7 @@ use Rattle.answers.specs.declared.numbers.Numbers.{Numbers}
 
 -- a slice passed to be written: what it holds as the call begins, `.entry`, and as it ends, `.exit`
 abbrev pub Passed : Type 0 → Type 0
-Passed A = Both (Bor (List A)) (Bor (List A))
+Passed A = Both (MutBor (List A)) (MutBor (List A))
 
 -- the number, 0 where the call is accepted, and what `places` and `part` hold
 pub record Answer : Type 0 where
@@ -39,10 +39,10 @@ answer_of (Refused r) places part =
 
 -- In a contract: `after` the call, which returned this number, there is what its verdict `answers`.
 abbrev pub after : ℕ → Passed ℕ → Passed Float → Answer
-after number places part = record { number = number; places = now places.exit; part = now part.exit }
+after number places part = record { number = number; places = places.exit.now; part = part.exit.now }
 
 abbrev pub answers : Verdict → Passed ℕ → Passed Float → Answer
-answers verdict places part = answer_of verdict (now places.entry) (now part.entry)
+answers verdict places part = answer_of verdict places.entry.now part.entry.now
 
 -- "Has each lent slice its exact length? 3", of what is passed for an output: asked after checks 1 and 2 and before all others, so that a
 -- refusal by one of those two stands
@@ -77,7 +77,7 @@ numbers_answer n before places part =
     record { answer = answer_of verdict places part; out = afterwards zeroed verdict (written (take count n.values) before) before }
 
 abbrev pub answers_numbers : Numbers → Passed Float → Passed ℕ → Passed Float → With (List Float)
-answers_numbers n value places part = numbers_answer n (now value.entry) (now places.entry) (now part.entry)
+answers_numbers n value places part = numbers_answer n (now value.entry) places.entry.now part.entry.now
 
 -- a decision in one byte: 1 for yes, 0 for no
 abbrev pub decision_verdict : Decision → Verdict
@@ -95,7 +95,7 @@ decision_answer d before places part =
     record { answer = answer_of (with_output (eqb (length before) 1) (decision_verdict d)) places part; out = decision_byte d before }
 
 abbrev pub answers_decision : Decision → Passed ℕ → Passed ℕ → Passed Float → With (List ℕ)
-answers_decision d decided places part = decision_answer d (now decided.entry) (now places.entry) (now part.entry)
+answers_decision d decided places part = decision_answer d (now decided.entry) places.entry.now part.entry.now
 
 -- the block of these rows, columns and 512 numbers
 abbrev pub block : ℕ → ℕ → List Float → DenseMatrix
@@ -123,4 +123,4 @@ abbrev pub after_block : ℕ → Passed ℕ → Passed Float → Passed ℕ → 
 after_block number shape out places part = record { answer = after number places part; out = slices (now shape.exit) (now out.exit) }
 
 abbrev pub answers_block : Checked → Passed ℕ → Passed Float → Passed ℕ → Passed Float → With Slices
-answers_block made shape out places part = block_answer made (now shape.entry) (now out.entry) (now places.entry) (now part.entry)
+answers_block made shape out places part = block_answer made (now shape.entry) (now out.entry) places.entry.now part.entry.now
