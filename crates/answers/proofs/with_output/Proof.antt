@@ -1,5 +1,5 @@
 -- `answers::with_output` meets its contract: by the case of the verdict, and by its number. Assumes nothing.
-use Rattle.lists.specs.Prelude.{◌≡◌, refl, Bool, true, ◌||◌, eqb, needs}
+use Rattle.lists.specs.Prelude.{◌≡◌, refl, Bool, true, ◌||◌, eqb, rules}
 use Rattle.refusal.specs.declared.Refusal.{Refusal}
 use Rattle.refusal.specs.declared.Verdict.{Verdict}
 use Rattle.refusal.specs.declared.Verdict.TheVariants.{Refused}
@@ -14,9 +14,9 @@ stands fits v r h t = rw (h, t) refl
 pub with_output_spec : {M : Type 1} → statement M
 unfolding with_output
 with_output_spec =
-    tie.close (tie.spec (search needs) (search needs) (search needs) (search needs) (search needs)
-    (λ c. rw c.before.enum_told.given.1 c.fitting.ensures)
-    (λ c. stands _ _ _ c.before.before.before.before.verdict.given.1 c.if1.true)
+    tie.close (tie.spec (search rules) (search rules) (search rules) (search rules) (search rules)
+    (λ c. rw c.before.in-Pass.is c.fitting.ensures)
+    (λ c. stands _ _ _ c.before.before.before.in-Refused.is c.if-r.true)
     (λ c. let e = c.before.before in
-    let h = e.before.before.before.before.verdict.given.1 in
-    rw (h, e.if1.false) (rw c.before.fitting2.ensures at c.then.ensures)))
+    let h = e.before.before.before.in-Refused.is in
+    rw (h, e.if-r.false) (rw c.before.fitting-else-r.ensures at c.then.ensures)))

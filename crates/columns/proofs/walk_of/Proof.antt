@@ -1,5 +1,5 @@
 -- `columns::walk_of` meets its contract. Assumes nothing.
-use Rattle.lists.specs.Prelude.{◌*◌, ◌≤◌, arith, needs}
+use Rattle.lists.specs.Prelude.{◌*◌, ◌≤◌, arith, rules}
 use Rattle.two_time.specs.Places.{product-most}
 use Rattle.columns.specs.Walks.{walk_of}
 use Rattle.columns.proofs.walk_of.Statement.{statement}
@@ -12,7 +12,7 @@ pub walk_of_spec : {M : Type 1} → statement M
 unfolding walk_of
 walk_of_spec =
     tie.close (tie.spec
-    (λ c. search needs) (λ c. search needs) (λ c. search needs) (λ c. search needs)  -- enum_told, mul-t6, mul-t7, enum-told-2
-    (λ c. let h = inside c.before.before in omega arith) (λ c. let h = inside c.before.before in omega arith)  -- mul-t8, mul-t9
-    (λ c. rw c.enum_told.given.1)  -- returns
-    (λ c. rw c.enum-told2.given.1))  -- returns-2
+    (λ c. search rules) (λ c. search rules) (λ c. search rules) (λ c. search rules)  -- enum_told-1, overflow_mul-result, overflow_mul-result-in-Stored, enum_told-in-Adjoint
+    (λ c. let h = inside c.before in omega arith) (λ c. let h = inside c.before in omega arith)  -- overflow_mul-result-in-Adjoint, overflow_mul-result-in-Adjoint-2
+    (λ c. rw c.in-Stored.is)  -- returns-in-Stored
+    (λ c. rw c.in-Adjoint.is))  -- returns-2

@@ -52,6 +52,6 @@ pub abs_spec : {M : Type 1} → statement M
 abs_spec =
     tie.close
     (tie.spec
-    (λ c. below _ c.if1.true)  -- returns
-    (λ c. none _ c.before.before.well-formed.0.1 c.if2.true)  -- returns-2
-    (λ c. above _ c.before.if1.false c.if2.false))  -- returns-3
+    (λ c. below _ c.if-x.true)  -- returns-then-x
+    (λ c. none _ c.before.before.well_formed.0.1 c.if-x-2.true)  -- returns-then-x-2
+    (λ c. above _ c.before.if-x.false c.if-x-2.false))  -- returns-3

@@ -9,5 +9,5 @@ unfolding larger
 max_spec =
     tie.close
     (tie.spec
-    (λ c. sym (ap (λ (test : Bool). cond test c.before.args.y c.before.args.x) c.if1.true))  -- returns
-    (λ c. sym (ap (λ (test : Bool). cond test c.before.args.y c.before.args.x) c.if1.false)))  -- returns-2
+    (λ c. sym (ap (λ (test : Bool). cond test c.before.args.y c.before.args.x) c.if-x-y.true))  -- returns-then-x-y
+    (λ c. sym (ap (λ (test : Bool). cond test c.before.args.y c.before.args.x) c.if-x-y.false)))  -- returns-2

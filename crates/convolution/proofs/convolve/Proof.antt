@@ -1,5 +1,5 @@
 -- `convolution::convolve` meets its contract: refused it leaves the slice, and where checks 1 to 7 pass the sums decide. Assumes nothing.
-use Rattle.lists.specs.Prelude.{◌≡◌, sym, ap, ◌∙◌, [], ◌∷◌, eqb, length, now, needs}
+use Rattle.lists.specs.Prelude.{◌≡◌, sym, ap, ◌∙◌, [], ◌∷◌, eqb, length, rules}
 use Rattle.refusal.specs.declared.Verdict.{Verdict}
 use Rattle.refusal.specs.declared.Verdict.TheVariants.{Refused}
 use Rattle.refusal.specs.Verdict.{◌then◌}
@@ -10,57 +10,57 @@ use Rattle.convolution.proofs.Outcome.{refused, accepted, overflowed}
 use Rattle.convolution.proofs.convolve.Statement.{statement}
 use Rattle.convolution.proofs.convolve.Tie as tie
 
-abbrev lengths : tie.After-then3 → tie.After-has-length3
+abbrev lengths : tie.After-then-verdict → tie.After-has_length-out_fits
 lengths c = c.before.before.before.before.before.before.before
 
-abbrev start : tie.After-then3 → tie.Start
-start c = (lengths c).before.before.before.before.before.before.before.before
+abbrev start : tie.After-then-verdict → tie.Start
+start c = (lengths c).before.before.before.before.before.before.before
 
 -- the verdict is that of checks 1 to 7
-asked : (c : tie.After-then3) → let x = (start c).args in
-    c.then3.result ≡ input_checks x.points x.orbitals (now x.times) (now x.left ∷ now x.right ∷ []) (now x.out ∷ [])
+asked : (c : tie.After-then-verdict) → let x = (start c).args in
+    c.then-verdict.result ≡ input_checks x.points x.orbitals x.times.now (x.left.now ∷ x.right.now ∷ []) (x.out.now ∷ [])
 asked c =
     let x = (start c).args in let h = lengths c in let grid = c.before.before in let sizes = grid.before in let entries = sizes.before in
-    inputs-asked x.points x.orbitals (now x.times) (now x.left ∷ now x.right ∷ []) (now x.out ∷ []) sizes.check-sizes.result grid.check-grid.result entries.then.result _
-    (sizes_asked_lem x.points x.orbitals (now x.left ∷ now x.right ∷ now x.out ∷ []) (eqb (length (now x.times)) x.points) _ _
-    (fits_more _ _ _ _ _ _ h.before.before.before.has-length.ensures (fits_more _ _ _ _ _ _ h.before.before.has-length2.ensures h.has-length3.ensures))
-    sizes.check-sizes.ensures)
-    grid.check-grid.ensures
-    (operands-more 0 (now x.left) (now x.right ∷ []) _ _ _ entries.before.before.check-operand.ensures (operands-last 1 (now x.right) _ entries.before.check-operand2.ensures) entries.then.ensures)
-    (c.then3.ensures ∙ ap (λ (v : Verdict). sizes.check-sizes.result then v) c.before.then2.ensures)
+    inputs-asked x.points x.orbitals x.times.now (x.left.now ∷ x.right.now ∷ []) (x.out.now ∷ []) sizes.check_sizes.result grid.check_grid.result entries.then-finite.result _
+    (sizes_asked_lem x.points x.orbitals (x.left.now ∷ x.right.now ∷ x.out.now ∷ []) (eqb (length x.times.now) x.points) _ _
+    (fits_more _ _ _ _ _ _ h.before.before.before.has-length.ensures (fits_more _ _ _ _ _ _ h.before.before.has-length2.ensures h.has_length-out_fits.ensures))
+    sizes.check_sizes.ensures)
+    grid.check_grid.ensures
+    (operands-more 0 x.left.now (x.right.now ∷ []) _ _ _ entries.before.before.check_operand.ensures (operands-last 1 x.right.now _ entries.before.check_operand-2.ensures) entries.then-finite.ensures)
+    (c.then-verdict.ensures ∙ ap (λ (v : Verdict). sizes.check_sizes.result then v) c.before.then.ensures)
 
-returns : tie.Need-returns
+returns : tie.Need-returns-in_default
 returns c =
-    let s = c.before.before in let x = (start s).args in
-    refused x.sums x.points x.orbitals (now x.times) (now x.left) (now x.right) (now x.out) _ (asked s) _ c.enum-told2.given.1
+    let s = c.before in let x = (start s).args in
+    refused x.sums x.points x.orbitals x.times.now x.left.now x.right.now x.out.now _ (asked s) _ c.in_default.is
 
 -- where they pass
-abbrev told : tie.After-is-finite → tie.After-enum-told
+abbrev told : tie.After-is_finite → tie.In-Pass
 told c = c.before.before.before.before.before
 
-returns-2 : tie.Need-returns-2
+returns-2 : tie.Need-returns-then-is_finite
 returns-2 c =
-    let f = c.before in let w = f.before.before.before in let e = told f in let s = e.before.before in let x = (start s).args in
-    accepted x.sums x.points x.orbitals (now x.times) (now x.left) (now x.right) (now x.out) _ (asked s) e.enum_told.given.1 _ _
-    w.weighted-sums.ensures.0 w.weighted-sums.ensures.1 (sym f.is_finite.ensures ∙ c.if1.true)
+    let f = c.before in let w = f.before.before.before in let e = told f in let s = e.before in let x = (start s).args in
+    accepted x.sums x.points x.orbitals x.times.now x.left.now x.right.now x.out.now _ (asked s) e.in-Pass.is _ _
+    w.weighted_sums.ensures.0 w.weighted_sums.ensures.1 (sym f.is_finite.ensures ∙ c.if-is_finite.true)
 
-returns-3 : tie.Need-returns-3
+returns-3 : tie.Need-returns
 returns-3 c =
-    let i = c.before in let f = i.before in let w = f.before.before.before in let e = told f in let s = e.before.before in
+    let i = c.before in let f = i.before in let w = f.before.before.before in let e = told f in let s = e.before in
     let x = (start s).args in
-    let lost = overflowed x.sums x.points x.orbitals (now x.times) (now x.left) (now x.right) (now x.out) _ (asked s) e.enum_told.given.1 _ _
-    w.weighted-sums.ensures.0 w.weighted-sums.ensures.1 (sym f.is_finite.ensures ∙ i.if1.false) in
+    let lost = overflowed x.sums x.points x.orbitals x.times.now x.left.now x.right.now x.out.now _ (asked s) e.in-Pass.is _ _
+    w.weighted_sums.ensures.0 w.weighted_sums.ensures.1 (sym f.is_finite.ensures ∙ i.if-is_finite.false) in
     (ap Refused c.by.ensures ∙ lost.0, lost.1)
 
 pub convolve_spec : {M : Type 1} → statement M
 convolve_spec =
     tie.close (tie.spec
-    (λ c κs. search needs) (λ c κs. search needs) (λ c κs. search needs)  -- has-length-requires, has-length-requires-2, has-length-requires-3
-    (λ c κs. search needs) (λ c κs. search needs) (λ c κs. search needs)  -- check-operand-requires, check-operand-requires-2, then-requires
-    (λ c κs. search needs) (λ c κs. search needs) (λ c κs. search needs)  -- check-sizes-requires, check-grid-requires, then-requires-2
-    (λ c κs. search needs) (λ c. search needs) (λ c. search needs) (λ c. search needs)  -- then-requires-3, enum_told, enum-told-2, same-length
+    (λ c κs. search rules) (λ c κs. search rules) (λ c κs. search rules)  -- has_length-left_fits-requires, has_length-right_fits-requires, has_length-out_fits-requires
+    (λ c κs. search rules) (λ c κs. search rules) (λ c κs. search rules)  -- check_operand-requires, check_operand-requires-2, then-finite-requires
+    (λ c κs. search rules) (λ c κs. search rules) (λ c κs. search rules)  -- check_sizes-requires, check_grid-requires, then-requires
+    (λ c κs. search rules) (λ c. search rules) (λ c. search rules) (λ c. search rules)  -- then-verdict-requires, enum_told-1, enum_told-in_default, shape_of-out-in_default
     returns
-    (λ c κs. search needs) (λ c κs. search needs) (λ c. search needs)  -- weighted-sums-requires, is-finite-requires, same-length-2
+    (λ c κs. search rules) (λ c κs. search rules) (λ c. search rules)  -- weighted_sums-requires, is_finite-requires, shape_of-out-then-is_finite
     returns-2
-    (λ c κs. search needs) (λ c. search needs)  -- by-requires, same-length-3
+    (λ c κs. search rules) (λ c. search rules)  -- by-requires, shape_of-out
     returns-3)

@@ -1,5 +1,5 @@
 -- `flows::flow` meets its contract, arm by arm. Assumes nothing.
-use Rattle.lists.specs.Prelude.{needs}
+use Rattle.lists.specs.Prelude.{rules}
 use Rattle.flows.specs.Calls.{flow_of}
 use Rattle.flows.proofs.flow.Statement.{statement}
 use Rattle.flows.proofs.flow.Tie as tie
@@ -9,7 +9,7 @@ unfolding flow_of
 flow_spec =
     tie.close
     (tie.spec
-    (λ c. search needs) (λ c. search needs) (λ c. search needs)  -- enum-known-answer, enum_told, enum-told-2
-    (λ c. rw c.before.answer.given.1)  -- returns
-    (λ c. rw c.enum_told.given.1)  -- returns-2
-    (λ c. rw c.enum-told2.given.1))  -- returns-3
+    (λ c. search rules) (λ c. search rules) (λ c. search rules)  -- enum_known-answer, enum_told-1, enum_told-in-Refused
+    (λ c. rw c.in-Number.is)  -- returns-in-Number
+    (λ c. rw c.in-NotReal.is)  -- returns-in-NotReal
+    (λ c. rw c.in-Refused.is))  -- returns-3

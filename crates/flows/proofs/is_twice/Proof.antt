@@ -8,5 +8,5 @@ pub is_twice_spec : {M : Type 1} → statement M
 is_twice_spec =
     tie.close
     (tie.spec
-    (λ c. let x = c.before.args in sym (ne_eqb x.long (2 * x.queries) (λ e. omega (arith, e, c.if1.true))))  -- returns
-    (λ c. twice-more _ _ c.if1.false))  -- returns-2
+    (λ c. let x = c.before.args in sym (ne_eqb x.long (2 * x.queries) (λ e. omega (arith, e, c.if-long-queries.true))))  -- returns-then-long-queries
+    (λ c. twice-more _ _ c.if-long-queries.false))  -- returns-2

@@ -1,6 +1,6 @@
 -- `groups::forward_group` meets its contract: unfit, or what the lanes hold is written in its place. Assumes nothing.
-use Rattle.lists.specs.Prelude.{◌≡◌, refl, sym, ap, ◌∙◌, Bool, List, [], ◌∷◌, ℕ, ◌+◌, ◌-◌, ◌*◌, ◌≤◌, ◌<◌, mul-le-mul_right, add-mul, arith, leb, length, Float, now}
-use Rattle.lists.specs.Prelude.{needs, leb-true, put_mid}
+use Rattle.lists.specs.Prelude.{◌≡◌, refl, sym, ap, ◌∙◌, Bool, List, [], ◌∷◌, ℕ, ◌+◌, ◌-◌, ◌*◌, ◌≤◌, ◌<◌, mul-le-mul_right, add-mul, arith, leb, length, Float}
+use Rattle.lists.specs.Prelude.{rules, leb-true, put_mid}
 use mir.Syntax.{w64}
 use mir.Val.{Fits}
 use Rattle.lists.specs.Agreement.{both}
@@ -13,29 +13,29 @@ use Rattle.groups.specs.Groups.{is_group, is_below, Grouped, grouped, forward-un
 use Rattle.groups.proofs.forward_group.Statement.{statement}
 use Rattle.groups.proofs.forward_group.Tie as tie
 
-abbrev start : tie.After-check-sizes → tie.Start
-start c = c.before.before.before.before.before.before.before.before.before.before
+abbrev start : tie.After-check_sizes-verdict → tie.Start
+start c = c.before.before.before.before.before.before.before.before.before
 
-abbrev slices : tie.After-check-sizes → List (List Float)
-slices c = let x = (start c).args in now x.free ∷ now x.kernel ∷ now x.retarded ∷ []
+abbrev slices : tie.After-check_sizes-verdict → List (List Float)
+slices c = let x = (start c).args in x.free.now ∷ x.kernel.now ∷ x.retarded.now ∷ []
 
-abbrev below : tie.After-check-sizes → Bool
+abbrev below : tie.After-check_sizes-verdict → Bool
 below c = let x = (start c).args in is_below x.points x.orbitals x.t x.u x.places
 
-abbrev checks : tie.After-check-sizes → Verdict
+abbrev checks : tie.After-check_sizes-verdict → Verdict
 checks c = let x = (start c).args in size_checks x.points x.orbitals (below c) (slices c)
 
-asked : (c : tie.After-check-sizes) → c.check-sizes.result ≡ checks c
+asked : (c : tie.After-check_sizes-verdict) → c.check_sizes-verdict.result ≡ checks c
 asked c =
     let x = (start c).args in let h = c.before in let b = h.before.before.before.before in
     sizes_asked_lem x.points x.orbitals (slices c) b.is_below.result _ _
-    (fits_more _ _ _ _ _ _ h.before.before.before.has-length.ensures (fits_more _ _ _ _ _ _ h.before.before.has-length2.ensures h.has-length3.ensures)) c.check-sizes.ensures
+    (fits_more _ _ _ _ _ _ h.before.before.before.has-length.ensures (fits_more _ _ _ _ _ _ h.before.before.has-length2.ensures h.has_length-retarded_fits.ensures)) c.check_sizes-verdict.ensures
     ∙ ap (λ (f : Bool). size_checks x.points x.orbitals f (slices c)) b.is_below.ensures
 
-passed : (c : tie.After-enum-told) → checks c.before.before ≡ Pass
-passed c = sym (asked c.before.before) ∙ c.enum_told.given.1
+passed : (c : tie.In-Pass) → checks c.before ≡ Pass
+passed c = sym (asked c.before) ∙ c.in-Pass.is
 
-sizes : (c : tie.After-enum-told) → let s = c.before.before in SizesPassed (start s).args.points (start s).args.orbitals (below s) (slices s)
+sizes : (c : tie.In-Pass) → let s = c.before in SizesPassed (start s).args.points (start s).args.orbitals (below s) (slices s)
 sizes c = sizes-passed _ _ _ _ (passed c)
 
 -- the numbers on the way to a group's place
@@ -92,9 +92,9 @@ as_short e f h = omega arith
 width : (at w : ℕ) → at + w - at ≡ w
 width at w = omega arith
 
-stands : (c : tie.After-enum-told) → let x = (start c.before.before).args in Stands x.points x.orbitals x.t x.u x.places (now x.free) (now x.kernel) (now x.retarded)
+stands : (c : tie.In-Pass) → let x = (start c.before).args in Stands x.points x.orbitals x.t x.u x.places x.free.now x.kernel.now x.retarded.now
 stands c =
-    let x = (start c.before.before).args in
+    let x = (start c.before).args in
     let z = sizes c in
     let b = both (is_group x.points x.orbitals x.t x.u x.places) (leb (x.u + x.places) (x.t + 1)) z.others in
     let g = grouped _ _ _ _ _ b.0 in
@@ -103,7 +103,7 @@ stands c =
     let e = long-first _ _ _ k.1 in
     let w = 2 * (x.orbitals * x.orbitals) in
     let s = sizes-of x.points x.orbitals x.t _ g.row g.points-most g.orbitals-most e.0 in
-    let room : row_at x.points x.orbitals x.t + x.u * w + x.places * w ≤ length (now x.retarded) = omega (arith, s.row, mul-le-mul_right w g.fit, add-mul x.u x.places w) in
+    let room : row_at x.points x.orbitals x.t + x.u * w + x.places * w ≤ length x.retarded.now = omega (arith, s.row, mul-le-mul_right w g.fit, add-mul x.u x.places w) in
     record {
       there = g;
       under = leb-true _ _ b.1;
@@ -116,54 +116,54 @@ stands c =
       count = counted _ _ _ _ _ _ s room;
     }
 
-returns : tie.Need-returns
+returns : tie.Need-returns-in_default
 returns c =
-    let s = c.before.before in let x = (start s).args in
-    forward-unfit x.points x.orbitals (now x.times) (now x.free) (now x.kernel) (now x.retarded) x.t x.u x.places _ (sym (asked s) ∙ c.enum-told2.given.1)
+    let s = c.before in let x = (start s).args in
+    forward-unfit x.points x.orbitals x.times.now x.free.now x.kernel.now x.retarded.now x.t x.u x.places _ (sym (asked s) ∙ c.in_default.is)
 
-forward-totals-requires : tie.Need-forward-totals-requires
+forward-totals-requires : tie.Need-forward_totals-requires
 forward-totals-requires c κs =
-    let z = stands c.before.before in
+    let z = stands c.before in
     let g = z.there in
     ((g.row, g.points-most, z.some, g.orbitals-most, g.some, z.under, g.few), ((long-enough z.free-long, long-enough z.kernel-long, long-enough z.retarded-long, as_short z.kernel-long z.retarded-long z.sized.all), refl))
 
 -- what the lanes hold
-abbrev lanes : tie.After-forward-totals → List Float
-lanes r = r.forward-totals.new.1.1.1.1.1.1.1.1.1.0
+abbrev lanes : tie.After-forward_totals → List Float
+lanes r = r.forward_totals.new.totals
 
-returns-2 : tie.Need-returns-2
+returns-2 : tie.Need-returns
 returns-2 c =
-    let w = c.before.before in let r = w.before.before.before.before in let e = r.before.before.before in
+    let w = c.before.before in let r = w.before.before.before.before in let e = r.before.before in
     let x = (start e.before.before).args in
     let n = x.orbitals in let z = stands e in
     let at = row_at x.points n x.t + x.u * (2 * (n * n)) in
-    let finite = group_finite_lem x.points n (now x.times) (now x.free) (now x.kernel) (now x.retarded) x.t x.u x.places (lanes r) z.under r.forward-totals.ensures.1 in
-    let made = group_laid x.points n (now x.times) (now x.free) (now x.kernel) (now x.retarded) x.t x.u x.places (lanes r) z.under r.forward-totals.ensures.1 in
-    let is = forward-written x.points n (now x.times) (now x.free) (now x.kernel) (now x.retarded) x.t x.u x.places z.there (passed e) (lanes r) (x.t - x.u) r.forward-totals.ensures.0 z.room finite made (at + x.places * (2 * (n * n)) - at) (width at (x.places * (2 * (n * n)))) in
-    (w.write-group.ensures.0 ∙ is.0, ap (λ (ys : List Float). put_mid at (at + x.places * (2 * (n * n)) - at) (now x.retarded) ys) w.write-group.ensures.1 ∙ is.1)
+    let finite = group_finite_lem x.points n x.times.now x.free.now x.kernel.now x.retarded.now x.t x.u x.places (lanes r) z.under r.forward_totals.ensures.1 in
+    let made = group_laid x.points n x.times.now x.free.now x.kernel.now x.retarded.now x.t x.u x.places (lanes r) z.under r.forward_totals.ensures.1 in
+    let is = forward-written x.points n x.times.now x.free.now x.kernel.now x.retarded.now x.t x.u x.places z.there (passed e) (lanes r) (x.t - x.u) r.forward_totals.ensures.0 z.room finite made (at + x.places * (2 * (n * n)) - at) (width at (x.places * (2 * (n * n)))) in
+    (w.write_group.ensures.0 ∙ is.0, ap (λ (ys : List Float). put_mid at (at + x.places * (2 * (n * n)) - at) x.retarded.now ys) w.write_group.ensures.1 ∙ is.1)
 
 pub forward_group_spec : {M : Type 1} → statement M
 forward_group_spec =
     tie.close (tie.spec
-    (λ c κs. search needs) (λ c κs. search needs) (λ c κs. search needs)  -- is-below-requires, has-length-requires, has-length-requires-2
-    (λ c κs. search needs) (λ c κs. search needs) (λ c. search needs)  -- has-length-requires-3, check-sizes-requires, enum_told
-    (λ c. search needs) (λ c. search needs)  -- enum-told-2, same-length
+    (λ c κs. search rules) (λ c κs. search rules) (λ c κs. search rules)  -- is_below-below-requires, has_length-free_fits-requires, has_length-kernel_fits-requires
+    (λ c κs. search rules) (λ c κs. search rules) (λ c. search rules)  -- has_length-retarded_fits-requires, check_sizes-verdict-requires, enum_told-1
+    (λ c. search rules) (λ c. search rules)  -- enum_told-in_default, shape_of-retarded-in_default
     returns
-    (λ c. (stands c).count.square)  -- mul-width
-    (λ c. (stands c).count.block)  -- mul-width-2
-    (λ c. (stands c).count.wide)  -- mul-start
-    (λ c. (stands c).count.row)  -- mul-start-2
-    (λ c. (stands c).count.before)  -- mul-start-3
-    (λ c. (stands c).count.first)  -- add-start
-    (λ c. (stands c).count.room)  -- mul-end
-    (λ c. (stands c).count.new)  -- add-end
-    (λ c. search needs)  -- slice-aggregate-forward-totals
+    (λ c. (stands c).count.square)  -- overflow_mul-width
+    (λ c. (stands c).count.block)  -- overflow_mul-width-2
+    (λ c. (stands c).count.wide)  -- overflow_mul-start
+    (λ c. (stands c).count.row)  -- overflow_mul-start-2
+    (λ c. (stands c).count.before)  -- overflow_mul-start-3
+    (λ c. (stands c).count.first)  -- overflow_add-start
+    (λ c. (stands c).count.room)  -- overflow_mul-end
+    (λ c. (stands c).count.new)  -- overflow_add-end
+    (λ c. search rules)  -- slice_bounds-forward_totals-end
     forward-totals-requires
-    (λ c. search needs)  -- slice-aggregate-write-group
-    (λ c. let z = stands c.before.before.before.before.before in begins-below z.there.some z.under)  -- sub-write-group
-    (λ c. (stands c.before.before.before.before.before).count.first_byte)  -- mul-write-group
-    (λ c. (stands c.before.before.before.before.before).count.rising)  -- sub-write-group-2
-    (λ c. (stands c.before.before.before.before.before).count.rising)  -- part-write-group-start
-    (λ c. (stands c.before.before.before.before.before).room)  -- part-write-group-end
-    (λ c κs. search needs) (λ c. search needs)  -- write-group-requires, same-length-2
+    (λ c. search rules)  -- slice_bounds-write_group-end
+    (λ c. let z = stands c.before.before.before.before in begins-below z.there.some z.under)  -- overflow_sub-t
+    (λ c. (stands c.before.before.before.before).count.first_byte)  -- offset_bounds-retarded-start
+    (λ c. (stands c.before.before.before.before).count.rising)  -- slice_bounds-write_group-count
+    (λ c. (stands c.before.before.before.before).count.rising)  -- slice_bounds-write_group-start
+    (λ c. (stands c.before.before.before.before).room)  -- slice_bounds-write_group-end-2
+    (λ c κs. search rules) (λ c. search rules)  -- write_group-requires, shape_of-retarded
     returns-2)

@@ -1,5 +1,5 @@
 -- `lanes::write_entries` meets its contract: before step b the first b entries are finite and written. Assumes nothing.
-use Rattle.lists.specs.Prelude.{◌≡◌, refl, sym, ap, ◌∙◌, Bool, not, ◌||◌, List, ℕ, ◌+◌, ◌-◌, mul_comm, arith, Float, now, needs}
+use Rattle.lists.specs.Prelude.{◌≡◌, refl, sym, ap, ◌∙◌, Bool, not, ◌||◌, List, ℕ, ◌+◌, ◌-◌, mul_comm, arith, Float, rules}
 use Rattle.lists.specs.Indexed.{all_below}
 use Rattle.lists.specs.Steps.{all_more}
 use Rattle.complex.specs.declared.Complex.{Complex}
@@ -21,54 +21,54 @@ finite totals a from asked b = not asked || cfinite (at totals a from b)
 abbrev numbers : List Float → ℕ → ℕ → ℕ → List Float
 numbers totals a from b = pair (at totals a from b)
 
-abbrev invariant-loop : tie.invariant-loop
+abbrev invariant-loop : tie.invariant-loop-b
 invariant-loop totals a from n asked out₀ b₀ out b = Filled n (finite totals a from asked) (numbers totals a from) b out₀ out
 
-abbrev decreases-loop : tie.decreases-loop
+abbrev decreases-loop : tie.decreases-loop-b
 decreases-loop totals a from n asked out₀ b₀ out b = n - b
 
-abbrev start : tie.At-loop invariant-loop decreases-loop → tie.Start invariant-loop decreases-loop
+abbrev start : tie.At-loop-b invariant-loop decreases-loop → tie.Start invariant-loop decreases-loop
 start l = l.before.before.before
 
 -- what is checked
-told : (c : tie.After-checked invariant-loop decreases-loop) → let l = c.before.before.before in let x = (start l).args in
-    c.checked.result ≡ checked_entry x.asked (at (now x.totals) x.a x.from l.loop.b)
-told c = c.checked.ensures ∙ ap (checked_entry (start c.before.before.before).args.asked) c.before.lane.ensures
+told : (c : tie.After-checked-entry invariant-loop decreases-loop) → let l = c.before.before.before in let x = (start l).args in
+    c.checked-entry.result ≡ checked_entry x.asked (at x.totals.now x.a x.from l.loop-b.b)
+told c = c.checked-entry.ensures ∙ ap (checked_entry (start c.before.before.before).args.asked) c.before.lane.ensures
 
-returns : tie.Need-returns invariant-loop decreases-loop
+returns : tie.Need-returns-in_default invariant-loop decreases-loop
 returns c =
-    let k = c.before.before in let t = k.before.before in let l = t.before in let x = (start l).args in
-    fails-one _ (finite (now x.totals) x.a x.from x.asked) (numbers (now x.totals) x.a x.from) l.loop.b _ t.loop-test.true
-    (of-overflow x.asked (at (now x.totals) x.a x.from l.loop.b) (sym c.enum_told.given.1 ∙ told k))
+    let k = c.before in let t = k.before.before in let l = t.before in let x = (start l).args in
+    fails-one _ (finite x.totals.now x.a x.from x.asked) (numbers x.totals.now x.a x.from) l.loop-b.b _ t.loop-b-test.true
+    (of-overflow x.asked (at x.totals.now x.a x.from l.loop-b.b) (sym c.in_default.is ∙ told k))
 
-loop-again : tie.Need-loop-preserved invariant-loop decreases-loop
+loop-again : tie.Need-loop-b-preserved invariant-loop decreases-loop
 unfolding all_below
 loop-again c =
-    let p = c.before.before in let z = p.before.before in let k = z.before.before.before in let t = k.before.before in let l = t.before in
-    let s = start l in let x = s.args in let i = l.loop.invariant in let b = l.loop.b in
-    let made = of-finite x.asked (at (now x.totals) x.a x.from b) _ (sym z.before.entry.given.1 ∙ told k) in
+    let p = c.before.before in let z = p.before.before in let k = z.before in let t = k.before.before in let l = t.before in
+    let s = start l in let x = s.args in let i = l.loop-b.invariant in let b = l.loop-b.b in
+    let made = of-finite x.asked (at x.totals.now x.a x.from b) _ (sym z.in-Finite.is ∙ told k) in
     record {
-      most = omega (arith, t.loop-test.true);
-      long = p.put.auto.0 ∙ i.long;
+      most = omega (arith, t.loop-b-test.true);
+      long = p.put.auto.xs ∙ i.long;
       passed = rw (all_more, i.passed) made.0;
-      is = cells-next (now x.out) l.loop.out _ b (at (now x.totals) x.a x.from) _ i.is made.1 p.put.ensures (omega (arith, t.loop-test.true, s.pre.3));
+      is = cells-next x.out.now l.loop-b.out _ b (at x.totals.now x.a x.from) _ i.is made.1 p.put.ensures (omega (arith, t.loop-b-test.true, s.requires.3));
     }
 
-returns-2 : tie.Need-returns-2 invariant-loop decreases-loop
+returns-2 : tie.Need-returns invariant-loop decreases-loop
 returns-2 c =
     let l = c.before in let s = start l in let x = s.args in
-    filled-all x.orbitals (finite (now x.totals) x.a x.from x.asked) (numbers (now x.totals) x.a x.from) 2 (λ k. refl) (now x.out) l.loop.b _ l.loop.invariant c.loop-test.false (s.pre.3 ∙ mul_comm 2 x.orbitals)
+    filled-all x.orbitals (finite x.totals.now x.a x.from x.asked) (numbers x.totals.now x.a x.from) 2 (λ k. refl) x.out.now l.loop-b.b _ l.loop-b.invariant c.loop-b-test.false (s.requires.3 ∙ mul_comm 2 x.orbitals)
 
 pub write_entries_spec : {M : Type 1} → statement M
 write_entries_spec =
     tie.close (tie.spec invariant-loop decreases-loop
-    (λ c. filled_none _ _ _ _)  -- loop-holds
-    (λ c. search needs) (λ c κs. search needs) (λ c κs. search needs)  -- add-lane, lane-requires, checked-requires
-    (λ c. search needs) (λ c. search needs)  -- enum-known-entry, enum_told
-    (λ c. c.before.before.before.before.before.loop.invariant.long)  -- same-length
+    (λ c. filled_none _ _ _ _)  -- loop-b-init
+    (λ c. search rules) (λ c κs. search rules) (λ c κs. search rules)  -- overflow_add-from, lane-requires, checked-entry-requires
+    (λ c. search rules) (λ c. search rules)  -- enum_known-entry, enum_told-1
+    (λ c. c.before.before.before.before.loop-b.invariant.long)  -- shape_of-out-in_default
     returns
-    (λ c κs. let t = c.before.before.before.before.before.before in omega (arith, t.loop-test.true, t.before.loop.invariant.long, (start t.before).pre.3))  -- put-requires
-    (λ c. search needs) (λ c. search needs)  -- add-b, loop-less
+    (λ c κs. let t = c.before.before.before.before in omega (arith, t.loop-b-test.true, t.before.loop-b.invariant.long, (start t.before).requires.3))  -- put-requires
+    (λ c. search rules) (λ c. search rules)  -- overflow_step-b, loop-b-smaller
     loop-again
-    (λ c. c.before.loop.invariant.long)  -- same-length-2
+    (λ c. c.before.loop-b.invariant.long)  -- shape_of-out
     returns-2)

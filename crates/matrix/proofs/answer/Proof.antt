@@ -1,5 +1,5 @@
 -- `matrix::answer` meets its contract, by the verdict and the test of check 10. Assumes nothing.
-use Rattle.lists.specs.Prelude.{ap, ◌∙◌, needs}
+use Rattle.lists.specs.Prelude.{ap, ◌∙◌, rules}
 use Rattle.refusal.specs.declared.Refusal.{Refusal}
 use Rattle.refusal.specs.declared.Verdict.TheVariants.{Refused}
 use Rattle.matrix.specs.Dense.{no_block}
@@ -12,17 +12,17 @@ pub answer_spec : {M : Type 1} → statement M
 answer_spec =
     tie.close
     (tie.spec
-    (λ c. search needs)  -- enum_told
-    (λ c. search needs)  -- slice-aggregate-fill
-    (λ c κs. let s = c.before.before.before.before.before in (s.requires.0 c.before.enum_told.given.1, (s.requires.1.0, s.requires.1.1, search needs)))  -- fill-requires
-    (λ c κs. search needs)  -- by-requires
-    (λ c κs. search needs)  -- refused-requires
-    (λ c. search needs)  -- enum-known-verdict
-    (λ c κs. search needs)  -- refused-requires-2
-    (λ c. let f = c.before.before in answer-finite _ _ _ _ _ _ f.before.before.enum_told.given.1 f.fill.ensures.0 _ (block_made _ _ _ _ f.fill.ensures.1) c.if1.true)  -- returns
+    (λ c. search rules)  -- enum_told-1
+    (λ c. search rules)  -- slice_bounds-fill-end
+    (λ c κs. let s = c.before.before.before.before in (s.requires.0 c.before.in-Pass.is, (s.requires.1.0, s.requires.1.1, search rules)))  -- fill-finite-requires
+    (λ c κs. search rules)  -- by-requires
+    (λ c κs. search rules)  -- refused-requires
+    (λ c. search rules)  -- enum_known-verdict
+    (λ c κs. search rules)  -- refused-requires-in-Refused
+    (λ c. let f = c.before.before in answer-finite _ _ _ _ _ _ f.before.before.in-Pass.is f.fill-finite.ensures.0 _ (block_made _ _ _ _ f.fill-finite.ensures.1) c.if-tested-finite.true)  -- returns-then-tested-finite
     (λ c.
     let e = c.before.before in
     let f = e.before.before in
     c.refused.ensures ∙ ap (λ (r : Refusal). record { verdict = Refused r; block = no_block }) c.before.by.ensures
-    ∙ answer-overflow _ _ _ _ _ _ f.before.before.enum_told.given.1 f.fill.ensures.0 e.if1.false)  -- returns-2
-    (λ c. c.refused2.ensures ∙ answer-refused _ _ _ _ _ _ c.before.before.verdict.given.1))  -- returns-3
+    ∙ answer-overflow _ _ _ _ _ _ f.before.before.enum_told.given.1 f.fill.ensures.0 e.if1.false)  -- returns-else-tested-finite
+    (λ c. c.refused-in-Refused.ensures ∙ answer-refused _ _ _ _ _ _ c.before.in-Refused.is))  -- returns-3

@@ -1,5 +1,5 @@
 -- `matrix::combined` meets its contract: the checks of two blocks, then the block. Assumes nothing.
-use Rattle.lists.specs.Prelude.{sym, ◌∙◌, needs}
+use Rattle.lists.specs.Prelude.{sym, ◌∙◌, rules}
 use Rattle.matrix.specs.Made.{combined_of}
 use Rattle.matrix.proofs.Shapes.{pair-passed}
 use Rattle.matrix.proofs.combined.Statement.{statement}
@@ -10,6 +10,6 @@ unfolding combined_of
 combined_spec =
     tie.close
     (tie.spec
-    (λ c κs. search needs)  -- check-pair-requires
-    (λ c κs. (λ p. let s = pair-passed _ _ _ (sym c.check-pair.ensures ∙ p) in (s.0.rows-most, s.0.columns-most, s.1.columns-most), c.before.before.before.requires))  -- answer-requires
-    (λ c. c.answer.ensures ∙ rw c.before.check-pair.ensures))  -- returns
+    (λ c κs. search rules)  -- check_pair-verdict-requires
+    (λ c κs. (λ p. let s = pair-passed _ _ _ (sym c.check_pair-verdict.ensures ∙ p) in (s.0.rows-most, s.0.columns-most, s.1.columns-most), c.before.before.before.requires))  -- answer-requires
+    (λ c. c.answer.ensures ∙ rw c.before.check_pair-verdict.ensures))  -- returns

@@ -5,4 +5,4 @@ use Rattle.matrix.proofs.decided.Tie as tie
 
 pub decided_spec : {M : Type 1} → statement M
 unfolding decide
-decided_spec = tie.close (tie.spec (λ c. rw c.if1.true) (λ c. rw c.if1.false))
+decided_spec = tie.close (tie.spec (λ c. rw c.if-yes.true) (λ c. rw c.if-yes.false))

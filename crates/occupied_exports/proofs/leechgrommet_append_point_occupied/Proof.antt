@@ -1,5 +1,5 @@
 -- `occupied_exports::leechgrommet_append_point_occupied` meets its contract: by the length of the counters. Assumes nothing.
-use Rattle.lists.specs.Prelude.{◌≡◌, sym, ap, ap₂, ◌∙◌, arith, length, now, needs}
+use Rattle.lists.specs.Prelude.{◌≡◌, sym, ap, ap₂, ◌∙◌, arith, length, rules}
 use Rattle.matrix.specs.declared.DenseMatrix.{DenseMatrix}
 use Rattle.transient_run.specs.declared.Session.{Session}
 use Rattle.transient_run.specs.declared.Solved.{Solved}
@@ -12,88 +12,88 @@ use Rattle.occupied_exports.proofs.leechgrommet_append_point_occupied.Statement.
 use Rattle.occupied_exports.proofs.leechgrommet_append_point_occupied.Tie as tie
 
 -- counters of another length
-returns : tie.Need-returns
+returns : tie.Need-returns-then-counters-ne8
 returns c =
     let w = c.before.before.before.before in
     let n = w.before.before.before in
-    let unfit = append-uncounted _ n.before.before.if1.true n.before.least.ensures (n.no-counters-beside.ensures _) in
-    (rw unfit.verdict at w.write-answer.ensures, unfit.counters, unfit.slices.0, unfit.slices.1, unfit.slices.2, unfit.slices.3)
+    let unfit = append-uncounted _ n.before.before.if-counters-ne8.true n.before.least.ensures (n.no_counters_beside.ensures _) in
+    (rw unfit.verdict at w.write_answer.ensures, unfit.counters, unfit.slices.0, unfit.slices.1, unfit.slices.2, unfit.slices.3)
 
 -- eight
-abbrev wrote : tie.After-slice-known16 → tie.After-write-booked
+abbrev wrote : tie.After-slice_known-14-1 → tie.After-write_booked
 wrote c = c.before.before.before.before.before.before
 
-abbrev ran : tie.After-write-booked → tie.After-append-point-occupied
+abbrev ran : tie.After-write_booked → tie.After-append_point_occupied-made
 ran c = c.before.before.before.before.before.before.before.before.before.before.before.before
 
-abbrev named : tie.After-append-point-occupied → tie.After-session-of
+abbrev named : tie.After-append_point_occupied-made → tie.After-session_of-session
 named c = c.before.before.before.before.before
 
-abbrev start : tie.After-append-point-occupied → tie.Start
-start c = (named c).before.before.before.before.before.before.before.before.before.before.before.before.before.before.before
+abbrev start : tie.After-append_point_occupied-made → tie.Start
+start c = (named c).before.before.before.before.before.before.before.before.before.before.before.before.before.before
 
 -- the run from a block in a session
-abbrev run : tie.After-append-point-occupied → DenseMatrix → Session → Run
+abbrev run : tie.After-append_point_occupied-made → DenseMatrix → Session → Run
 run c g0 session =
     let x = (start c).args in
-    run_of (occupied g0) session x.desk (record { points = x.points; capacity = x.capacity; orbitals = x.orbitals }) x.tolerance (now x.times) (now x.free) (now x.self-energy) (now x.lesser-self-energy) (now x.retarded) (now x.lesser)
-    (now x.kernel) (now x.lesser-advanced)
+    run_of (occupied g0) session x.desk (record { points = x.points; capacity = x.capacity; orbitals = x.orbitals }) x.tolerance x.times.now x.free.now x.self-energy.now x.lesser-self-energy.now x.retarded.now x.lesser.now
+    x.kernel.now x.lesser-advanced.now
 
-abbrev g0 : tie.After-append-point-occupied → DenseMatrix
-g0 c = let x = (start c).args in block x.rows x.columns (now x.g0)
+abbrev g0 : tie.After-append_point_occupied-made → DenseMatrix
+g0 c = let x = (start c).args in block x.rows x.columns x.g0.now
 
-abbrev session : tie.After-append-point-occupied → Session
-session c = session_of (now (start c).args.counters)
+abbrev session : tie.After-append_point_occupied-made → Session
+session c = session_of ((start c).args.counters.now)
 
-long : (c : tie.After-append-point-occupied) → length (now (start c).args.counters) ≡ 8
+long : (c : tie.After-append_point_occupied-made) → length ((start c).args.counters.now) ≡ 8
 long c = (named c).before.before.before.if1.false
 
-opened : (c : tie.After-append-point-occupied) → (named c).session-of.result ≡ session c
-opened c = (named c).session-of.ensures ∙ session_in_lem _ (long c)
+opened : (c : tie.After-append_point_occupied-made) → (named c).session_of-session.result ≡ session c
+opened c = (named c).session_of-session.ensures ∙ session_in_lem _ (long c)
 
-abbrev made : tie.After-append-point-occupied → Run
-made c = run c (named c).before.before.block.result (named c).session-of.result
+abbrev made : tie.After-append_point_occupied-made → Run
+made c = run c (named c).before.before.block.result (named c).session_of-session.result
 
-same : (c : tie.After-append-point-occupied) → append_point (made c) ≡ counted_append (run c (g0 c) (session c))
+same : (c : tie.After-append_point_occupied-made) → append_point (made c) ≡ counted_append (run c (g0 c) (session c))
 same c = ap₂ (λ (g : DenseMatrix) (s : Session). append_point (run c g s)) (named c).before.before.block.ensures (opened c) ∙ append-counted (run c (g0 c) (session c)) (long c)
 
-returns-2 : tie.Need-returns-2
+returns-2 : tie.Need-returns
 returns-2 c =
     let w = wrote c in
     let r = ran w in
     let x = (start r).args in
-    let v = r.append-point-occupied.ensures in
+    let v = r.append_point_occupied-made.ensures in
     let answer = v.0 ∙ ap (λ (o : Outcome). o.answer) (same r) in (
-      w.write-booked.ensures.0 ∙ answer-written answer _ _,
-      w.write-booked.ensures.1
-          ∙ counters_after_lem _ (long r) x.desk r.append-point-occupied.result.answer r.append-point-occupied.result.session (v.1 ∙ session-left (sym v.0) x.desk (opened r)) (append-desk (made r) v.0)
+      w.write_booked.ensures.0 ∙ answer-written answer _ _,
+      w.write_booked.ensures.1
+          ∙ counters_after_lem _ (long r) x.desk r.append_point_occupied-made.result.answer r.append_point_occupied-made.result.session (v.1 ∙ session-left (sym v.0) x.desk (opened r)) (append-desk (made r) v.0)
           ∙ ap (λ (a : Solved). (booked (session r) x.desk a).products) answer,
-      v.2 ∙ ap (λ (o : Outcome). o.retarded) (same r),
-      v.3 ∙ ap (λ (o : Outcome). o.lesser) (same r),
-      v.4 ∙ ap (λ (o : Outcome). o.kernel) (same r),
-      v.5 ∙ ap (λ (o : Outcome). o.lesser_advanced) (same r),
+      v.2 ∙ ap (λ (o : Outcome). o.retarded-1) (same r),
+      v.3 ∙ ap (λ (o : Outcome). o.lesser-1) (same r),
+      v.4 ∙ ap (λ (o : Outcome). o.kernel-1) (same r),
+      v.5 ∙ ap (λ (o : Outcome). o.lesser_advanced-1) (same r),
     )
 
 pub leechgrommet_append_point_occupied_spec : {M : Type 1} → statement M
 leechgrommet_append_point_occupied_spec =
     tie.close
     (tie.spec
-    (λ c κs. search needs)  -- least-requires
-    (λ c. let k = c.least.ensures in omega arith)  -- add-no-counters-beside
-    (λ c κs. search needs)  -- no-counters-beside-requires
-    (λ c κs. search needs)  -- write-answer-requires
-    (λ c. c.before.before.before.before.write-answer.auto.1.0)  -- same-length
-    (λ c. c.before.before.before.before.write-answer.auto.1.1.0)  -- same-length-2
+    (λ c κs. search rules)  -- least-requires
+    (λ c. let k = c.least.ensures in omega arith)  -- overflow_add-least
+    (λ c κs. search rules)  -- no_counters_beside-requires
+    (λ c κs. search rules)  -- write_answer-requires
+    (λ c. c.before.before.before.before.write_answer.auto.places)  -- shape_of-places-then-counters-ne8
+    (λ c. c.before.before.before.before.write_answer.auto.part)  -- shape_of-part-then-counters-ne8
     returns
-    (λ c κs. search needs)  -- block-requires
-    (λ c κs. search needs)  -- session-of-requires
-    (λ c κs. search needs)  -- append-point-occupied-requires
-    (λ c κs. search needs)  -- write-booked-requires
-    (λ c. (wrote c).write-booked.auto.1.0)  -- same-length-3
-    (λ c. (ran (wrote c)).append-point-occupied.auto.1.1.1.1.1.1.1.1.1.0)  -- same-length-4
-    (λ c. (ran (wrote c)).append-point-occupied.auto.1.1.1.1.1.1.1.1.1.1.0)  -- same-length-5
-    (λ c. (ran (wrote c)).append-point-occupied.auto.1.1.1.1.1.1.1.1.1.1.1.0)  -- same-length-6
-    (λ c. (ran (wrote c)).append-point-occupied.auto.1.1.1.1.1.1.1.1.1.1.1.1.0)  -- same-length-7
-    (λ c. (wrote c).write-booked.auto.1.1.1.0)  -- same-length-8
-    (λ c. (wrote c).write-booked.auto.1.1.1.1.0)  -- same-length-9
+    (λ c κs. search rules)  -- block-start-requires
+    (λ c κs. search rules)  -- session_of-session-requires
+    (λ c κs. search rules)  -- append_point_occupied-made-requires
+    (λ c κs. search rules)  -- write_booked-requires
+    (λ c. (wrote c).write_booked.auto.counters)  -- shape_of-counters
+    (λ c. (ran (wrote c)).append-point-occupied.auto.1.1.1.1.1.1.1.1.1.0)  -- shape_of-retarded
+    (λ c. (ran (wrote c)).append-point-occupied.auto.1.1.1.1.1.1.1.1.1.1.0)  -- shape_of-lesser
+    (λ c. (ran (wrote c)).append-point-occupied.auto.1.1.1.1.1.1.1.1.1.1.1.0)  -- shape_of-kernel
+    (λ c. (ran (wrote c)).append-point-occupied.auto.1.1.1.1.1.1.1.1.1.1.1.1.0)  -- shape_of-lesser_advanced
+    (λ c. (wrote c).write_booked.auto.places)  -- shape_of-places
+    (λ c. (wrote c).write_booked.auto.part)  -- shape_of-part
     returns-2)

@@ -1,6 +1,6 @@
 -- `sums::row` meets its contract: after the groups before p the first p blocks are finite and written. Assumes nothing.
 use Rattle.lists.specs.Prelude.{◌≡◌, refl, sym, ap, ◌∙◌, Bool, true, List, [], ◌∷◌, ℕ, ◌+◌, ◌-◌, ◌*◌, ◌≤◌, ◌<◌, add_assoc, mul-le-mul_right, add-mul, arith, length}
-use Rattle.lists.specs.Prelude.{length-take, length-drop, Float, now, needs, not-true, not-false, mid_of}
+use Rattle.lists.specs.Prelude.{length-take, length-drop, Float, rules, not-true, not-false, mid_of}
 use Rattle.lists.specs.Indexed.{all_below, join}
 use Rattle.lists.specs.Agreement.{all_agree, join_agree}
 use Rattle.block.specs.Block.{lay_out}
@@ -21,16 +21,16 @@ finite_at sums capacity n times left right t from p = block_finite sums capacity
 abbrev laid : Sums → ℕ → ℕ → List Float → List Float → List Float → ℕ → ℕ → ℕ → List Float
 laid sums capacity n times left right t from p = lay_out n n (sum_at sums capacity n times left right t (from + p))
 
-abbrev invariant-loop : tie.invariant-loop
+abbrev invariant-loop : tie.invariant-loop-p
 invariant-loop sums times left right capacity n t from count out₀ width p₀ out p = Filled count (finite_at sums capacity n times left right t from) (laid sums capacity n times left right t from) p out₀ out
 
-abbrev decreases-loop : tie.decreases-loop
+abbrev decreases-loop : tie.decreases-loop-p
 decreases-loop sums times left right capacity n t from count out₀ width p₀ out p = count - p
 
-abbrev start : tie.At-loop invariant-loop decreases-loop → tie.Start invariant-loop decreases-loop
+abbrev start : tie.At-loop-p invariant-loop decreases-loop → tie.Start invariant-loop decreases-loop
 start l = l.before.before.before.before.before
 
-sizes : (s : tie.Start invariant-loop decreases-loop) → let x = s.args in SizesPassed x.capacity x.orbitals true (now x.left ∷ now x.right ∷ [])
+sizes : (s : tie.Start invariant-loop decreases-loop) → let x = s.args in SizesPassed x.capacity x.orbitals true (x.left.now ∷ x.right.now ∷ [])
 sizes s = sizes-passed _ _ _ _ s.requires.0.2
 
 block : (s : tie.Start invariant-loop decreases-loop) → s.args.orbitals * s.args.orbitals ≤ 256
@@ -56,11 +56,11 @@ part_of capacity n t from count p m len ht fits h some fit most few hp hn long =
       all = omega (arith, product-most count w (let c : count ≤ 256 = omega arith in c) (let l : w ≤ 512 = omega arith in l));
     }
 
-part : (w : tie.After-group-places invariant-loop decreases-loop) → let l = w.before.before in let x = (start l).args in
-    Part x.capacity x.orbitals x.t x.from x.count l.loop.p w.group-places.result (length l.loop.out)
+part : (w : tie.After-group_places-places invariant-loop decreases-loop) → let l = w.before.before in let x = (start l).args in
+    Part x.capacity x.orbitals x.t x.from x.count l.loop-p.p w.group_places-places.result (length l.loop-p.out)
 part w =
-    let t = w.before in let l = t.before in let s = start l in let x = s.args in let g = w.group-places.ensures in let z = sizes s in
-    part_of x.capacity x.orbitals x.t x.from x.count l.loop.p w.group-places.result (length l.loop.out) s.pre.0.0 s.pre.0.1 t.loop-test.true g.0 g.1 g.2 g.3 z.points-most z.orbitals-most (l.loop.invariant.long ∙ s.pre.1)
+    let t = w.before in let l = t.before in let s = start l in let x = s.args in let g = w.group_places-places.ensures in let z = sizes s in
+    part_of x.capacity x.orbitals x.t x.from x.count l.loop-p.p w.group_places-places.result (length l.loop-p.out) s.requires.0.0 s.requires.0.1 t.loop-p-test.true g.0 g.1 g.2 g.3 z.points-most z.orbitals-most (l.loop-p.invariant.long ∙ s.requires.1)
 
 wide : (sums : Sums) (capacity n : ℕ) (times left right : List Float) (t from p : ℕ) → length (laid sums capacity n times left right t from p) ≡ 2 * (n * n)
 wide sums capacity n times left right t from p = length-block n (sum_at sums capacity n times left right t (from + p))
@@ -75,58 +75,58 @@ group_parts : (sums : Sums) (capacity n : ℕ) (times left right : List Float) (
 group_parts sums capacity n times left right t from p m = join_agree m _ _ (λ c hc. ap (λ (k : ℕ). lay_out n n (sum_at sums capacity n times left right t k)) (add_assoc from p c))
 
 -- its part of the slice
-abbrev before : tie.After-group invariant-loop decreases-loop → List Float
+abbrev before : tie.After-group-summed invariant-loop decreases-loop → List Float
 before g =
     let w = g.before.before in let l = w.before.before in
     let v = 2 * ((start l).args.orbitals * (start l).args.orbitals) in
-    mid_of (l.loop.p * v) (l.loop.p * v + w.group-places.result * v - l.loop.p * v) l.loop.out
+    mid_of (l.loop-p.p * v) (l.loop-p.p * v + w.group_places-places.result * v - l.loop-p.p * v) l.loop-p.out
 
-before-long : (g : tie.After-group invariant-loop decreases-loop) → let w = g.before.before in length (before g) ≡ w.group-places.result * (2 * ((start w.before.before).args.orbitals * (start w.before.before).args.orbitals))
+before-long : (g : tie.After-group-summed invariant-loop decreases-loop) → let w = g.before.before in length (before g) ≡ w.group_places-places.result * (2 * ((start w.before.before).args.orbitals * (start w.before.before).args.orbitals))
 before-long g = let z = part g.before.before in simp (length-take, length-drop) (omega (arith, z.room))
 
-returns : tie.Need-returns invariant-loop decreases-loop
+returns : tie.Need-returns-then-not-is_finite invariant-loop decreases-loop
 returns c =
     let f = c.before in let g = f.before.before.before in let w = g.before.before in let l = w.before.before in let s = start l in let x = s.args in
-    let z = part w in let m = w.group-places.result in
-    fails _ (finite_at x.sums x.capacity x.orbitals (now x.times) (now x.left) (now x.right) x.t x.from) (laid x.sums x.capacity x.orbitals (now x.times) (now x.left) (now x.right) x.t x.from) l.loop.p m _ z.inside
-    (sym (group_tests x.sums x.capacity x.orbitals (now x.times) (now x.left) (now x.right) x.t x.from l.loop.p m)
-    ∙ group_overflow x.sums x.capacity x.orbitals (now x.times) (now x.left) (now x.right) x.t (x.from + l.loop.p) m (before g) z.there s.pre.0.2 (before-long g) _ _ g.group.ensures.0 g.group.ensures.1 (sym f.is_finite.ensures ∙ not-true _ c.if1.true))
+    let z = part w in let m = w.group_places-places.result in
+    fails _ (finite_at x.sums x.capacity x.orbitals x.times.now x.left.now x.right.now x.t x.from) (laid x.sums x.capacity x.orbitals x.times.now x.left.now x.right.now x.t x.from) l.loop-p.p m _ z.inside
+    (sym (group_tests x.sums x.capacity x.orbitals x.times.now x.left.now x.right.now x.t x.from l.loop-p.p m)
+    ∙ group_overflow x.sums x.capacity x.orbitals x.times.now x.left.now x.right.now x.t (x.from + l.loop-p.p) m (before g) z.there s.requires.0.2 (before-long g) _ _ g.group-summed.ensures.0 g.group-summed.ensures.1 (sym f.is_finite.ensures ∙ not-true _ c.if-not-is_finite.true-raw))
 
-loop-again : tie.Need-loop-preserved invariant-loop decreases-loop
+loop-again : tie.Need-loop-p-preserved invariant-loop decreases-loop
 loop-again c =
     let q = c.before in let o = q.before.before in let g = o.before in let w = g.before.before in let l = w.before.before in let s = start l in let x = s.args in
-    let p = l.loop.p in let n = x.orbitals in let m = w.group-places.result in let v = 2 * (n * n) in
+    let p = l.loop-p.p in let n = x.orbitals in let m = w.group_places-places.result in let v = 2 * (n * n) in
     let z = part w in
-    let made = group_finite_lem x.sums x.capacity n (now x.times) (now x.left) (now x.right) x.t (x.from + p) m (before g) z.there s.pre.0.2 (before-long g) _ _ g.group.ensures.0 g.group.ensures.1 (sym q.is_finite.ensures ∙ not-false _ c.if1.false) in
-    filled_more x.count (finite_at x.sums x.capacity n (now x.times) (now x.left) (now x.right) x.t x.from) (laid x.sums x.capacity n (now x.times) (now x.left) (now x.right) x.t x.from) v
-    (wide x.sums x.capacity n (now x.times) (now x.left) (now x.right) x.t x.from) (now x.out) p m (p * v + m * v - p * v) l.loop.out _ l.loop.invariant z.inside
-    (sym (group_tests x.sums x.capacity n (now x.times) (now x.left) (now x.right) x.t x.from p m) ∙ made.0)
-    (made.1 ∙ group_parts x.sums x.capacity n (now x.times) (now x.left) (now x.right) x.t x.from p m) (omega arith) o.out.given.1
+    let made = group_finite_lem x.sums x.capacity n x.times.now x.left.now x.right.now x.t (x.from + p) m (before g) z.there s.requires.0.2 (before-long g) _ _ g.group-summed.ensures.0 g.group-summed.ensures.1 (sym q.is_finite.ensures ∙ not-false _ c.if-not-is_finite.false-raw) in
+    filled_more x.count (finite_at x.sums x.capacity n x.times.now x.left.now x.right.now x.t x.from) (laid x.sums x.capacity n x.times.now x.left.now x.right.now x.t x.from) v
+    (wide x.sums x.capacity n x.times.now x.left.now x.right.now x.t x.from) x.out.now p m (p * v + m * v - p * v) l.loop-p.out _ l.loop-p.invariant z.inside
+    (sym (group_tests x.sums x.capacity n x.times.now x.left.now x.right.now x.t x.from p m) ∙ made.0)
+    (made.1 ∙ group_parts x.sums x.capacity n x.times.now x.left.now x.right.now x.t x.from p m) (omega arith) o.out-1.given.1
 
-returns-2 : tie.Need-returns-2 invariant-loop decreases-loop
+returns-2 : tie.Need-returns invariant-loop decreases-loop
 returns-2 c =
     let l = c.before in let s = start l in let x = s.args in let n = x.orbitals in
-    filled-all x.count (finite_at x.sums x.capacity n (now x.times) (now x.left) (now x.right) x.t x.from) (laid x.sums x.capacity n (now x.times) (now x.left) (now x.right) x.t x.from) (2 * (n * n))
-    (wide x.sums x.capacity n (now x.times) (now x.left) (now x.right) x.t x.from) (now x.out) l.loop.p _ l.loop.invariant c.loop-test.false s.pre.1
+    filled-all x.count (finite_at x.sums x.capacity n x.times.now x.left.now x.right.now x.t x.from) (laid x.sums x.capacity n x.times.now x.left.now x.right.now x.t x.from) (2 * (n * n))
+    (wide x.sums x.capacity n x.times.now x.left.now x.right.now x.t x.from) x.out.now l.loop-p.p _ l.loop-p.invariant c.loop-p-test.false s.requires.1
 
 pub row_spec : {M : Type 1} → statement M
 row_spec =
     tie.close (tie.spec invariant-loop decreases-loop
-    (λ c. let b = block c.before.before.before.before in omega arith)  -- mul-width
-    (λ c. let b = block c.before.before.before.before in omega arith)  -- mul-width-2
-    (λ c. filled_none _ _ _ _)  -- loop-holds
-    (λ c. let h = c.loop-test.true in omega arith)  -- sub-group-places
-    (λ c κs. let z = sizes (start c.before) in (omega (arith, c.loop-test.true), z.orbitals-least, z.orbitals-most))  -- group-places-requires
-    (λ c. let z = part c in omega (arith, z.room, z.all)) (λ c. let z = part c in omega (arith, z.room, z.all))  -- mul-start, mul-end
-    (λ c. let z = part c in omega (arith, z.room, z.all)) (λ c. let z = part c in omega (arith, z.there.fit, z.there.points-most))  -- add-end, add-group
-    (λ c. let z = part c in omega (arith, z.room, z.all))  -- mul-group
-    (λ c. let z = part c in omega (arith, z.room, z.all)) (λ c. let z = part c in omega (arith, z.room, z.all))  -- sub-group, part-group-start
-    (λ c. let z = part c in omega (arith, z.room, z.all))  -- part-group-end
-    (λ c κs. search needs) (λ c κs. search needs)  -- group-requires, is-finite-requires
-    (λ c. let o = c.before.before.before in o.out.given.1 ∙ o.before.before.before.before.before.loop.invariant.long)  -- same-length
+    (λ c. let b = block c.before.before.before.before in omega arith)  -- overflow_mul-width
+    (λ c. let b = block c.before.before.before.before in omega arith)  -- overflow_mul-width-2
+    (λ c. filled_none _ _ _ _)  -- loop-p-init
+    (λ c. let h = c.loop-p-test.true in omega arith)  -- overflow_sub-count
+    (λ c κs. let z = sizes (start c.before) in (omega (arith, c.loop-p-test.true), z.orbitals-least, z.orbitals-most))  -- group_places-places-requires
+    (λ c. let z = part c in omega (arith, z.room, z.all)) (λ c. let z = part c in omega (arith, z.room, z.all))  -- overflow_mul-start, overflow_mul-end
+    (λ c. let z = part c in omega (arith, z.room, z.all)) (λ c. let z = part c in omega (arith, z.there.fit, z.there.points-most))  -- overflow_add-end, overflow_add-from
+    (λ c. let z = part c in omega (arith, z.room, z.all))  -- offset_bounds-out-start
+    (λ c. let z = part c in omega (arith, z.room, z.all)) (λ c. let z = part c in omega (arith, z.room, z.all))  -- slice_bounds-group-count, slice_bounds-group-start
+    (λ c. let z = part c in omega (arith, z.room, z.all))  -- slice_bounds-group-end
+    (λ c κs. search rules) (λ c κs. search rules)  -- group-summed-requires, is_finite-requires
+    (λ c. let o = c.before.before.before in o.out-1.given.1 ∙ o.before.before.before.before.before.loop-p.invariant.long)  -- shape_of-out-then-not-is_finite
     returns
-    (λ c. let w = c.before.before.before.before.before.before in let z = part w in omega (arith, z.there.fit, z.there.points-most))  -- add-p
-    (λ c. let z = part c.before.before.before.before.before.before in omega (arith, z.inside, z.there.some))  -- loop-less
+    (λ c. let w = c.before.before.before.before.before.before in let z = part w in omega (arith, z.there.fit, z.there.points-most))  -- overflow_add-p
+    (λ c. let z = part c.before.before.before.before.before.before in omega (arith, z.inside, z.there.some))  -- loop-p-smaller
     loop-again
-    (λ c. c.before.loop.invariant.long)  -- same-length-2
+    (λ c. c.before.loop-p.invariant.long)  -- shape_of-out
     returns-2)

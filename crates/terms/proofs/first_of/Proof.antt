@@ -1,5 +1,5 @@
 -- `terms::first_of` meets its contract. Assumes nothing.
-use Rattle.lists.specs.Prelude.{needs}
+use Rattle.lists.specs.Prelude.{rules}
 use Rattle.terms.specs.Kinds.{first_of}
 use Rattle.terms.proofs.first_of.Statement.{statement}
 use Rattle.terms.proofs.first_of.Tie as tie
@@ -8,7 +8,7 @@ pub first_of_spec : {M : Type 1} → statement M
 unfolding first_of
 first_of_spec =
     tie.close (tie.spec
-    (λ c. search needs)  -- enum_told
-    (λ c. search needs) (λ c. search needs) (λ c. search needs) (λ c. search needs) (λ c. rw c.enum_told.given.1)
-    (λ c. rw c.enum-told2.given.1) (λ c. rw c.enum-told3.given.1) (λ c. rw c.enum-told4.given.1)
-    (λ c. rw c.enum-told5.given.1))
+    (λ c. search rules)  -- enum_told-1
+    (λ c. search rules) (λ c. search rules) (λ c. search rules) (λ c. search rules) (λ c. rw c.in-Full.is)
+    (λ c. rw c.in-Causal.is) (λ c. rw c.in-LesserAdvanced.is) (λ c. rw c.in-Lesser.is)
+    (λ c. rw c.in-AntiCausal.is))

@@ -1,5 +1,5 @@
 -- `terms::lanes_here` meets its contract, kind by kind. Assumes nothing.
-use Rattle.lists.specs.Prelude.{◌≡◌, refl, Bool, ℕ, needs}
+use Rattle.lists.specs.Prelude.{◌≡◌, refl, Bool, ℕ, rules}
 use Rattle.two_time.specs.declared.sums.Sums.{Sums}
 use Rattle.terms.specs.Kinds.{lanes_here}
 use Rattle.terms.proofs.lanes_here.Statement.{statement}
@@ -12,10 +12,10 @@ pub lanes_here_spec : {M : Type 1} → statement M
 unfolding lanes_here
 lanes_here_spec =
     tie.close (tie.spec
-    (λ c. search needs)  -- enum_told
-    (λ c. search needs) (λ c. search needs) (λ c. search needs) (λ c. search needs)
-    (λ c. let x = c.before.before.args in by_kind x.t x.s c.enum_told.given.1 refl)  -- returns
-    (λ c. let x = c.before.before.args in by_kind x.t x.s c.enum-told2.given.1 refl)  -- returns-2
-    (λ c. let x = c.before.before.args in by_kind x.t x.s c.enum-told3.given.1 refl)  -- returns-3
-    (λ c. let x = c.before.before.args in by_kind x.t x.s c.enum-told4.given.1 refl)  -- returns-4
-    (λ c. let x = c.before.before.args in by_kind x.t x.s c.enum-told5.given.1 refl))  -- returns-5
+    (λ c. search rules)  -- enum_told-1
+    (λ c. search rules) (λ c. search rules) (λ c. search rules) (λ c. search rules)
+    (λ c. let x = c.before.args in by_kind x.t x.s c.in-Full.is refl)  -- returns-in-Full
+    (λ c. let x = c.before.args in by_kind x.t x.s c.in-Causal.is refl)  -- returns-in-Causal
+    (λ c. let x = c.before.args in by_kind x.t x.s c.in-LesserAdvanced.is refl)  -- returns-in-LesserAdvanced
+    (λ c. let x = c.before.args in by_kind x.t x.s c.in-Lesser.is refl)  -- returns-in-Lesser
+    (λ c. let x = c.before.args in by_kind x.t x.s c.in-AntiCausal.is refl))  -- returns-5

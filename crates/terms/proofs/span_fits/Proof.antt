@@ -14,5 +14,5 @@ room_after points u places h =
 pub span_fits_spec : {M : Type 1} → statement M
 span_fits_spec =
     tie.close (tie.spec
-    (λ c. let x = c.before.args in rw (lt-leb (x.u + x.places) x.points (omega (arith, c.if1.true))))  -- returns
-    (λ c. let x = c.before.args in ap (λ (f : Bool). f && (ltb x.t x.points && leb x.points 256)) (room_after x.points x.u x.places c.if1.false)))  -- returns-2
+    (λ c. let x = c.before.args in rw (lt-leb (x.u + x.places) x.points (omega (arith, c.if-points-u.true))))  -- returns-then-points-u
+    (λ c. let x = c.before.args in ap (λ (f : Bool). f && (ltb x.t x.points && leb x.points 256)) (room_after x.points x.u x.places c.if-points-u.false)))  -- returns-2

@@ -1,5 +1,5 @@
 -- `transient_run::append` meets its contract: the points, cut at 256, and one more. Assumes nothing.
-use Rattle.lists.specs.Prelude.{◌≡◌, sym, ap, ◌∙◌, List, ℕ, ◌+◌, ◌≤◌, min-le_right, le-add_right, arith, Float, now, needs}
+use Rattle.lists.specs.Prelude.{◌≡◌, sym, ap, ◌∙◌, List, ℕ, ◌+◌, ◌≤◌, min-le_right, le-add_right, arith, Float, rules}
 use Rattle.transient_run.specs.Form.{form_of}
 use Rattle.transient_run.specs.Calls.{Run, run_of, booked}
 use Rattle.transient_run.specs.Ends.{answers, retardeds, lessers, kernels, lesser_advanceds}
@@ -11,15 +11,15 @@ pub append_spec : {M : Type 1} → statement M
 append_spec =
     tie.close
     (tie.spec
-    (λ c κs. search needs)  -- least-requires
-    (λ c. search needs)  -- add
-    (λ c κs. search needs)  -- solve-requires
-    (λ c. search needs) (λ c. search needs) (λ c. search needs) (λ c. search needs)  -- same-length .. same-length-4
+    (λ c κs. search rules)  -- least-old-requires
+    (λ c. search rules)  -- add
+    (λ c κs. search rules)  -- solve-requires
+    (λ c. search rules) (λ c. search rules) (λ c. search rules) (λ c. search rules)  -- shape_of-retarded .. shape_of-lesser_advanced
     (λ c.
     let v = c.before.before.before.before.before.before.before.before in
     let l = v.before.before.before.before.before in
     let x = l.before.before.before.before.before.before.before.before.before.before.args in
-    let e = append-cut (run_of (form_of x.initial (now x.g0)) x.session x.desk x.shape x.tolerance (now x.times) (now x.free) (now x.self-energy) (now x.lesser-self-energy) (now x.retarded) (now x.lesser) (now x.kernel) (now x.lesser-advanced))
+    let e = append-cut (run_of (form_of x.initial x.g0.now) x.session x.desk x.shape x.tolerance x.times.now x.free.now x.self-energy.now x.lesser-self-energy.now x.retarded.now x.lesser.now x.kernel.now x.lesser-advanced.now)
     l.least.result l.least.ensures in
     let o = v.solve.ensures in
     (o.0 ∙ answers e, o.1 ∙ ap (booked x.session x.desk) (answers e), o.2 ∙ retardeds e, o.3 ∙ lessers e, o.4 ∙ kernels e, o.5 ∙ lesser_advanceds e)))  -- returns

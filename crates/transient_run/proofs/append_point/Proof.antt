@@ -1,5 +1,5 @@
 -- `transient_run::append_point` meets its contract: it is the empty form of `append`. Assumes nothing.
-use Rattle.lists.specs.Prelude.{needs}
+use Rattle.lists.specs.Prelude.{rules}
 use Rattle.transient_run.specs.Form.{form_by}
 use Rattle.transient_run.proofs.append_point.Statement.{statement}
 use Rattle.transient_run.proofs.append_point.Tie as tie
@@ -12,6 +12,6 @@ pub append_point_spec : {M : Type 1} → statement M
 append_point_spec =
     tie.close
     (tie.spec
-    (λ c κs. search needs)  -- append-requires
-    (λ c. search needs) (λ c. search needs) (λ c. search needs) (λ c. search needs)  -- same-length .. same-length-4
+    (λ c κs. search rules)  -- append-requires
+    (λ c. search rules) (λ c. search rules) (λ c. search rules) (λ c. search rules)  -- shape_of-retarded .. shape_of-lesser_advanced
     returns)

@@ -1,25 +1,25 @@
 -- `transient_run::new_lesser` meets its contract: each form has its own sums. Assumes nothing.
-use Rattle.lists.specs.Prelude.{needs}
+use Rattle.lists.specs.Prelude.{rules}
 use Rattle.transient_run.specs.Form.{form_by}
 use Rattle.transient_run.specs.Steps.{lesser_outcome}
 use Rattle.transient_run.proofs.new_lesser.Statement.{statement}
 use Rattle.transient_run.proofs.new_lesser.Tie as tie
 
-returns : tie.Need-returns
+returns : tie.Need-returns-in-Empty
 unfolding form_by lesser_outcome
-returns c = let s = c.before.before in rw s.before.before.enum_told.given.1 s.new-sums.ensures
+returns c = let s = c.before.before in rw s.before.before.in-Empty.is s.new_sums.ensures
 
-returns-2 : tie.Need-returns-2
+returns-2 : tie.Need-returns-in-Occupied
 unfolding form_by lesser_outcome
-returns-2 c = let s = c.before.before in rw s.before.before.enum-told2.given.1 s.new-lesser-from.ensures
+returns-2 c = let s = c.before.before in rw s.before.before.in-Occupied.is s.new_lesser_from.ensures
 
 pub new_lesser_spec : {M : Type 1} → statement M
 new_lesser_spec =
     tie.close
     (tie.spec
-    (λ c. search needs) (λ c κs. search needs)  -- enum_told, new-sums-requires
-    (λ c. search needs) (λ c κs. search needs)  -- enum-told-2, new-lesser-from-requires
-    (λ c. search needs)  -- same-length
+    (λ c. search rules) (λ c κs. search rules)  -- enum_told-1, new_sums-requires
+    (λ c. search rules) (λ c κs. search rules)  -- enum_told-in-Occupied, new_lesser_from-requires
+    (λ c. search rules)  -- shape_of-out-in-Empty
     returns
-    (λ c. search needs)  -- same-length-2
+    (λ c. search rules)  -- shape_of-out-in-Occupied
     returns-2)

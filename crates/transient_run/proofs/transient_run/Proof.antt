@@ -1,5 +1,5 @@
 -- `transient_run::transient_run` meets its contract: it is the empty form of `run`. Assumes nothing.
-use Rattle.lists.specs.Prelude.{needs}
+use Rattle.lists.specs.Prelude.{rules}
 use Rattle.transient_run.specs.Form.{form_by}
 use Rattle.transient_run.proofs.transient_run.Statement.{statement}
 use Rattle.transient_run.proofs.transient_run.Tie as tie
@@ -12,6 +12,6 @@ pub transient_run_spec : {M : Type 1} → statement M
 transient_run_spec =
     tie.close
     (tie.spec
-    (λ c κs. search needs)  -- run-requires
-    (λ c. search needs) (λ c. search needs) (λ c. search needs) (λ c. search needs)  -- same-length .. same-length-4
+    (λ c κs. search rules)  -- run-requires
+    (λ c. search rules) (λ c. search rules) (λ c. search rules) (λ c. search rules)  -- shape_of-retarded .. shape_of-lesser_advanced
     returns)

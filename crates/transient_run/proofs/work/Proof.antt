@@ -1,5 +1,5 @@
 -- `transient_run::work` meets its contract: each step's answer says whether what it makes is finite. Assumes nothing.
-use Rattle.lists.specs.Prelude.{◌≡◌, refl, sym, ap, ap₂, ◌∙◌, Bool, true, false, cond, ◌&&◌, List, [], ◌∷◌, ℕ, leb, le-leb, arith, Float, now, needs, not-true, not-false}
+use Rattle.lists.specs.Prelude.{◌≡◌, refl, sym, ap, ap₂, ◌∙◌, Bool, true, false, cond, ◌&&◌, List, [], ◌∷◌, ℕ, leb, le-leb, arith, Float, rules, not-true, not-false}
 use Rattle.lists.specs.Agreement.{never}
 use Rattle.refusal.specs.declared.Verdict.TheVariants.{Pass}
 use Rattle.two_time.specs.declared.sums.Sums.TheVariants.{Causal, LesserAdvanced}
@@ -22,7 +22,7 @@ use Rattle.transient_run.proofs.work.Tie as tie
 abbrev run : tie.Start → Session → ℕ → Float → Run
 run s session desk tolerance =
     let x = s.args in
-    run_of (form_of x.initial (now x.g0)) session desk x.shape tolerance (now x.times) (now x.free) (now x.self-energy) (now x.lesser-self-energy) (now x.retarded) (now x.lesser) (now x.kernel) (now x.lesser-advanced)
+    run_of (form_of x.initial x.g0.now) session desk x.shape tolerance x.times.now x.free.now x.self-energy.now x.lesser-self-energy.now x.retarded.now x.lesser.now x.kernel.now x.lesser-advanced.now
 
 -- slices of their length pass the sizes that a step asks
 asked : (s : tie.Start) (slices : List (List Float)) → let x = s.args in SizesPassed x.shape.capacity x.shape.orbitals true slices
@@ -34,8 +34,8 @@ abbrev cleared : tie.Start → List Float → List Float
 cleared s = let x = s.args in cleared_new x.shape.capacity x.shape.orbitals x.old x.shape.points
 
 -- K and G^R, by the first answer
-module _ (session : Session) (desk : ℕ) (tolerance : Float) (f : tie.After-is-finite) where
-  abbrev solved : tie.After-solve-new
+module _ (session : Session) (desk : ℕ) (tolerance : Float) (f : tie.After-is_finite) where
+  abbrev solved : tie.After-solve_new
   solved = f.before.before.before.before.before
 
   abbrev s : tie.Start
@@ -45,74 +45,74 @@ module _ (session : Session) (desk : ℕ) (tolerance : Float) (f : tie.After-is-
   r = run s session desk tolerance
 
   abbrev retarded : List Float
-  retarded = solved.solve-new.last.1.1.1.1.1.0
+  retarded = solved.solve_new.last.1.1.1.1.1.0
 
   abbrev kernel : List Float
-  kernel = solved.solve-new.last.1.1.1.1.1.1.0
+  kernel = solved.solve_new.last.1.1.1.1.1.1.0
 
   retardeds : (ok : Bool) → ok ≡ f.is_finite.result → let x = s.args in
-      (retarded_is_finite x.old x.shape.points r ≡ ok) × (retarded ≡ cond ok (retarded_made x.old x.shape.points r) (cleared s (now x.retarded)))
-      × (kernel ≡ cond ok (kernel_made x.old x.shape.points r) (cleared s (now x.kernel)))
+      (retarded_is_finite x.old x.shape.points r ≡ ok) × (retarded ≡ cond ok (retarded_made x.old x.shape.points r) (cleared s x.retarded.now))
+      × (kernel ≡ cond ok (kernel_made x.old x.shape.points r) (cleared s x.kernel.now))
   retardeds ok e =
       let x = s.args in
-      let z = s.pre.3 in
+      let z = s.requires.3 in
       let l = lengths z in
-      solved_new_said x.shape.capacity x.shape.orbitals x.old x.shape.points (now x.times) (now x.free) (now x.self-energy) (now x.retarded) (now x.kernel)
-      (asked s _ (also_asked l.0 (also_asked l.1.0 (also_asked l.1.1.1.0 (also_asked l.1.1.1.1.1.0 (none-asked z)))))) solved.solve-new.ensures ok (e ∙ f.is_finite.ensures)
+      solved_new_said x.shape.capacity x.shape.orbitals x.old x.shape.points x.times.now x.free.now x.self-energy.now x.retarded.now x.kernel.now
+      (asked s _ (also_asked l.0 (also_asked l.1.0 (also_asked l.1.1.1.0 (also_asked l.1.1.1.1.1.0 (none-asked z)))))) solved.solve_new.ensures ok (e ∙ f.is_finite.ensures)
 
   -- both are cleared to what they were
-  retardeds_gone : (cleared s retarded ≡ cleared s (now s.args.retarded)) × (cleared s kernel ≡ cleared s (now s.args.kernel))
+  retardeds_gone : (cleared s retarded ≡ cleared s s.args.retarded.now) × (cleared s kernel ≡ cleared s s.args.kernel.now)
   retardeds_gone =
       let x = s.args in
       let t = retardeds f.is_finite.result refl in (
-        retarded-cleared x.shape.capacity x.shape.orbitals x.old x.shape.points (now x.times) (now x.free) (kernel_made x.old x.shape.points r) (now x.retarded) f.is_finite.result t.1,
-        sums_cleared x.shape.capacity x.shape.orbitals x.old x.shape.points Causal (now x.times) (now x.free) (now x.self-energy) (now x.kernel) f.is_finite.result t.2,
+        retarded-cleared x.shape.capacity x.shape.orbitals x.old x.shape.points x.times.now x.free.now (kernel_made x.old x.shape.points r) x.retarded.now f.is_finite.result t.1,
+        sums_cleared x.shape.capacity x.shape.orbitals x.old x.shape.points Causal x.times.now x.free.now x.self-energy.now x.kernel.now f.is_finite.result t.2,
       )
 
-returns : tie.Need-returns
+returns : tie.Need-returns-then-not-is_finite
 returns c session desk tolerance =
     let f = c.before in
     let gone = retardeds_gone session desk tolerance f in
-    (retarded-fails _ _ (r session desk tolerance f) (retardeds session desk tolerance f false (sym (not-true _ c.if1.true))).0, λ h. never h, gone.0, refl, gone.1, refl)
+    (retarded-fails _ _ (r session desk tolerance f) (retardeds session desk tolerance f false (sym (not-true _ c.if-not-is_finite.true-raw))).0, λ h. never h, gone.0, refl, gone.1, refl)
 
 -- X, by the second
-module _ (session : Session) (desk : ℕ) (tolerance : Float) (f₂ : tie.After-is-finite2) where
-  abbrev summed : tie.After-new-sums
+module _ (session : Session) (desk : ℕ) (tolerance : Float) (f₂ : tie.After-is_finite-2) where
+  abbrev summed : tie.After-new_sums
   summed = f₂.before.before.before
 
-  abbrev else1 : tie.Else1
+  abbrev else1 : tie.Else-not-is_finite
   else1 = summed.before.before.before
 
-  abbrev f : tie.After-is-finite
+  abbrev f : tie.After-is_finite
   f = else1.before
 
   first : let x = (s session desk tolerance f).args in (retarded_is_finite x.old x.shape.points (r session desk tolerance f) ≡ true) × (retarded session desk tolerance f ≡ retarded_made x.old x.shape.points (r session desk tolerance f)) × (kernel session desk tolerance f ≡ kernel_made x.old x.shape.points (r session desk tolerance f))
-  first = retardeds session desk tolerance f true (sym (not-false _ else1.if1.left))
+  first = retardeds session desk tolerance f true (sym (not-false _ else1.if-not-is_finite.left))
 
   abbrev lesser_advanced : List Float
-  lesser_advanced = summed.new-sums.last.1.1.1.1.1.1.0
+  lesser_advanced = summed.new_sums.last.1.1.1.1.1.1.0
 
-  lesser_advanced_made_lem : (ok : Bool) → ok ≡ f₂.is-finite2.result → let x = (s session desk tolerance f).args in
-      (new_finite LesserAdvanced x.shape.capacity x.shape.orbitals x.old x.shape.points (now x.times) (now x.lesser-self-energy) (retarded session desk tolerance f) ≡ ok)
-      × (lesser_advanced ≡ cond ok (new_numbers LesserAdvanced x.shape.capacity x.shape.orbitals x.old x.shape.points (now x.times) (now x.lesser-self-energy) (retarded session desk tolerance f) (now x.lesser-advanced)) (cleared (s session desk tolerance f) (now x.lesser-advanced)))
+  lesser_advanced_made_lem : (ok : Bool) → ok ≡ f₂.is_finite-2.result → let x = (s session desk tolerance f).args in
+      (new_finite LesserAdvanced x.shape.capacity x.shape.orbitals x.old x.shape.points x.times.now x.lesser-self-energy.now (retarded session desk tolerance f) ≡ ok)
+      × (lesser_advanced ≡ cond ok (new_numbers LesserAdvanced x.shape.capacity x.shape.orbitals x.old x.shape.points x.times.now x.lesser-self-energy.now (retarded session desk tolerance f) x.lesser-advanced.now) (cleared (s session desk tolerance f) x.lesser-advanced.now))
   lesser_advanced_made_lem ok e =
       let x = (s session desk tolerance f).args in
-      let z = (s session desk tolerance f).pre.3 in
+      let z = (s session desk tolerance f).requires.3 in
       let l = lengths z in
       let long = (solved session desk tolerance f).solve-new.kept.1.1.1.1.1.0 in
-      new_sums_said LesserAdvanced x.shape.capacity x.shape.orbitals x.old x.shape.points (now x.times) (now x.lesser-self-energy) (retarded session desk tolerance f) (now x.lesser-advanced)
-      (asked (s session desk tolerance f) _ (also_asked l.1.1.0 (also_asked (long ∙ l.1.1.1.0) (also_asked l.1.1.1.1.1.1.0 (none-asked z))))) summed.new-sums.ensures ok (e ∙ f₂.is-finite2.ensures)
+      new_sums_said LesserAdvanced x.shape.capacity x.shape.orbitals x.old x.shape.points x.times.now x.lesser-self-energy.now (retarded session desk tolerance f) x.lesser-advanced.now
+      (asked (s session desk tolerance f) _ (also_asked l.1.1.0 (also_asked (long ∙ l.1.1.1.0) (also_asked l.1.1.1.1.1.1.0 (none-asked z))))) summed.new_sums.ensures ok (e ∙ f₂.is_finite-2.ensures)
 
-  lesser_advanced_gone : let x = (s session desk tolerance f).args in cleared (s session desk tolerance f) lesser_advanced ≡ cleared (s session desk tolerance f) (now x.lesser-advanced)
+  lesser_advanced_gone : let x = (s session desk tolerance f).args in cleared (s session desk tolerance f) lesser_advanced ≡ cleared (s session desk tolerance f) x.lesser-advanced.now
   lesser_advanced_gone =
       let x = (s session desk tolerance f).args in
-      sums_cleared x.shape.capacity x.shape.orbitals x.old x.shape.points LesserAdvanced (now x.times) (now x.lesser-self-energy) (retarded session desk tolerance f) (now x.lesser-advanced) f₂.is-finite2.result (lesser_advanced_made_lem f₂.is-finite2.result refl).1
+      sums_cleared x.shape.capacity x.shape.orbitals x.old x.shape.points LesserAdvanced x.times.now x.lesser-self-energy.now (retarded session desk tolerance f) x.lesser-advanced.now f₂.is_finite-2.result (lesser_advanced_made_lem f₂.is_finite-2.result refl).1
 
-returns-2 : tie.Need-returns-2
+returns-2 : tie.Need-returns-then-not-is_finite-2
 returns-2 c session desk tolerance =
     let f₂ = c.before in
     let gone = retardeds_gone session desk tolerance (f session desk tolerance f₂) in (
-      lesser_advanced-fails _ _ (r session desk tolerance (f session desk tolerance f₂)) (first session desk tolerance f₂).0 (first session desk tolerance f₂).1 (lesser_advanced_made_lem session desk tolerance f₂ false (sym (not-true _ c.if2.true))).0,
+      lesser_advanced-fails _ _ (r session desk tolerance (f session desk tolerance f₂)) (first session desk tolerance f₂).0 (first session desk tolerance f₂).1 (lesser_advanced_made_lem session desk tolerance f₂ false (sym (not-true _ c.if-not-is_finite-2.true-raw))).0,
       λ h. never h,
       gone.0,
       refl,
@@ -121,7 +121,7 @@ returns-2 c session desk tolerance =
     )
 
 -- G^<, by the last
-returns-3 : tie.Need-returns-3
+returns-3 : tie.Need-returns
 returns-3 c session desk tolerance =
     let w = c.before.before.before in
     let e = w.before.before.before.before in
@@ -129,22 +129,22 @@ returns-3 c session desk tolerance =
     let g = f session desk tolerance f₂ in
     let t = s session desk tolerance g in
     let y = t.args in
-    let z = t.pre.3 in
+    let z = t.requires.3 in
     let l = lengths z in
     let retarded-long = (solved session desk tolerance g).solve-new.kept.1.1.1.1.1.0 in
     let lesser-advanced-long = (summed session desk tolerance f₂).new-sums.auto.1.1.1.1.1.1.0 in
     let one = first session desk tolerance f₂ in
     let m = lesser_advanced_made_lem session desk tolerance f₂ true (sym (not-false _ e.if2.false)) in
-    let numbers : List Float → List Float = λ xs. new_numbers LesserAdvanced y.shape.capacity y.shape.orbitals y.old y.shape.points (now y.times) (now y.lesser-self-energy) xs (now y.lesser-advanced) in
+    let numbers : List Float → List Float = λ xs. new_numbers LesserAdvanced y.shape.capacity y.shape.orbitals y.old y.shape.points y.times.now y.lesser-self-energy.now xs y.lesser-advanced.now in
     let made = m.1 ∙ ap numbers one.1 in
-    let form = form_of y.initial (now y.g0) in
-    let o = lesser_said y.shape.capacity y.shape.orbitals y.old y.shape.points (now y.times) (retarded session desk tolerance g) (lesser_advanced session desk tolerance f₂) (now y.lesser)
-    (asked t _ (also_asked (retarded-long ∙ l.1.1.1.0) (also_asked (lesser-advanced-long ∙ l.1.1.1.1.1.1.0) (also_asked l.1.1.1.1.0 (none-asked z))))) form t.pre.2 w.new-lesser.ensures c.is-finite3.result c.is-finite3.ensures in
+    let form = form_of y.initial y.g0.now in
+    let o = lesser_said y.shape.capacity y.shape.orbitals y.old y.shape.points y.times.now (retarded session desk tolerance g) (lesser_advanced session desk tolerance f₂) y.lesser.now
+    (asked t _ (also_asked (retarded-long ∙ l.1.1.1.0) (also_asked (lesser-advanced-long ∙ l.1.1.1.1.1.1.0) (also_asked l.1.1.1.1.0 (none-asked z))))) form t.requires.2 w.new_lesser.ensures c.is_finite-3.result c.is_finite-3.ensures in
     let gone = retardeds_gone session desk tolerance g in (
       lesser_says _ _ (r session desk tolerance g) one.0 one.1 m.0 made o.0,
-      λ h. (one.1, (rw h at o.1) ∙ ap₂ (λ (xs ys : List Float). new_lesser_numbers (start_of form y.shape.capacity y.shape.orbitals xs) y.shape.capacity y.shape.orbitals y.old y.shape.points (now y.times) xs ys (now y.lesser)) one.1 made, one.2, made),
+      λ h. (one.1, (rw h at o.1) ∙ ap₂ (λ (xs ys : List Float). new_lesser_numbers (start_of form y.shape.capacity y.shape.orbitals xs) y.shape.capacity y.shape.orbitals y.old y.shape.points y.times.now xs ys y.lesser.now) one.1 made, one.2, made),
       gone.0,
-      lesser-cleared y.shape.capacity y.shape.orbitals y.old y.shape.points (start_of form y.shape.capacity y.shape.orbitals (retarded session desk tolerance g)) (now y.times) (retarded session desk tolerance g) (lesser_advanced session desk tolerance f₂) (now y.lesser) c.is-finite3.result o.1,
+      lesser-cleared y.shape.capacity y.shape.orbitals y.old y.shape.points (start_of form y.shape.capacity y.shape.orbitals (retarded session desk tolerance g)) y.times.now (retarded session desk tolerance g) (lesser_advanced session desk tolerance f₂) y.lesser.now c.is_finite-3.result o.1,
       gone.1,
       lesser_advanced_gone session desk tolerance f₂,
     )
@@ -153,21 +153,21 @@ pub work_spec : {M : Type 1} → statement M
 work_spec =
     tie.close
     (tie.spec
-    (λ c κs. search needs)  -- solve-new-requires
-    (λ c κs. search needs)  -- is-finite-requires
-    (λ c. search needs)  -- same-length
-    (λ c. search needs)  -- same-length-2
+    (λ c κs. search rules)  -- solve_new-requires
+    (λ c κs. search rules)  -- is_finite-requires
+    (λ c. search rules)  -- shape_of-retarded-then-not-is_finite
+    (λ c. search rules)  -- shape_of-kernel-then-not-is_finite
     returns
-    (λ c κs. search needs)  -- new-sums-requires
-    (λ c κs. search needs)  -- is-finite-requires-2
-    (λ c. search needs)  -- same-length-3
-    (λ c. search needs)  -- same-length-4
-    (λ c. search needs)  -- same-length-5
+    (λ c κs. search rules)  -- new_sums-requires
+    (λ c κs. search rules)  -- is_finite-requires-2
+    (λ c. search rules)  -- shape_of-retarded-then-not-is_finite-2
+    (λ c. search rules)  -- shape_of-kernel-then-not-is_finite-2
+    (λ c. search rules)  -- shape_of-lesser_advanced-then-not-is_finite-2
     returns-2
-    (λ c κs. search needs)  -- new-lesser-requires
-    (λ c κs. search needs)  -- is-finite-requires-3
-    (λ c. search needs)  -- same-length-6
-    (λ c. search needs)  -- same-length-7
-    (λ c. search needs)  -- same-length-8
-    (λ c. search needs)  -- same-length-9
+    (λ c κs. search rules)  -- new_lesser-requires
+    (λ c κs. search rules)  -- is_finite-requires-3
+    (λ c. search rules)  -- shape_of-retarded
+    (λ c. search rules)  -- shape_of-lesser
+    (λ c. search rules)  -- shape_of-kernel
+    (λ c. search rules)  -- shape_of-lesser_advanced
     returns-3)

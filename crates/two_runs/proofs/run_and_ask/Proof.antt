@@ -3,24 +3,24 @@ use Rattle.two_runs.specs.Demand.{one-step, one-answered}
 use Rattle.two_runs.proofs.run_and_ask.Statement.{statement}
 use Rattle.two_runs.proofs.run_and_ask.Tie as tie
 
-abbrev ran : tie.After-bond-flow-into → tie.After-run-by
+abbrev ran : tie.After-bond_flow_into-flow → tie.After-run_by-run
 ran c = c.before.before.before.before.before.before.before.before.before.before.before.before.before.before.before
 
 returns : tie.Need-returns
 returns c =
-    one-answered _ _ _ _ (one-step _ _ (ran c).run_by.ensures) c.before.before.before.before.particle-number.ensures
-    c.before.before.one-body-expectation.ensures c.bond-flow-into.ensures
+    one-answered _ _ _ _ (one-step _ _ (ran c).run_by-run.ensures) c.before.before.before.before.particle-number.ensures
+    c.before.before.one-body-expectation.ensures c.bond_flow_into-flow.ensures
 
 pub run_and_ask_spec : {M : Type 1} → statement M
 run_and_ask_spec =
     tie.close
     (tie.spec
-    (λ c κs. tt)  -- run-by-requires
-    (λ c κs. tt)  -- particle-number-requires
-    (λ c κs. tt)  -- one-body-expectation-requires
-    (λ c κs. tt)  -- bond-flow-into-requires
-    (λ c. (ran c).run_by.auto.1.1.1.1.1.1.1.1.1.0)  -- same-length
-    (λ c. (ran c).run_by.auto.1.1.1.1.1.1.1.1.1.1.0)  -- same-length-2
-    (λ c. (ran c).run_by.auto.1.1.1.1.1.1.1.1.1.1.1.0)  -- same-length-3
-    (λ c. (ran c).run_by.auto.1.1.1.1.1.1.1.1.1.1.1.1.0)  -- same-length-4
+    (λ c κs. tt)  -- run_by-run-requires
+    (λ c κs. tt)  -- particle_number-number-requires
+    (λ c κs. tt)  -- one_body_expectation-expectation-requires
+    (λ c κs. tt)  -- bond_flow_into-flow-requires
+    (λ c. (ran c).run_by-run.auto.retarded)  -- shape_of-retarded
+    (λ c. (ran c).run_by-run.auto.lesser)  -- shape_of-lesser
+    (λ c. (ran c).run_by-run.auto.kernel)  -- shape_of-kernel
+    (λ c. (ran c).run_by-run.auto.lesser_advanced)  -- shape_of-lesser_advanced
     returns)

@@ -3,24 +3,24 @@ use Rattle.two_runs.specs.Demand.{blind}
 use Rattle.two_runs.proofs.two_runs.Statement.{statement}
 use Rattle.two_runs.proofs.two_runs.Tie as tie
 
-abbrev second : tie.After-slice-known16 → tie.After-run-and-ask2
+abbrev second : tie.After-slice_known-16-1 → tie.After-run_and_ask-second
 second c = c.before.before.before.before.before.before.before.before
 
-abbrev first : tie.After-slice-known16 → tie.After-run-and-ask
+abbrev first : tie.After-slice_known-16-1 → tie.After-run_and_ask-first
 first c = (second c).before.before.before.before.before.before.before.before.before.before.before.before.before
 
 pub two_runs_spec : {M : Type 1} → statement M
 two_runs_spec =
     tie.close
     (tie.spec
-    (λ c κs. tt)  -- run-and-ask-requires
-    (λ c κs. tt)  -- run-and-ask-requires-2
-    (λ c. (first c).run-and-ask.auto.1.1.1.1.1.1.1.1.1.0)  -- same-length
-    (λ c. (first c).run-and-ask.auto.1.1.1.1.1.1.1.1.1.1.0)  -- same-length-2
-    (λ c. (first c).run-and-ask.auto.1.1.1.1.1.1.1.1.1.1.1.0)  -- same-length-3
-    (λ c. (first c).run-and-ask.auto.1.1.1.1.1.1.1.1.1.1.1.1.0)  -- same-length-4
-    (λ c. (second c).run-and-ask2.auto.1.1.1.1.1.1.1.1.1.0)  -- same-length-5
-    (λ c. (second c).run-and-ask2.auto.1.1.1.1.1.1.1.1.1.1.0)  -- same-length-6
-    (λ c. (second c).run-and-ask2.auto.1.1.1.1.1.1.1.1.1.1.1.0)  -- same-length-7
-    (λ c. (second c).run-and-ask2.auto.1.1.1.1.1.1.1.1.1.1.1.1.0)  -- same-length-8
-    (λ c. blind (first c).run-and-ask.ensures (second c).run-and-ask2.ensures))  -- returns
+    (λ c κs. tt)  -- run_and_ask-first-requires
+    (λ c κs. tt)  -- run_and_ask-second-requires
+    (λ c. (first c).run_and_ask-first.auto.retarded)  -- shape_of-retarded
+    (λ c. (first c).run_and_ask-first.auto.lesser)  -- shape_of-lesser
+    (λ c. (first c).run_and_ask-first.auto.kernel)  -- shape_of-kernel
+    (λ c. (first c).run_and_ask-first.auto.lesser_advanced)  -- shape_of-lesser_advanced
+    (λ c. (second c).run_and_ask-second.auto.retarded)  -- shape_of-retarded2
+    (λ c. (second c).run_and_ask-second.auto.lesser)  -- shape_of-lesser2
+    (λ c. (second c).run_and_ask-second.auto.kernel)  -- shape_of-kernel2
+    (λ c. (second c).run_and_ask-second.auto.lesser_advanced)  -- shape_of-lesser_advanced2
+    (λ c. blind (first c).run_and_ask-first.ensures (second c).run_and_ask-second.ensures))  -- returns

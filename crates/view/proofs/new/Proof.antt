@@ -12,7 +12,7 @@ use types.Logic.{Logic, sem}
 use contract.Lifetimes.{Lfts, Shares, toks}
 use contract.Monad.{Fun, fact_i}
 use contract.Running.{tables, tables_of}
-use types.Kit.{‵, raw, ◌$◌, ◌∵◌, !, qed, by, move, use1, join, frame, updating, now as at_once, show}
+use types.Kit.{‵, raw, ◌$◌, ◌∵◌, !, qed, by, move, use1, join, frame, updating, as.now at_once, show}
 use types.Part.{agg}
 use types.Run.{look, init, forget, stop, from, load, and_then, no_more, assigns, returns, enter, alloc1, alloc0, params1, pass1, pass0, free1, free0}
 use denote.RattleType.{owns, flat}

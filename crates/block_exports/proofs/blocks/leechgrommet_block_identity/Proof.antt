@@ -1,10 +1,10 @@
 -- `block_exports::blocks::leechgrommet_block_identity` meets its contract: the block that is made is written. Assumes nothing.
-use Rattle.lists.specs.Prelude.{needs}
+use Rattle.lists.specs.Prelude.{rules}
 use Rattle.block_exports.proofs.blocks.leechgrommet_block_identity.Statement.{statement}
 use Rattle.block_exports.proofs.blocks.leechgrommet_block_identity.Tie as tie
 
 pub leechgrommet_block_identity_spec : {M : Type 1} → statement M
 leechgrommet_block_identity_spec =
-    tie.close (tie.spec (search needs) (search needs) (λ c. search needs) (λ c. search needs) (λ c. search needs) (λ c. search needs)
+    tie.close (tie.spec (search rules) (search rules) (λ c. search rules) (λ c. search rules) (λ c. search rules) (λ c. search rules)
     (λ c. let t = c.before.before.before.before.before.before.before.before in let m = t.before.before.before.before.before in
-    rw m.identity.ensures at t.write-block.ensures))
+    rw m.identity-made.ensures at t.write_block.ensures))

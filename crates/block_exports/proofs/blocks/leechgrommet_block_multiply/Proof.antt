@@ -1,10 +1,10 @@
 -- `block_exports::blocks::leechgrommet_block_multiply` meets its contract: the block that is made is written. Assumes nothing.
-use Rattle.lists.specs.Prelude.{needs}
+use Rattle.lists.specs.Prelude.{rules}
 use Rattle.block_exports.proofs.blocks.leechgrommet_block_multiply.Statement.{statement}
 use Rattle.block_exports.proofs.blocks.leechgrommet_block_multiply.Tie as tie
 
 pub leechgrommet_block_multiply_spec : {M : Type 1} → statement M
 leechgrommet_block_multiply_spec =
-    tie.close (tie.spec (search needs) (search needs) (search needs) (search needs) (λ c. search needs) (λ c. search needs) (λ c. search needs) (λ c. search needs)
+    tie.close (tie.spec (search rules) (search rules) (search rules) (search rules) (λ c. search rules) (λ c. search rules) (λ c. search rules) (λ c. search rules)
     (λ c. let t = c.before.before.before.before.before.before.before.before in let m = t.before.before.before.before.before in
-    rw (m.multiply.ensures, m.before.block2.ensures, m.before.before.block.ensures) at t.write-block.ensures))
+    rw (m.multiply-made.ensures, m.before.block-b.ensures, m.before.before.block-a.ensures) at t.write_block.ensures))

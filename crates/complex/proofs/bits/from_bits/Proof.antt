@@ -1,6 +1,6 @@
 -- `complex::bits::from_bits` meets its contract: above infinity's pattern stand the NaNs', and what reaches `from_bits` is none of
 -- them. Assumes nothing.
-use Rattle.lists.specs.Prelude.{◌≡◌, refl, sym, ◌∙◌, subst, Bool, ℕ, ◌<◌, ◌*◌, ◌%◌, ◌^◌, T, lt→ltb, Float, nan, inf, fin, binary64, is_nan, of_bits, needs}
+use Rattle.lists.specs.Prelude.{◌≡◌, refl, sym, ◌∙◌, subst, Bool, ℕ, ◌<◌, ◌*◌, ◌%◌, ◌^◌, T, lt→ltb, Float, nan, inf, fin, binary64, is_nan, of_bits, rules}
 use lib.Ieee as Ieee
 use lib.Ieee.Bits.{nan_bits_above, nan_bits_is}
 use Rattle.complex.specs.Bits.{at-most-infinity}
@@ -25,6 +25,6 @@ pub from_bits_spec : {M : Type 1} → statement M
 from_bits_spec =
     tie.close
     (tie.spec
-    (λ c. no_number ∙ sym (above-infinity c.before.args.bits c.if1.true))  -- returns
-    (λ c. at-most-infinity c.before.args.bits c.if1.false)  -- float-from-bits-result
-    (λ c. search needs))  -- returns-2
+    (λ c. no_number ∙ sym (above-infinity c.before.args.bits c.if-bits-gt9218868437227405312.true))  -- returns-then-bits-gt9218868437227405312
+    (λ c. at-most-infinity c.before.args.bits c.if-bits-gt9218868437227405312.false)  -- float_from_bits-result
+    (λ c. search rules))  -- returns-2

@@ -13,6 +13,6 @@ pub to_bits_spec : {M : Type 1} → statement M
 to_bits_spec =
     tie.close
     (tie.spec
-    (λ c. quiet c.before.args.x (differs_from_itself c.before.args.x (subst T (sym c.if1.true) tt)))  -- returns
-    (λ c. equals_itself c.before.args.x c.if1.false)  -- float-to-bits-result
+    (λ c. quiet c.before.args.x (differs_from_itself c.before.args.x (subst T (sym c.if-x.true) tt)))  -- returns-then-x
+    (λ c. equals_itself c.before.args.x c.if-x.false)  -- float_to_bits-result
     (λ c. refl))  -- returns-2

@@ -10,8 +10,8 @@ at c = within c.requires
 pub place_spec : {M : Type 1} → statement M
 place_spec =
     tie.close (tie.spec
-    (λ c. let w = at c in omega arith) (λ c. let w = at c in omega arith) (λ c. let w = at c in omega arith)  -- mul-result, add-result, mul-result-2
-    (λ c. let w = at c in let p = c.requires in omega arith)  -- add-result-2
-    (λ c. let w = at c in omega arith)  -- mul-result-3
-    (λ c. let w = at c in let p = c.requires in omega arith) (λ c. let w = at c in let p = c.requires in omega arith)  -- add-result-3, mul-result-4
+    (λ c. let w = at c in omega arith) (λ c. let w = at c in omega arith) (λ c. let w = at c in omega arith)  -- overflow_mul-result, overflow_add-result, overflow_mul-result-2
+    (λ c. let w = at c in let p = c.requires in omega arith)  -- overflow_add-result-2
+    (λ c. let w = at c in omega arith)  -- overflow_mul-result-3
+    (λ c. let w = at c in let p = c.requires in omega arith) (λ c. let w = at c in let p = c.requires in omega arith)  -- overflow_add-result-3, overflow_mul-result-4
     (λ c. (refl, (at c).inside)))  -- returns

@@ -1,5 +1,5 @@
 -- `langreth::components::work` meets its contract: each step's answer says whether what it makes is finite. Assumes nothing.
-use Rattle.lists.specs.Prelude.{sym, ◌∙◌, arith, needs, not-true, not-false}
+use Rattle.lists.specs.Prelude.{sym, ◌∙◌, arith, rules, not-true, not-false}
 use Rattle.lists.specs.Agreement.{never}
 use Rattle.langreth.specs.Calls.{components_of}
 use Rattle.langreth.specs.Finite.{lesser-fails, greater-fails, retarded-fails, advanced_says}
@@ -7,17 +7,17 @@ use Rattle.two_time.specs.Lengths.{lengths, none-asked, also_asked}
 use Rattle.langreth.proofs.components.work.Statement.{statement}
 use Rattle.langreth.proofs.components.work.Tie as tie
 
-abbrev start : tie.After-correlation-arg2 → tie.Start
+abbrev start : tie.After-correlation-arg-2-1 → tie.Start
 start c = c.before.before.before.before.before.before.before.before.before.before.before.before.before.before.before
 
 -- the steps before each place
-abbrev first : tie.Else1 → tie.After-correlation
+abbrev first : tie.Else-not-correlation → tie.After-correlation
 first c = c.before.before.before.before.before
 
-abbrev second : tie.Else2 → tie.After-correlation2
+abbrev second : tie.Else-not-correlation-2 → tie.After-correlation-2
 second c = c.before.before.before.before.before
 
-abbrev third : tie.Else3 → tie.After-convolve
+abbrev third : tie.Else-not-convolve → tie.After-convolve
 third c = c.before.before.before
 
 correlation-requires : tie.Need-correlation-requires
@@ -31,7 +31,7 @@ correlation_requires_2 c κs =
     let s = first c.before.before in
     let z = (start s.before).requires in
     let l = lengths z in
-    let scratch = s.correlation.kept.1.1.1.1.1.1.1.1.0 in
+    let scratch = s.correlation.auto.scratch in
     also_asked (omega arith) (also_asked (omega arith) (also_asked (omega arith) (also_asked (omega arith) (also_asked (omega arith) (also_asked (omega arith) (none-asked z))))))
 
 convolve-requires : tie.Need-convolve-requires
@@ -48,16 +48,16 @@ convolve_requires_2 c κs =
     let scratch = w.correlation2.kept.1.1.1.1.1.1.1.1.0 in
     also_asked (omega arith) (also_asked (omega arith) (also_asked (omega arith) (none-asked z)))
 
-returns : tie.Need-returns
-returns c = (lesser-fails _ _ _ _ _ (sym c.before.before.before.before.before.correlation.ensures.0 ∙ not-true _ c.if1.true), λ h. never h)
+returns : tie.Need-returns-then-not-correlation
+returns c = (lesser-fails _ _ _ _ _ (sym c.before.before.before.before.before.correlation.ensures.0 ∙ not-true _ c.if-not-correlation.true-raw), λ h. never h)
 
-returns-2 : tie.Need-returns-2
-returns-2 c = (greater-fails _ _ _ _ _ (sym c.before.before.before.before.before.correlation2.ensures.0 ∙ not-true _ c.if2.true), λ h. never h)
+returns-2 : tie.Need-returns-then-not-correlation-2
+returns-2 c = (greater-fails _ _ _ _ _ (sym c.before.before.before.before.before.correlation-2.ensures.0 ∙ not-true _ c.if-not-correlation-2.true-raw), λ h. never h)
 
-returns-3 : tie.Need-returns-3
-returns-3 c = (retarded-fails _ _ _ _ _ (sym c.before.before.before.convolve.ensures.0 ∙ not-true _ c.if3.true), λ h. never h)
+returns-3 : tie.Need-returns-then-not-convolve
+returns-3 c = (retarded-fails _ _ _ _ _ (sym c.before.before.before.convolve.ensures.0 ∙ not-true _ c.if-not-convolve.true-raw), λ h. never h)
 
-returns-4 : tie.Need-returns-4
+returns-4 : tie.Need-returns
 returns-4 c =
     let last = c.before.before in
     let e3 = last.before.before in
@@ -66,11 +66,11 @@ returns-4 c =
     let s2 = second e2 in
     let e1 = s2.before.before.before in
     let s1 = first e1 in
-    let one = not-false _ e1.if1.left in
-    let two = not-false _ e2.if2.left in
-    let three = not-false _ e3.if3.false in (
-      advanced_says _ _ _ _ _ (sym s1.correlation.ensures.0 ∙ one) (sym s2.correlation2.ensures.0 ∙ two) (sym s3.convolve.ensures.0 ∙ three) last.convolve2.ensures.0,
-      λ h i. components_of (s3.convolve.ensures.1 three i) (last.convolve2.ensures.1 h i) (s1.correlation.ensures.1 one i) (s2.correlation2.ensures.1 two i),
+    let one = not-false _ e1.if-not-correlation.false-raw in
+    let two = not-false _ e2.if-not-correlation-2.false-raw in
+    let three = not-false _ e3.if-not-convolve.false-raw in (
+      advanced_says _ _ _ _ _ (sym s1.correlation.ensures.0 ∙ one) (sym s2.correlation-2.ensures.0 ∙ two) (sym s3.convolve.ensures.0 ∙ three) last.convolve-2.ensures.0,
+      λ h i. components_of (s3.convolve.ensures.1 three i) (last.convolve-2.ensures.1 h i) (s1.correlation.ensures.1 one i) (s2.correlation-2.ensures.1 two i),
     )
 
 pub work_spec : {M : Type 1} → statement M
@@ -78,23 +78,23 @@ work_spec =
     tie.close
     (tie.spec
     correlation-requires
-    (λ c. search needs)  -- same-length
-    (λ c. search needs)  -- same-length-2
+    (λ c. search rules)  -- shape_of-lesser-then-not-correlation
+    (λ c. search rules)  -- shape_of-greater-then-not-correlation
     returns
     correlation_requires_2
-    (λ c. search needs)  -- same-length-3
-    (λ c. search needs)  -- same-length-4
-    (λ c. search needs)  -- same-length-5
+    (λ c. search rules)  -- shape_of-advanced-then-not-correlation-2
+    (λ c. search rules)  -- shape_of-lesser-then-not-correlation-2
+    (λ c. search rules)  -- shape_of-greater-then-not-correlation-2
     returns-2
     convolve-requires
-    (λ c. search needs)  -- same-length-6
-    (λ c. search needs)  -- same-length-7
-    (λ c. search needs)  -- same-length-8
-    (λ c. search needs)  -- same-length-9
+    (λ c. search rules)  -- shape_of-retarded-then-not-convolve
+    (λ c. search rules)  -- shape_of-advanced-then-not-convolve
+    (λ c. search rules)  -- shape_of-lesser-then-not-convolve
+    (λ c. search rules)  -- shape_of-greater-then-not-convolve
     returns-3
     convolve_requires_2
-    (λ c. search needs)  -- same-length-10
-    (λ c. search needs)  -- same-length-11
-    (λ c. search needs)  -- same-length-12
-    (λ c. search needs)  -- same-length-13
+    (λ c. search rules)  -- shape_of-retarded
+    (λ c. search rules)  -- shape_of-advanced
+    (λ c. search rules)  -- shape_of-lesser
+    (λ c. search rules)  -- shape_of-greater
     returns-4)

@@ -1,5 +1,5 @@
 -- `matrix::DenseMatrix::add` meets its contract, which is `alike`'s at its operation. Assumes nothing.
-use Rattle.lists.specs.Prelude.{needs}
+use Rattle.lists.specs.Prelude.{rules}
 use Rattle.matrix.specs.Calls.{add_of, finite_block}
 use Rattle.matrix.specs.Made.{made_by, answer_of, alike_of}
 use Rattle.matrix.proofs.DenseMatrix.add.Statement.{statement}
@@ -7,4 +7,4 @@ use Rattle.matrix.proofs.DenseMatrix.add.Tie as tie
 
 pub add_spec : {M : Type 1} → statement M
 unfolding add_of finite_block made_by answer_of alike_of
-add_spec = tie.close (tie.spec (λ c κs. search needs) (λ c. c.alike.ensures))
+add_spec = tie.close (tie.spec (λ c κs. search rules) (λ c. c.alike.ensures))

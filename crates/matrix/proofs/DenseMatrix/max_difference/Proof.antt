@@ -1,5 +1,5 @@
 -- `matrix::DenseMatrix::max_difference` meets its contract: blocks that pass have one shape, so their numbers stand in one order. Assumes nothing.
-use Rattle.lists.specs.Prelude.{◌≡◌, sym, ap, ◌∙◌, ℕ, ◌*◌, ◌≤◌, arith, needs}
+use Rattle.lists.specs.Prelude.{◌≡◌, sym, ap, ◌∙◌, ℕ, ◌*◌, ◌≤◌, arith, rules}
 use Rattle.complex.specs.Largest.{largest_in_lem}
 use Rattle.refusal.specs.declared.Verdict.TheVariants.{Pass}
 use Rattle.refusal.specs.Verdict.{measured}
@@ -13,29 +13,29 @@ use Rattle.matrix.proofs.Results.{measure_is}
 use Rattle.matrix.proofs.DenseMatrix.max_difference.Statement.{statement}
 use Rattle.matrix.proofs.DenseMatrix.max_difference.Tie as tie
 
-passed : (c : tie.After-enum-told) → let x = c.before.before.before.before.before.before.before.args in pair_checks (same_shape x.self x.other) x.self x.other ≡ Pass
-passed c = sym c.before.before.check-pair.ensures ∙ c.enum_told.given.1
+passed : (c : tie.In-Pass) → let x = c.before.before.before.before.before.before.args in pair_checks (same_shape x.self x.other) x.self x.other ≡ Pass
+passed c = sym c.before.check_pair-verdict.ensures ∙ c.in-Pass.is
 
-first : tie.Need-slice-aggregate-a
-first c = search needs
+first : tie.Need-slice_bounds-a-end
+first c = search rules
 
-second : tie.Need-slice-aggregate-b
-second c = search needs
+second : tie.Need-slice_bounds-b-end
+second c = search rules
 
-few : (c : tie.After-enum-told) → let x = c.before.before.before.before.before.before.before.args.self in x.rows * x.columns ≤ 256
+few : (c : tie.In-Pass) → let x = c.before.before.before.before.before.before.args.self in x.rows * x.columns ≤ 256
 few c = let s = (pair-passed _ _ _ (passed c)).0 in entries-most _ _ s.rows-most s.columns-most
 
-returns : tie.Need-returns
+returns : tie.Need-returns-in-Pass
 unfolding max_difference_of matrix_norm_max subtracted
 returns c =
-    let x = c.before.before.before.before.before.before.before.before.args in
+    let x = c.before.before.before.before.before.before.before.args in
     measure_is _ _ (passed c.before)
-    (c.largest-difference.ensures ∙ largest_in_lem x.self.rows x.self.columns _
+    (c.largest_difference.ensures ∙ largest_in_lem x.self.rows x.self.columns _
     ∙ ap (λ (m : ℕ). matrix_norm_max x.self.rows x.self.columns (subtracted (entries_of x.self) (entries_in m x.other.values))) (same-columns x.self x.other (passed c.before)))
 
-returns-2 : tie.Need-returns-2
+returns-2 : tie.Need-returns-in-Refused
 unfolding max_difference_of measured
-returns-2 c = rw (sym c.before.before.before.check-pair.ensures ∙ c.before.verdict.given.1)
+returns-2 c = rw (sym c.before.check_pair-verdict.ensures ∙ c.in-Refused.is)
 
 pub max_difference_spec : {M : Type 1} → statement M
 max_difference_spec =
@@ -43,10 +43,10 @@ max_difference_spec =
     (tie.spec
     first
     second
-    (λ c κs. search needs)  -- check-pair-requires
-    (λ c. search needs)  -- enum_told
-    (λ c. omega (arith, few c))  -- mul-largest-difference
-    (λ c κs. (omega (arith, few c, first c.before.before.before.before), omega (arith, few c, second c.before.before.before)))  -- largest-difference-requires
-    (λ c. search needs)  -- enum-known-verdict
+    (λ c κs. search rules)  -- check_pair-verdict-requires
+    (λ c. search rules)  -- enum_told-1
+    (λ c. omega (arith, few c))  -- overflow_mul-rows
+    (λ c κs. (omega (arith, few c, first c.before.before.before), omega (arith, few c, second c.before.before)))  -- largest_difference-requires
+    (λ c. search rules)  -- enum_known-verdict
     returns
     returns-2)

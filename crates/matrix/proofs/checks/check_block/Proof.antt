@@ -1,5 +1,5 @@
 -- `matrix::checks::check_block` meets its contract: past checks 1 to 3 the count is not cut, and check 7 is asked. Assumes nothing.
-use Rattle.lists.specs.Prelude.{sym, ◌∙◌, needs}
+use Rattle.lists.specs.Prelude.{sym, ◌∙◌, rules}
 use Rattle.refusal.specs.Agreement.{then-agree}
 use Rattle.matrix.specs.Calls.{block_checks}
 use Rattle.matrix.proofs.Shapes.{shape-passed, uncut}
@@ -11,10 +11,10 @@ unfolding block_checks
 check_block_spec =
     tie.close
     (tie.spec
-    (λ c κs. search needs)  -- shape-requires
-    (λ c κs. search needs)  -- count-requires
-    (λ c κs. search needs)  -- finite-entries-requires
-    (λ c κs. search needs)  -- then-requires
+    (λ c κs. search rules)  -- shape-requires
+    (λ c κs. search rules)  -- count-requires
+    (λ c κs. search rules)  -- finite_entries-requires
+    (λ c κs. search rules)  -- then-requires
     (λ c.
     let f = c.before in
     let n = f.before in

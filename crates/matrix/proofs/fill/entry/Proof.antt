@@ -11,7 +11,7 @@ pub entry_spec : {M : Type 1} → statement M
 entry_spec =
     tie.close
     (tie.spec
-    (λ c. omega (arith, before c.before))  -- mul-number
-    (λ c. omega (arith, before c.before))  -- add-number
+    (λ c. omega (arith, before c.before))  -- overflow_mul-i
+    (λ c. omega (arith, before c.before))  -- overflow_add-i
     (λ c κs. omega (arith, before c.before))  -- number-requires
     (λ c. c.number.ensures))  -- returns

@@ -1,5 +1,5 @@
 -- `matrix::fill::made` meets its contract, by the operation that the match found. Assumes nothing.
-use Rattle.lists.specs.Prelude.{ap₂, ◌∙◌, needs, eq-eqb, ne_eqb}
+use Rattle.lists.specs.Prelude.{ap₂, ◌∙◌, rules, eq-eqb, ne_eqb}
 use Rattle.complex.specs.Arithmetic.{cadd, csub}
 use Rattle.block.specs.Operations.{scaled, added, subtracted, adjoint, identity}
 use Rattle.matrix.specs.Made.{made_by}
@@ -11,29 +11,29 @@ unfolding made_by scaled added subtracted adjoint identity
 made_spec =
     tie.close
     (tie.spec
-    (λ c. search needs)  -- enum_told
-    (λ c. search needs)  -- enum-told-2
-    (λ c. search needs)  -- enum-told-3
-    (λ c κs. search needs)  -- entry-requires
-    (λ c κs. search needs)  -- conj-requires
-    (λ c. search needs)  -- enum-told-4
-    (λ c κs. search needs)  -- dot-requires
-    (λ c. search needs)  -- enum-known-op
-    (λ c κs. search needs)  -- entry-requires-2
-    (λ c κs. search needs)  -- times-requires
-    (λ c. search needs)  -- enum-told-5
-    (λ c κs. search needs)  -- entry-requires-3
-    (λ c κs. search needs)  -- entry-requires-4
-    (λ c κs. search needs)  -- plus-requires
-    (λ c. search needs)  -- enum-told-6
-    (λ c κs. search needs)  -- entry-requires-5
-    (λ c κs. search needs)  -- entry-requires-6
-    (λ c κs. search needs)  -- minus-requires
-    (λ c. rw c.enum_told.given.1)  -- returns
-    (λ c. rw (c.before.enum-told2.given.1, eq-eqb _ _ c.if1.true))  -- returns-2
-    (λ c. rw (c.before.enum-told2.given.1, ne_eqb _ _ c.if1.false))  -- returns-3
-    (λ c. rw (c.before.before.enum-told3.given.1, c.conj.ensures, c.before.entry.ensures))  -- returns-4
-    (λ c. rw c.before.enum-told4.given.1 c.dot.ensures)  -- returns-5
-    (λ c. rw (c.before.before.before.op.given.1, c.times.ensures, c.before.entry2.ensures))  -- returns-6
-    (λ c. rw c.before.before.before.enum-told5.given.1 (c.plus.ensures ∙ ap₂ cadd c.before.before.entry3.ensures c.before.entry4.ensures))  -- returns-7
-    (λ c. rw c.before.before.before.enum-told6.given.1 (c.minus.ensures ∙ ap₂ csub c.before.before.entry5.ensures c.before.entry6.ensures)))  -- returns-8
+    (λ c. search rules)  -- enum_told-1
+    (λ c. search rules)  -- enum_told-in-Identity
+    (λ c. search rules)  -- enum_told-in-Adjoint
+    (λ c κs. search rules)  -- entry-requires
+    (λ c κs. search rules)  -- conj-requires
+    (λ c. search rules)  -- enum_told-in-Product
+    (λ c κs. search rules)  -- dot-requires
+    (λ c. search rules)  -- enum_known-op
+    (λ c κs. search rules)  -- entry-requires-in-Scale
+    (λ c κs. search rules)  -- times-requires
+    (λ c. search rules)  -- enum_told-in-Add
+    (λ c κs. search rules)  -- entry-x-requires
+    (λ c κs. search rules)  -- entry-y-requires
+    (λ c κs. search rules)  -- plus-requires
+    (λ c. search rules)  -- enum_told-in-Subtract
+    (λ c κs. search rules)  -- entry-x-requires-in-Subtract
+    (λ c κs. search rules)  -- entry-y-requires-in-Subtract
+    (λ c κs. search rules)  -- minus-requires
+    (λ c. rw c.in-Zero.is)  -- returns-in-Zero
+    (λ c. rw (c.before.in-Identity.is, eq-eqb _ _ c.if-i-j.true))  -- returns-then-i-j
+    (λ c. rw (c.before.in-Identity.is, ne_eqb _ _ c.if-i-j.false))  -- returns-else-i-j
+    (λ c. rw (c.before.before.in-Adjoint.is, c.conj.ensures, c.before.entry.ensures))  -- returns-in-Adjoint
+    (λ c. rw c.before.in-Product.is c.dot.ensures)  -- returns-in-Product
+    (λ c. rw (c.before.before.in-Scale.is, c.times.ensures, c.before.entry-in-Scale.ensures))  -- returns-in-Scale
+    (λ c. rw c.before.before.before.in-Add.is (c.plus.ensures ∙ ap₂ cadd c.before.before.entry-x.ensures c.before.entry-y.ensures))  -- returns-in-Add
+    (λ c. rw c.before.before.before.in-Subtract.is (c.minus.ensures ∙ ap₂ csub c.before.before.entry-x-in-Subtract.ensures c.before.entry-y-in-Subtract.ensures)))  -- returns-8

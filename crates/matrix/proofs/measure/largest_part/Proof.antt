@@ -1,5 +1,5 @@
 -- `matrix::measure::largest_part` meets its contract: after p steps the first p numbers are seen. Assumes nothing.
-use Rattle.lists.specs.Prelude.{◌≡◌, sym, ◌∙◌, ◌-◌, ◌*◌, ◌≤◌, le_antisymm, arith, needs}
+use Rattle.lists.specs.Prelude.{◌≡◌, sym, ◌∙◌, ◌-◌, ◌*◌, ◌≤◌, le_antisymm, arith, rules}
 use Rattle.lists.specs.Steps.{fold_more, fold-none}
 use Rattle.complex.specs.Arithmetic.{plus_zero}
 use Rattle.complex.specs.Numbers.{entry_at}
@@ -8,10 +8,10 @@ use Rattle.block.specs.Operations.{part_size}
 use Rattle.matrix.proofs.measure.largest_part.Statement.{statement}
 use Rattle.matrix.proofs.measure.largest_part.Tie as tie
 
-abbrev invariant-loop : tie.invariant-loop
+abbrev invariant-loop : tie.invariant-loop-p
 invariant-loop a count most₀ p₀ most p = (p ≤ count) × (most ≡ largest_from plus_zero p (λ q. part_size (entry_at a (2 * q))))
 
-abbrev decreases-loop : tie.decreases-loop
+abbrev decreases-loop : tie.decreases-loop-p
 decreases-loop a count most₀ p₀ most p = count - p
 
 pub largest_part_spec : {M : Type 1} → statement M
@@ -21,11 +21,11 @@ largest_part_spec =
     (tie.spec
     invariant-loop
     decreases-loop
-    (λ c. (omega arith, sym (fold-none _ _)))  -- loop-holds
-    (λ c κs. search needs)  -- number-requires
-    (λ c κs. search needs)  -- part-size-requires
-    (λ c κs. search needs)  -- max-requires
-    (λ c. search needs)  -- add-p
-    (λ c. search needs)  -- loop-less
-    (λ c. (omega arith, let s = c.before in rw (c.max.ensures, s.part-size.ensures, s.before.number.ensures, s.before.before.before.loop.invariant.1, fold_more)))  -- loop-again
-    (λ c. c.before.loop.invariant.1 ∙ rw (le_antisymm c.before.loop.invariant.0 c.loop-test.false)))  -- returns
+    (λ c. (omega arith, sym (fold-none _ _)))  -- loop-p-init
+    (λ c κs. search rules)  -- number-requires
+    (λ c κs. search rules)  -- part_size-requires
+    (λ c κs. search rules)  -- max-most-requires
+    (λ c. search rules)  -- overflow_step-p
+    (λ c. search rules)  -- loop-p-smaller
+    (λ c. (omega arith, let s = c.before in rw (c.max-most.ensures, s.part_size.ensures, s.before.number.ensures, s.before.before.before.loop-p.invariant.1, fold_more)))  -- loop-p-preserved
+    (λ c. c.before.loop-p.invariant.1 ∙ rw (le_antisymm c.before.loop-p.invariant.0 c.loop-p-test.false)))  -- returns

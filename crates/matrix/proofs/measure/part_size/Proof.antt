@@ -1,5 +1,5 @@
 -- `matrix::measure::part_size` meets its contract, from its callees'. Assumes nothing.
-use Rattle.lists.specs.Prelude.{◌∙◌, needs}
+use Rattle.lists.specs.Prelude.{◌∙◌, rules}
 use Rattle.block.specs.Operations.{part_size}
 use Rattle.matrix.proofs.measure.part_size.Statement.{statement}
 use Rattle.matrix.proofs.measure.part_size.Tie as tie
@@ -9,7 +9,7 @@ unfolding part_size
 part_size_spec =
     tie.close
     (tie.spec
-    (λ c κs. search needs)  -- abs-requires
-    (λ c κs. search needs)  -- abs-requires-2
-    (λ c κs. search needs)  -- max-requires
-    (λ c. c.max.ensures ∙ rw (c.before.abs2.ensures, c.before.before.abs.ensures)))  -- returns
+    (λ c κs. search rules)  -- abs-requires
+    (λ c κs. search rules)  -- abs-requires-2
+    (λ c κs. search rules)  -- max-requires
+    (λ c. c.max.ensures ∙ rw (c.before.abs-2.ensures, c.before.before.abs.ensures)))  -- returns

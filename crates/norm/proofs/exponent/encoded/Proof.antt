@@ -28,57 +28,57 @@ step-made s =
 past : (c : tie.After-reaches) → c.reaches.result ≡ leb 2046 (step c.before)
 past c = c.reaches.ensures ∙ ap (λ (z : ℤ). leb 2046 (mag z)) (step-made c.before).1
 
-abbrev leading : tie.After-zeros → ℕ
+abbrev leading : tie.After-zeros-leading → ℕ
 leading c = count_leading_zeros 64 c.before.before.before.args.m
 
-leading_is : (c : tie.After-zeros) → held c.zeros.result ≡ pos (leading c)
-leading_is c = held-is _ c.zeros.ensures (omega (arith, leading_le 64 c.before.before.before.args.m))
+leading_is : (c : tie.After-zeros-leading) → held c.zeros-leading.result ≡ pos (leading c)
+leading_is c = held-is _ c.zeros-leading.ensures (omega (arith, leading_le 64 c.before.before.before.args.m))
 
-short : (c : tie.After-reaches2) → c.reaches2.result ≡ leb 12 (leading c.before)
-short c = c.reaches2.ensures ∙ ap (λ (z : ℤ). leb 12 (mag z)) (leading_is c.before)
+short : (c : tie.After-reaches-2) → c.reaches-2.result ≡ leb 12 (leading c.before)
+short c = c.reaches-2.ensures ∙ ap (λ (z : ℤ). leb 12 (mag z)) (leading_is c.before)
 
-below : (c : tie.After-zeros) → step c.before.before.before < 2046
-below c = leb-false _ _ (sym (past c.before.before) ∙ c.before.if1.false)
+below : (c : tie.After-zeros-leading) → step c.before.before.before < 2046
+below c = leb-false _ _ (sym (past c.before.before) ∙ c.before.if-reaches.false)
 
-full : (c : tie.Else2) → leading c.before.before ≤ 11
-full c = let h = leb-false 12 (leading c.before.before) (sym (short c.before) ∙ c.if2.false) in omega arith
+full : (c : tie.Else-reaches-2) → leading c.before.before ≤ 11
+full c = let h = leb-false 12 (leading c.before.before) (sym (short c.before) ∙ c.if-reaches-2.false) in omega arith
 
-abbrev carried : tie.Else2 → ℕ
+abbrev carried : tie.Else-reaches-2 → ℕ
 carried c = 11 - leading c.before.before
 
-few : (c : tie.Else2) → carried c ≤ 1
+few : (c : tie.Else-reaches-2) → carried c ≤ 1
 few c = let s = c.before.before.before.before.before in carried-most s.args.m s.requires.0.most
 
-carried-made : (c : tie.Else2) → Made (pos 11 -ℤ held c.before.before.zeros.result) (carried c)
+carried-made : (c : tie.Else-reaches-2) → Made (pos 11 -ℤ held c.before.before.zeros-leading.result) (carried c)
 carried-made c = minus _ _ 11 _ refl (leading_is c.before.before) (full c) (omega arith)
 
-raised : (c : tie.Else2) → let s = c.before.before.before.before.before in
-    Made (held (held s.args.more +ℤ held s.args.shift) +ℤ held (pos 11 -ℤ held c.before.before.zeros.result)) (step s + carried c)
+raised : (c : tie.Else-reaches-2) → let s = c.before.before.before.before.before in
+    Made (held (held s.args.more +ℤ held s.args.shift) +ℤ held (pos 11 -ℤ held c.before.before.zeros-leading.result)) (step s + carried c)
 raised c = plus _ _ _ _ (step-made c.before.before.before.before.before).1 (carried-made c).1 (omega (arith, below c.before.before, few c))
 
-field : (c : tie.Else2) → let s = c.before.before.before.before.before in
-    Made (held (held (held s.args.more +ℤ held s.args.shift) +ℤ held (pos 11 -ℤ held c.before.before.zeros.result)) +ℤ pos 1) (step s + carried c + 1)
+field : (c : tie.Else-reaches-2) → let s = c.before.before.before.before.before in
+    Made (held (held (held s.args.more +ℤ held s.args.shift) +ℤ held (pos 11 -ℤ held c.before.before.zeros-leading.result)) +ℤ pos 1) (step s + carried c + 1)
 field c = plus _ _ _ 1 (raised c).1 refl (omega (arith, below c.before.before, few c))
 
 places_are : (c : tie.After-places) → c.places.result ≡ carried c.before.before
 places_are c = c.places.ensures ∙ ap mag (carried-made c.before.before).1
 
-field_is : (c : tie.After-field-bits) → let s = c.before.before.before.before.before.before in c.field-bits.result ≡ (step s + carried c.before + 1) * 2 ^ 52
-field_is c = c.field-bits.ensures ∙ ap (λ (z : ℤ). mag z * 2 ^ 52) (field c.before).1
+field_is : (c : tie.After-field_bits) → let s = c.before.before.before.before.before.before in c.field_bits.result ≡ (step s + carried c.before + 1) * 2 ^ 52
+field_is c = c.field_bits.ensures ∙ ap (λ (z : ℤ). mag z * 2 ^ 52) (field c.before).1
 
 -- ---- each way out
 
-returns : tie.Need-returns
-returns c = let s = c.before.before in bits-past-steps s.requires.0 (leb-true _ _ (sym (past c.before) ∙ c.if1.true))
+returns : tie.Need-returns-then-reaches
+returns c = let s = c.before.before in bits-past-steps s.requires.0 (leb-true _ _ (sym (past c.before) ∙ c.if-reaches.true))
 
-returns-2 : tie.Need-returns-2
+returns-2 : tie.Need-returns-then-reaches-2
 returns-2 c =
     let z = c.before.before in
     let s = z.before.before.before in
-    let more = leb-true 12 _ (sym (short c.before) ∙ c.if2.true) in
+    let more = leb-true 12 _ (sym (short c.before) ∙ c.if-reaches-2.true) in
     pattern _ (short_significand s.args.m (step s) s.requires.0.most more s.requires.0.full) s.requires.0 (below z)
 
-returns-3 : tie.Need-returns-3
+returns-3 : tie.Need-returns
 returns-3 c =
     let e = c.before.before in
     let s = e.before.before.before.before.before in

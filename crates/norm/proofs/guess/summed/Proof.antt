@@ -1,5 +1,5 @@
 -- `norm::guess::summed` meets its contract: what the steps leave out of each square is less than a step. Assumes nothing.
-use Rattle.lists.specs.Prelude.{◌≡◌, arith, needs}
+use Rattle.lists.specs.Prelude.{◌≡◌, arith, rules}
 use lib.Signed.{mag}
 use Rattle.norm.specs.Squares.{even_power}
 use Rattle.norm.proofs.Sixteen.{held, kept, passed}
@@ -11,10 +11,10 @@ use Rattle.norm.proofs.guess.summed.Tie as tie
 same_gap : (s : tie.Start) → held s.args.gap ≡ s.args.gap
 same_gap s = kept s.args.gap s.requires.2 (omega arith)
 
-same_more : (l : tie.After-longer) → held l.longer.result ≡ l.longer.result
-same_more l = kept l.longer.result l.longer.ensures (omega arith)
+same_more : (l : tie.After-longer-more) → held l.longer-more.result ≡ l.longer-more.result
+same_more l = kept l.longer-more.result l.longer-more.ensures (omega arith)
 
-returns-2 : tie.Need-returns-2
+returns-2 : tie.Need-returns
 returns-2 c =
     let b = c.before in
     let a = b.before in
@@ -23,21 +23,21 @@ returns-2 c =
     let y = f.before in
     let x = y.before in
     let s = x.before in (
-      passed l.longer.result l.longer.ensures (omega arith) (omega arith),
+      passed l.longer-more.result l.longer-more.ensures (omega arith) (omega arith),
       λ h.
-          rw (a.fourths2.ensures, b.fourths3.ensures, f.fourths.ensures, x.high-square.ensures, y.high-square2.ensures, same_more l, same_gap s, even_power (mag l.longer.result), even_power (mag s.args.gap))
-          (covers _ _ (mag s.args.gap) (mag l.longer.result)),
+          rw (a.fourths-a.ensures, b.fourths-b.ensures, f.fourths-aligned.ensures, x.high_square-large.ensures, y.high_square-small.ensures, same_more l, same_gap s, even_power (mag l.longer-more.result), even_power (mag s.args.gap))
+          (covers _ _ (mag s.args.gap) (mag l.longer-more.result)),
     )
 
 pub summed_spec : {M : Type 1} → statement M
 summed_spec =
     tie.close
     (tie.spec
-    (λ c. search needs) (λ c κs. search needs) (λ c. search needs) (λ c κs. search needs)
+    (λ c. search rules) (λ c κs. search rules) (λ c. search rules) (λ c κs. search rules)
     (λ c κs. let s = c.before.before in passed s.args.gap s.requires.2 (omega arith) (omega arith))
-    (λ c κs. search needs)
-    (λ c κs. passed c.longer.result c.longer.ensures (omega arith) (omega arith))
-    (λ c κs. passed c.before.longer.result c.before.longer.ensures (omega arith) (omega arith))
-    (λ c. search needs)
-    (λ c. let l = c.before.before.before in (passed l.longer.result l.longer.ensures (omega arith) (omega arith), λ h. none h))
-    (λ c. search needs) returns-2)
+    (λ c κs. search rules)
+    (λ c κs. passed c.longer-more.result c.longer-more.ensures (omega arith) (omega arith))
+    (λ c κs. passed c.before.longer-more.result c.before.longer-more.ensures (omega arith) (omega arith))
+    (λ c. search rules)
+    (λ c. let l = c.before.before.before in (passed l.longer-more.result l.longer-more.ensures (omega arith) (omega arith), λ h. none h))
+    (λ c. search rules) returns-2)

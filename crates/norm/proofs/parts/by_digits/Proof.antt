@@ -1,5 +1,5 @@
 -- `norm::parts::by_digits` meets its contract: the sum of the squares fits three words, and its root two. Assumes nothing.
-use Rattle.lists.specs.Prelude.{◌≡◌, sym, ap, ap₂, subst, ◌∙◌, ◌⊎◌, ℕ, ◌+◌, ◌*◌, ◌^◌, ◌≤◌, ◌<◌, lt_of_lt_of_le, arith, needs, lit≤, pow-add, pos}
+use Rattle.lists.specs.Prelude.{◌≡◌, sym, ap, ap₂, subst, ◌∙◌, ◌⊎◌, ℕ, ◌+◌, ◌*◌, ◌^◌, ◌≤◌, ◌<◌, lt_of_lt_of_le, arith, rules, lit≤, pow-add, pos}
 use lib.Signed.{mag}
 use Rattle.norm.specs.Words.{two, three}
 use Rattle.norm.specs.Checked.{squares}
@@ -11,11 +11,11 @@ use Rattle.norm.proofs.parts.by_digits.Statement.{statement}
 use Rattle.norm.proofs.parts.by_digits.Tie as tie
 
 -- how far the larger square is raised
-shift_is : (c : tie.After-square-shift) → held c.square-shift.result ≡ pos (2 * mag c.before.before.args.gap + 2)
+shift_is : (c : tie.After-square_shift) → held c.square_shift.result ≡ pos (2 * mag c.before.before.args.gap + 2)
 shift_is c =
     let s = c.before.before in
     let g = same s.args.gap s.requires.2 (omega arith) in
-    held-is c.square-shift.result (c.square-shift.ensures ∙ ap (λ (k : ℕ). pos (2 * k + 2)) g) (omega (arith, s.requires.2.1))
+    held-is c.square_shift.result (c.square_shift.ensures ∙ ap (λ (k : ℕ). pos (2 * k + 2)) g) (omega (arith, s.requires.2.1))
 
 -- the larger square, raised
 larger : (c : tie.After-raised) → let s = c.before.before.before.args in three c.raised.result ≡ 2 * s.qa * (2 * s.qa) * 4 ^ mag s.gap
@@ -32,7 +32,7 @@ larger c =
 small-gap : (s : tie.Start) → mag s.args.gap < 27
 small-gap s = omega (arith, s.requires.2.1)
 
-plus-requires : tie.Need-plus-requires
+plus-requires : tie.Need-plus-n-requires
 plus-requires c κs =
     let r = c.before in
     let s = r.before.before.before in
@@ -43,8 +43,8 @@ plus-requires c κs =
     (lit≤ {m = 2 ^ 32} {n = 2 ^ 63} tt)
 
 -- the sum of the squares
-total : (c : tie.After-plus) → let s = c.before.before.before.before.before.args in three c.plus.result ≡ squares s.qa s.qb (mag s.gap)
-total c = c.plus.ensures ∙ ap₂ (λ (x y : ℕ). x + y) (larger c.before.before) c.before.square2.ensures
+total : (c : tie.After-plus-n) → let s = c.before.before.before.before.before.args in three c.plus-n.result ≡ squares s.qa s.qb (mag s.gap)
+total c = c.plus-n.ensures ∙ ap₂ (λ (x y : ℕ). x + y) (larger c.before.before) c.before.square-2.ensures
 
 same-unit : (s : tie.Start) → mag (held s.args.unit) ≡ mag s.args.unit
 same-unit s = same s.args.unit s.requires.3 (omega arith)
@@ -53,9 +53,9 @@ rounded-requires : tie.Need-rounded-requires
 rounded-requires c κs =
     let s = c.before.before.before.before.before.before in
     let g = mag s.args.gap in
-    let r = c.root-of.result in
-    let v = c.root-of.ensures.value ∙ total c.before in
-    let l = c.root-of.ensures.little in (
+    let r = c.root_of.result in
+    let v = c.root_of.ensures.value ∙ total c.before in
+    let l = c.root_of.ensures.little in (
       l,
       root-fits s.args.qa s.args.qb g s.requires.0 s.requires.1 (small-gap s) (two r.root) (two r.rest) v,
       passed s.args.unit s.requires.3 (omega arith) (omega arith),
@@ -74,17 +74,17 @@ returns c =
     let g = mag s.args.gap in
     record {
       most = c.rounded.ensures.0;
-      value = λ n u e v. c.rounded.ensures.1 n (ap₂ (λ (x y : ℕ). x * 4 ^ y) (c.before.root-of.ensures.value ∙ total p) (same-unit s ∙ sym (left g u (mag s.args.unit) e)) ∙ v);
+      value = λ n u e v. c.rounded.ensures.1 n (ap₂ (λ (x y : ℕ). x * 4 ^ y) (c.before.root_of.ensures.value ∙ total p) (same-unit s ∙ sym (left g u (mag s.args.unit) e)) ∙ v);
     }
 
 pub by_digits_spec : {M : Type 1} → statement M
 by_digits_spec =
     tie.close
     (tie.spec
-    (λ c κs. search needs)
+    (λ c κs. search rules)
     (λ c κs. passed c.before.args.gap c.before.requires.2 (omega arith) (omega arith))
     (λ c κs. let s = c.before.before in let e = shift_is c in (up_to _ e (omega (arith, s.requires.2.1)), omega (arith, ap mag e)))
-    (λ c. search needs) (λ c κs. search needs)
+    (λ c. search rules) (λ c κs. search rules)
     plus-requires
     (λ c κs. let s = c.before.before.before.before.before in rw (total c) (sum-small s.args.qa s.args.qb (mag s.args.gap) s.requires.0 s.requires.1 (small-gap s)))
     rounded-requires returns)

@@ -7,4 +7,4 @@ use Rattle.norm.proofs.parts.significand.Tie as tie
 pub significand_spec : {M : Type 1} → statement M
 significand_spec =
     tie.close
-    (tie.spec (λ c. omega arith) (λ c. sym (significand_small c.before.args.a c.if1.true)) (λ c. sym (significand_large c.before.args.a c.if1.false)))
+    (tie.spec (λ c. omega arith) (λ c. sym (significand_small c.before.args.a c.if-a-lt4503599627370496.true)) (λ c. sym (significand_large c.before.args.a c.if-a-lt4503599627370496.false)))

@@ -7,27 +7,27 @@ use Rattle.norm.proofs.wide.raised.Statement.{statement}
 use Rattle.norm.proofs.wide.raised.Tie as tie
 
 -- j places, and those beside it
-up : (c : tie.After-places) → c.places.result ≡ mag c.before.args.j
-up c = let s = c.before in c.places.ensures ∙ ap mag (kept s.args.j s.requires.0 (omega arith))
+up : (c : tie.After-places-up) → c.places-up.result ≡ mag c.before.args.j
+up c = let s = c.before in c.places-up.ensures ∙ ap mag (kept s.args.j s.requires.0 (omega arith))
 
-beside : (c : tie.After-places-beside) → c.before.places.result + c.places-beside.result ≡ 64
-beside c = omega (arith, c.places-beside.ensures, c.before.places.ensures)
+beside : (c : tie.After-places_beside-down) → c.before.places-up.result + c.places_beside-down.result ≡ 64
+beside c = omega (arith, c.places_beside-down.ensures, c.before.places-up.ensures)
 
-few : (c : tie.After-places-beside) → (c.before.places.result < 64) × (c.places-beside.result < 64)
+few : (c : tie.After-places_beside-down) → (c.before.places-up.result < 64) × (c.places_beside-down.result < 64)
 few c = let p = c.before in (omega (arith, up p, p.before.requires.0.1), omega (arith, beside c, up p, p.before.requires.1))
 
-add_t8 : tie.Need-overflow-add-t8
+add_t8 : tie.Need-overflow_add-result
 add_t8 c =
     let d = c.before.before.before in
     let s = d.before.before in
     let l : s.args.w.lo < 2 ^ 64 = omega arith in
-    record { fits = joined-fits d.before.places.result d.places-beside.result (beside d) s.args.w.hi s.args.w.lo l }
+    record { fits = joined-fits d.before.places-up.result d.places_beside-down.result (beside d) s.args.w.hi s.args.w.lo l }
 
 returns : tie.Need-returns
 returns c =
     let d = c.before.before.before.before in
     let s = d.before.before in
-    rw (← up d.before) (spread_up d.before.places.result d.places-beside.result (beside d) s.args.w.hi s.args.w.lo)
+    rw (← up d.before) (spread_up d.before.places-up.result d.places_beside-down.result (beside d) s.args.w.hi s.args.w.lo)
 
 pub raised_spec : {M : Type 1} → statement M
 raised_spec =

@@ -9,5 +9,5 @@ unfolding observed
 refused_spec =
     tie.close
     (tie.spec
-    (λ c. rw (eq-eqb _ _ c.if1.true))  -- returns
-    (λ c. rw (ne_eqb _ _ c.if1.false)))  -- returns-2
+    (λ c. rw (eq-eqb _ _ c.if-refusal-eq14.true))  -- returns-then-refusal-eq14
+    (λ c. rw (ne_eqb _ _ c.if-refusal-eq14.false)))  -- returns-2

@@ -1,5 +1,5 @@
 -- `observables::checks::check_lesser` meets its contract, which is its callee's. Assumes nothing.
-use Rattle.lists.specs.Prelude.{needs}
+use Rattle.lists.specs.Prelude.{rules}
 use Rattle.observables.specs.Calls.{lesser_checks}
 use Rattle.observables.proofs.checks.check_lesser.Statement.{statement}
 use Rattle.observables.proofs.checks.check_lesser.Tie as tie
@@ -9,5 +9,5 @@ unfolding lesser_checks
 check_lesser_spec =
     tie.close
     (tie.spec
-    (λ c κs. search needs)  -- check-points-requires
-    (λ c. c.check-points.ensures))  -- returns
+    (λ c κs. search rules)  -- check_points-requires
+    (λ c. c.check_points.ensures))  -- returns

@@ -1,5 +1,5 @@
 -- `observables::checks::check_lesser_block` meets its contract: past checks 1, 2, 3 and 16 the entries are few, and check 7 is asked. Assumes nothing.
-use Rattle.lists.specs.Prelude.{◌≡◌, sym, ap, ◌∙◌, ◌*◌, ◌≤◌, arith, le_trans, le_of_eq, now, needs}
+use Rattle.lists.specs.Prelude.{◌≡◌, sym, ap, ◌∙◌, ◌*◌, ◌≤◌, arith, le_trans, le_of_eq, rules}
 use Rattle.refusal.specs.declared.Verdict.{Verdict}
 use Rattle.refusal.specs.Verdict.{◌then◌}
 use Rattle.matrix.specs.declared.DenseMatrix.{DenseMatrix}
@@ -8,32 +8,32 @@ use Rattle.observables.specs.LesserChecks.{sizes, sizes_asked_lem, block_refused
 use Rattle.observables.proofs.checks.check_lesser_block.Statement.{statement}
 use Rattle.observables.proofs.checks.check_lesser_block.Tie as tie
 
-abbrev start : tie.After-check-block-sizes → tie.Start
+abbrev start : tie.After-check_block_sizes-verdict → tie.Start
 start c = c.before.before.before.before.before.before
 
 abbrev block : tie.Start → DenseMatrix
-block c = record { rows = c.args.rows; columns = c.args.columns; values = now c.args.values }
+block c = record { rows = c.args.rows; columns = c.args.columns; values = c.args.values.now }
 
-asked : (c : tie.After-check-block-sizes) → let s = start c in let n = s.args.shape in c.check-block-sizes.result ≡ sizes n.capacity n.points n.orbitals (now s.args.lesser) (block s)
-asked c = sizes_asked_lem _ _ _ (now (start c).args.lesser) (block (start c)) c.before.has-length.ensures c.check-block-sizes.ensures
+asked : (c : tie.After-check_block_sizes-verdict) → let s = start c in let n = s.args.shape in c.check_block_sizes-verdict.result ≡ sizes n.capacity n.points n.orbitals s.args.lesser.now (block s)
+asked c = sizes_asked_lem _ _ _ ((start c).args.lesser.now) (block (start c)) c.before.has_length.ensures c.check_block_sizes-verdict.ensures
 
-few : (c : tie.After-enum-told) → let x = (start c.before.before).args in x.rows * x.columns ≤ 256
+few : (c : tie.In-Pass) → let x = (start c.before).args in x.rows * x.columns ≤ 256
 few c =
-    let s = block-passed _ _ _ (now (start c.before.before).args.lesser) (block (start c.before.before)) (sym (asked c.before.before) ∙ c.enum_told.given.1) in
+    let s = block-passed _ _ _ ((start c.before).args.lesser.now) (block (start c.before)) (sym (asked c.before) ∙ c.in-Pass.is) in
     product-most _ _ (le_trans (le_of_eq s.square-rows) s.sized.orbitals-most) (le_trans (le_of_eq s.square-columns) s.sized.orbitals-most)
 
 pub check_lesser_block_spec : {M : Type 1} → statement M
 check_lesser_block_spec =
     tie.close
     (tie.spec
-    (λ c κs. search needs) (λ c κs. search needs) (λ c. search needs)  -- has-length-requires, check-block-sizes-requires, enum_told
-    (λ c. search needs)  -- enum-told-2
-    (λ c. block_refused _ _ _ (now (start c.before.before).args.lesser) (block (start c.before.before)) (asked c.before.before) c.enum-told2.given.1)  -- returns
-    (λ c κs. search needs)  -- check-points-requires
-    (λ c. omega (arith, few c.before))  -- mul-finite-entries
-    (λ c. omega (arith, few c.before))  -- mul-finite-entries-2
-    (λ c κs. search needs) (λ c κs. search needs)  -- finite-entries-requires, then-requires
+    (λ c κs. search rules) (λ c κs. search rules) (λ c. search rules)  -- has_length-requires, check_block_sizes-verdict-requires, enum_told-1
+    (λ c. search rules)  -- enum_told-in_default
+    (λ c. block_refused _ _ _ ((start c.before).args.lesser.now) (block (start c.before)) (asked c.before) c.in_default.is)  -- returns-in_default
+    (λ c κs. search rules)  -- check_points-requires
+    (λ c. omega (arith, few c.before))  -- overflow_mul-rows
+    (λ c. omega (arith, few c.before))  -- overflow_mul-rows-2
+    (λ c κs. search rules) (λ c κs. search rules)  -- finite_entries-requires, then-requires
     (λ c.
     let o = c.before.before in
     let s = o.before.before.before in
-    block-asked _ _ _ (now (start s).args.lesser) (block (start s)) (asked s) o.before.enum_told.given.1 o.check-points.ensures (c.then.ensures ∙ ap (λ (v : Verdict). o.check-points.result then v) c.before.finite-entries.ensures)))  -- returns-2
+    block-asked _ _ _ ((start s).args.lesser.now) (block (start s)) (asked s) o.before.enum_told.given.1 o.check-points.ensures (c.then.ensures ∙ ap (λ (v : Verdict). o.check-points.result then v) c.before.finite_entries.ensures)))  -- returns-2

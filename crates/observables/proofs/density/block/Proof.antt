@@ -1,6 +1,6 @@
 -- `observables::density::block` meets its contract: after a steps the first a rows are written. Assumes nothing.
 use Rattle.lists.specs.Prelude.{◌≡◌, sym, ap, ◌∙◌, List, ℕ, ◌+◌, ◌-◌, ◌*◌, ◌≤◌, le_antisymm, le_trans, arith, Float, length, replicate, length-replicate, length-take}
-use Rattle.lists.specs.Prelude.{length-drop, now, needs, same_len_mid}
+use Rattle.lists.specs.Prelude.{length-drop, rules, same_len_mid}
 use Rattle.lists.specs.Indexed.{join}
 use Rattle.lists.specs.Steps.{join_more}
 use Rattle.lists.specs.Reading.{length-join}
@@ -16,38 +16,38 @@ use Rattle.observables.specs.Density.{density, density_of}
 use Rattle.observables.proofs.density.block.Statement.{statement}
 use Rattle.observables.proofs.density.block.Tie as tie
 
-abbrev invariant-loop : tie.invariant-loop
+abbrev invariant-loop : tie.invariant-loop-a
 invariant-loop lesser capacity orbitals time values₀ width a₀ values a =
     (a ≤ orbitals) × (length values ≡ 512) × (values ≡ over values₀ (join a (λ i. cells orbitals (density_of capacity orbitals lesser time i))))
 
-abbrev decreases-loop : tie.decreases-loop
+abbrev decreases-loop : tie.decreases-loop-a
 decreases-loop lesser capacity orbitals time values₀ width a₀ values a = orbitals - a
 
-abbrev start : tie.At-loop invariant-loop decreases-loop → tie.Start invariant-loop decreases-loop
+abbrev start : tie.At-loop-a invariant-loop decreases-loop → tie.Start invariant-loop decreases-loop
 start c = c.before.before
 
 -- this step's row lies within the block
-within : (c : tie.In-loop invariant-loop decreases-loop) → let w = 2 * (start c.before).args.orbitals in c.before.loop.a * w + w ≤ 512
+within : (c : tie.In-loop-a invariant-loop decreases-loop) → let w = 2 * (start c.before).args.orbitals in c.before.loop-a.a * w + w ≤ 512
 within c =
     let n = (start c.before).args.orbitals in
-    let most = (start c.before).pre.orbitals-most in
-    le_trans (part-within (2 * n) c.loop-test.true) (product-most n (2 * n) {m = 16} {n = 32} most (omega arith))
+    let most = (start c.before).requires.orbitals-most in
+    le_trans (part-within (2 * n) c.loop-a-test.true) (product-most n (2 * n) {m = 16} {n = 32} most (omega arith))
 
-loop-again : tie.Need-loop-preserved invariant-loop decreases-loop
+loop-again : tie.Need-loop-a-preserved invariant-loop decreases-loop
 loop-again c =
     let r = c.before in
     let t = r.before.before in
     let l = t.before in
     let x = (start l).args in
     let n = x.orbitals in
-    let first = l.loop.a * (2 * n) in
+    let first = l.loop-a.a * (2 * n) in
     let width = first + 2 * n - first in
-    let row : ℕ → List Float = λ i. cells n (density (read_as x.capacity n (now x.lesser)) x.time i) in
+    let row : ℕ → List Float = λ i. cells n (density (read_as x.capacity n x.lesser.now) x.time i) in
     let h = within t in (
       omega arith,
-      same_len_mid {X = Float} first width l.loop.values r.row.new.1.1.1.1.1.0 c.values2.given ∙ l.loop.invariant.1,
-      rw (l.loop.invariant.2, r.row.ensures, join_more)
-          (over-part (replicate 512 plus_zero) (join l.loop.a row) (row l.loop.a) first width (length-join l.loop.a (2 * n) row (λ i b. length-cells n _)) (length-cells n _ ∙ omega arith)),
+      same_len_mid {X = Float} first width l.loop-a.values r.row.new.out c.values-in-loop-a-1.given ∙ l.loop-a.invariant.1,
+      rw (l.loop-a.invariant.2, r.row.ensures, join_more)
+          (over-part (replicate 512 plus_zero) (join l.loop-a.a row) (row l.loop-a.a) first width (length-join l.loop-a.a (2 * n) row (λ i b. length-cells n _)) (length-cells n _ ∙ omega arith)),
     )
 
 returns : tie.Need-returns invariant-loop decreases-loop
@@ -56,8 +56,8 @@ returns c =
     let l = c.before in
     let x = (start l).args in
     let n = x.orbitals in
-    let rho = density (read_as x.capacity n (now x.lesser)) x.time in
-    block_made n n rho _ (l.loop.invariant.2 ∙ ap (λ (k : ℕ). over (replicate 512 plus_zero) (join k (λ i. cells n (rho i)))) (le_antisymm l.loop.invariant.0 c.loop-test.false))
+    let rho = density (read_as x.capacity n x.lesser.now) x.time in
+    block_made n n rho _ (l.loop-a.invariant.2 ∙ ap (λ (k : ℕ). over (replicate 512 plus_zero) (join k (λ i. cells n (rho i)))) (le_antisymm l.loop-a.invariant.0 c.loop-a-test.false))
 
 pub block_spec : {M : Type 1} → statement M
 unfolding join
@@ -66,15 +66,15 @@ block_spec =
     (tie.spec
     invariant-loop
     decreases-loop
-    (λ c. omega (arith, c.before.requires.orbitals-most))  -- mul-width
-    (λ c. (omega arith, length-replicate 512 plus_zero, sym (over_none _)))  -- loop-holds
-    (λ c. let h = within c in omega arith)  -- mul-start
-    (λ c. let h = within c in omega arith)  -- add-end
-    (λ c. let h = within c in omega arith)  -- mul-values
-    (λ c. let h = within c in omega arith)  -- sub-row
-    (λ c. let h = within c in omega arith)  -- part-values-start
-    (λ c. let h = within c in omega arith)  -- part-values-end
-    (λ c κs. let t = c.before in let h = within t in let i = t.before.loop.invariant in ((start t.before).pre, (t.loop-test.true, simp (length-take, length-drop) (omega arith))))  -- row-requires
-    (λ c. search needs) (λ c. search needs)  -- add-a, loop-less
+    (λ c. omega (arith, c.before.requires.orbitals-most))  -- overflow_mul-width
+    (λ c. (omega arith, length-replicate 512 plus_zero, sym (over_none _)))  -- loop-a-init
+    (λ c. let h = within c in omega arith)  -- overflow_mul-start
+    (λ c. let h = within c in omega arith)  -- overflow_add-end
+    (λ c. let h = within c in omega arith)  -- offset_bounds-values-start
+    (λ c. let h = within c in omega arith)  -- slice_bounds-row-count
+    (λ c. let h = within c in omega arith)  -- slice_bounds-values-start
+    (λ c. let h = within c in omega arith)  -- slice_bounds-values-end
+    (λ c κs. let t = c.before in let h = within t in let i = t.before.loop-a.invariant in ((start t.before).requires, (t.loop-a-test.true, simp (length-take, length-drop) (omega arith))))  -- row-requires
+    (λ c. search rules) (λ c. search rules)  -- overflow_step-a, loop-a-smaller
     loop-again
     returns)

@@ -1,5 +1,5 @@
 -- `observables::flow::flow_of` meets its contract: a flow where the questions pass, and else their refusal. Assumes nothing.
-use Rattle.lists.specs.Prelude.{◌≡◌, sym, ap, ap₂, ◌∙◌, binary64, of_bits, needs}
+use Rattle.lists.specs.Prelude.{◌≡◌, sym, ap, ap₂, ◌∙◌, binary64, of_bits, rules}
 use lib.Ieee as Ieee
 use Rattle.complex.specs.declared.Complex.{Complex}
 use Rattle.complex.specs.Arithmetic.{mul, cmul, minus_i}
@@ -10,29 +10,29 @@ use Rattle.observables.specs.Answers.{observed_yes, observed-no}
 use Rattle.observables.proofs.flow.flow_of.Statement.{statement}
 use Rattle.observables.proofs.flow.flow_of.Tie as tie
 
-abbrev start : tie.After-then3 → tie.Start
+abbrev start : tie.After-then-verdict → tie.Start
 start c = c.before.before.before.before.before.before.before.before
 
 -- the checks in their order
-asked : (c : tie.After-then3) → let x = (start c).args in
-    c.then3.result ≡ (finite_factors x.hopping x.charge
+asked : (c : tie.After-then-verdict) → let x = (start c).args in
+    c.then-verdict.result ≡ (finite_factors x.hopping x.charge
     then (orbital_below x.a x.shape.orbitals then orbital_below x.b x.shape.orbitals) then time_below x.time x.shape.points)
 asked c =
     let n = c.before.before in
     let o = n.before.before in
-    c.then3.ensures ∙ ap₂ ◌then◌ c.before.finite-factors.ensures
-    (n.then2.ensures ∙ ap₂ ◌then◌ (o.then.ensures ∙ ap₂ ◌then◌ o.before.before.orbital-below.ensures o.before.orbital-below2.ensures) n.before.time-below.ensures)
+    c.then-verdict.ensures ∙ ap₂ ◌then◌ c.before.finite_factors.ensures
+    (n.then-places.ensures ∙ ap₂ ◌then◌ (o.then-bond.ensures ∙ ap₂ ◌then◌ o.before.before.orbital_below.ensures o.before.orbital_below-2.ensures) n.before.time_below.ensures)
 
 pub flow_of_spec : {M : Type 1} → statement M
 unfolding queried Ieee.neg Ieee.of_bits
 flow_of_spec =
     tie.close
     (tie.spec
-    (λ c κs. search needs) (λ c κs. search needs) (λ c κs. search needs)  -- orbital-below-requires, orbital-below-requires-2, then-requires
-    (λ c κs. search needs) (λ c κs. search needs) (λ c κs. search needs)  -- time-below-requires, then-requires-2, finite-factors-requires
-    (λ c κs. search needs) (λ c. search needs) (λ c κs. search needs)  -- then-requires-3, enum-known-verdict, refused-requires
-    (λ c. let v = c.before.before in c.refused.ensures ∙ observed-no _ _ (sym (asked v.before.before) ∙ v.verdict.given.1))  -- returns
-    (λ c. search needs) (λ c κs. search needs) (λ c κs. search needs) (λ c κs. search needs)  -- enum_told, found-requires, times-requires, times-requires-2
+    (λ c κs. search rules) (λ c κs. search rules) (λ c κs. search rules)  -- orbital_below-requires, orbital_below-requires-2, then-bond-requires
+    (λ c κs. search rules) (λ c κs. search rules) (λ c κs. search rules)  -- time_below-requires, then-places-requires, finite_factors-requires
+    (λ c κs. search rules) (λ c. search rules) (λ c κs. search rules)  -- then-verdict-requires, enum_known-verdict, refused-requires
+    (λ c. let v = c.before in c.refused.ensures ∙ observed-no _ _ (sym (asked v.before) ∙ v.in-Refused.is))  -- returns-in-Refused
+    (λ c. search rules) (λ c κs. search rules) (λ c κs. search rules) (λ c κs. search rules)  -- enum_told-1, found-requires, times-rho_ba-requires, times-requires
     (λ c.
     let t = c.before in
     let f = t.before.before in

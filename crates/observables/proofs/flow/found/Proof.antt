@@ -1,5 +1,5 @@
 -- `observables::flow::found` meets its contract: the entry, or zero. Assumes nothing.
-use Rattle.lists.specs.Prelude.{sym, ap, ◌∙◌, needs}
+use Rattle.lists.specs.Prelude.{sym, ap, ◌∙◌, rules}
 use Rattle.observables.specs.Query.{found}
 use Rattle.observables.proofs.flow.found.Statement.{statement}
 use Rattle.observables.proofs.flow.found.Tie as tie
@@ -9,6 +9,6 @@ unfolding found
 found_spec =
     tie.close
     (tie.spec
-    (λ c κs. search needs) (λ c. search needs) (λ c. search needs)  -- read-requires, enum-known-z, enum_told
-    (λ c. ap found (sym c.enum_told.given.1 ∙ c.before.before.read.ensures))  -- returns
-    (λ c. let z = c.before in ap found (sym z.z.given.1 ∙ z.before.before.read.ensures)))  -- returns-2
+    (λ c κs. search rules) (λ c. search rules) (λ c. search rules)  -- read-requires, enum_known-z, enum_told-1
+    (λ c. ap found (sym c.in_default.is ∙ c.before.read.ensures))  -- returns-in_default
+    (λ c. let z = c in ap found (sym z.in-Entry.is ∙ z.before.read.ensures)))  -- returns-2

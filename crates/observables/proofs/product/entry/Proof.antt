@@ -1,5 +1,5 @@
 -- `observables::product::entry` meets its contract: after k steps the sum has the first k terms of the product's entry. Assumes nothing.
-use Rattle.lists.specs.Prelude.{◌≡◌, sym, ◌∙◌, List, ℕ, ◌-◌, ◌≤◌, le_antisymm, arith, Float, needs}
+use Rattle.lists.specs.Prelude.{◌≡◌, sym, ◌∙◌, List, ℕ, ◌-◌, ◌≤◌, le_antisymm, arith, Float, rules}
 use Rattle.complex.specs.declared.Complex.{Complex}
 use Rattle.complex.specs.Arithmetic.{czero, cmul}
 use Rattle.complex.specs.Sum.{sum_from}
@@ -14,10 +14,10 @@ use Rattle.observables.proofs.product.entry.Tie as tie
 abbrev term : List Float → List Float → ℕ → ℕ → ℕ → ℕ → ℕ → ℕ → Complex
 term values lesser capacity orbitals time a b k = cmul (entries_in orbitals values a k) (density_of capacity orbitals lesser time k b)
 
-abbrev invariant-loop : tie.invariant-loop
+abbrev invariant-loop : tie.invariant-loop-k
 invariant-loop values lesser capacity orbitals time a b sum₀ k₀ sum k = (k ≤ orbitals) × (sum ≡ sum_from czero (term values lesser capacity orbitals time a b) 0 k)
 
-abbrev decreases-loop : tie.decreases-loop
+abbrev decreases-loop : tie.decreases-loop-k
 decreases-loop values lesser capacity orbitals time a b sum₀ k₀ sum k = orbitals - k
 
 pub entry_spec : {M : Type 1} → statement M
@@ -27,9 +27,9 @@ entry_spec =
     (tie.spec
     invariant-loop
     decreases-loop
-    (λ c. (omega arith, sym (sum-none czero _ 0)))  -- loop-holds
-    (λ c κs. let h = c.before.before.before.before.requires in (omega arith, omega arith, h.0.orbitals-most, h.1.2))  -- observable-entry-requires
-    (λ c κs. let h = c.before.before.before.before.before.requires in (h.0, (omega arith, omega arith)))  -- entry-requires
-    (λ c κs. search needs) (λ c κs. search needs) (λ c. search needs) (λ c. search needs)  -- times-requires, plus-requires, add-k, loop-less
-    (λ c. (omega arith, let t = c.before in rw (c.plus.ensures, t.times.ensures, t.before.entry.ensures, t.before.before.observable-entry.ensures, t.before.before.before.before.loop.invariant.1, sum_more)))  -- loop-again
-    (λ c. c.before.loop.invariant.1 ∙ rw (le_antisymm c.before.loop.invariant.0 c.loop-test.false)))  -- returns
+    (λ c. (omega arith, sym (sum-none czero _ 0)))  -- loop-k-init
+    (λ c κs. let h = c.before.before.before.before.requires in (omega arith, omega arith, h.0.orbitals-most, h.1.2))  -- observable_entry-x-requires
+    (λ c κs. let h = c.before.before.before.before.before.requires in (h.0, (omega arith, omega arith)))  -- entry-rho-requires
+    (λ c κs. search rules) (λ c κs. search rules) (λ c. search rules) (λ c. search rules)  -- times-requires, plus-sum-requires, overflow_step-k, loop-k-smaller
+    (λ c. (omega arith, let t = c.before in rw (c.plus-sum.ensures, t.times.ensures, t.before.entry-rho.ensures, t.before.before.observable_entry-x.ensures, t.before.before.before.before.loop-k.invariant.1, sum_more)))  -- loop-k-preserved
+    (λ c. c.before.loop-k.invariant.1 ∙ rw (le_antisymm c.before.loop-k.invariant.0 c.loop-k-test.false)))  -- returns

@@ -1,5 +1,5 @@
 -- `observables::product::trace` meets its contract: after a steps the sum has the first a entries of the diagonal. Assumes nothing.
-use Rattle.lists.specs.Prelude.{◌≡◌, sym, ◌∙◌, ◌-◌, ◌≤◌, le_antisymm, arith, needs}
+use Rattle.lists.specs.Prelude.{◌≡◌, sym, ◌∙◌, ◌-◌, ◌≤◌, le_antisymm, arith, rules}
 use Rattle.complex.specs.Arithmetic.{czero}
 use Rattle.complex.specs.Sum.{sum_from}
 use Rattle.complex.specs.Agreement.{sum_more, sum-none}
@@ -8,11 +8,11 @@ use Rattle.observables.specs.Density.{product_of}
 use Rattle.observables.proofs.product.trace.Statement.{statement}
 use Rattle.observables.proofs.product.trace.Tie as tie
 
-abbrev invariant-loop : tie.invariant-loop
+abbrev invariant-loop : tie.invariant-loop-a
 invariant-loop values lesser capacity orbitals time sum₀ a₀ sum a =
     (a ≤ orbitals) × (sum ≡ sum_from czero (λ k. product_of capacity orbitals values lesser time k k) 0 a)
 
-abbrev decreases-loop : tie.decreases-loop
+abbrev decreases-loop : tie.decreases-loop-a
 decreases-loop values lesser capacity orbitals time sum₀ a₀ sum a = orbitals - a
 
 pub trace_spec : {M : Type 1} → statement M
@@ -22,8 +22,8 @@ trace_spec =
     (tie.spec
     invariant-loop
     decreases-loop
-    (λ c. (omega arith, sym (sum-none czero _ 0)))  -- loop-holds
-    (λ c κs. let h = c.before.before.before.before.requires in (h.0, (c.loop-test.true, c.loop-test.true, h.1)))  -- entry-requires
-    (λ c κs. search needs) (λ c. search needs) (λ c. search needs)  -- plus-requires, add-a, loop-less
-    (λ c. (omega arith, rw (c.plus.ensures, c.before.entry.ensures, c.before.before.before.loop.invariant.1, sum_more)))  -- loop-again
-    (λ c. c.before.loop.invariant.1 ∙ rw (le_antisymm c.before.loop.invariant.0 c.loop-test.false)))  -- returns
+    (λ c. (omega arith, sym (sum-none czero _ 0)))  -- loop-a-init
+    (λ c κs. let h = c.before.before.before.before.requires in (h.0, (c.loop-a-test.true, c.loop-a-test.true, h.1)))  -- entry-requires
+    (λ c κs. search rules) (λ c. search rules) (λ c. search rules)  -- plus-sum-requires, overflow_step-a, loop-a-smaller
+    (λ c. (omega arith, rw (c.plus-sum.ensures, c.before.entry.ensures, c.before.before.before.loop-a.invariant.1, sum_more)))  -- loop-a-preserved
+    (λ c. c.before.loop-a.invariant.1 ∙ rw (le_antisymm c.before.loop-a.invariant.0 c.loop-a-test.false)))  -- returns

@@ -1,5 +1,5 @@
 -- `refusal::Verdict::then` meets its contract, by the case that the match found. Assumes nothing.
-use Rattle.lists.specs.Prelude.{needs}
+use Rattle.lists.specs.Prelude.{rules}
 use Rattle.refusal.specs.Verdict.{◌then◌}
 use Rattle.refusal.proofs.Verdict.then.Statement.{statement}
 use Rattle.refusal.proofs.Verdict.then.Tie as tie
@@ -9,6 +9,6 @@ unfolding ◌then◌
 then_spec =
     tie.close
     (tie.spec
-    (λ c. search needs) (λ c. search needs)  -- enum_told, enum-known-self
-    (λ c. rw c.enum_told.given.1)  -- returns
-    (λ c. rw c.before.self.given.1))  -- returns-2
+    (λ c. search rules) (λ c. search rules)  -- enum_told-1, enum_known-self
+    (λ c. rw c.in-Pass.is)  -- returns-in-Pass
+    (λ c. rw c.in-Refused.is))  -- returns-2

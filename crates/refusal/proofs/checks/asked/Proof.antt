@@ -5,4 +5,4 @@ use Rattle.refusal.proofs.checks.asked.Tie as tie
 
 pub asked_spec : {M : Type 1} → statement M
 unfolding ask
-asked_spec = tie.close (tie.spec (λ c. rw c.if1.true) (λ c. rw c.if1.false))
+asked_spec = tie.close (tie.spec (λ c. rw c.if-yes.true) (λ c. rw c.if-yes.false))

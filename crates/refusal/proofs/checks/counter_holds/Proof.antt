@@ -1,5 +1,5 @@
 -- `refusal::checks::counter_holds` meets its contract: it asks the question of `counter_holds`, by a difference that does not wrap. Assumes nothing.
-use Rattle.lists.specs.Prelude.{◌≡◌, ◌∙◌, ℕ, ◌+◌, ◌-◌, ◌≤◌, arith, leb, leb-true, le-leb, needs}
+use Rattle.lists.specs.Prelude.{◌≡◌, ◌∙◌, ℕ, ◌+◌, ◌-◌, ◌≤◌, arith, leb, leb-true, le-leb, rules}
 use Rattle.refusal.specs.Checks.{counter_holds}
 use Rattle.refusal.specs.Agreement.{same_test}
 use Rattle.refusal.proofs.checks.counter_holds.Statement.{statement}
@@ -17,6 +17,6 @@ unfolding counter_holds
 counter_holds_spec =
     tie.close
     (tie.spec
-    (λ c. search needs)  -- sub
-    (λ c κs. search needs)  -- numbered-requires
-    (λ c. let x = c.before.args in c.numbered.ensures ∙ rw (left x.counter x.count 0xffff_ffff_ffff_ffff (search needs))))  -- returns
+    (λ c. search rules)  -- sub
+    (λ c κs. search rules)  -- numbered-requires
+    (λ c. let x = c.before.args in c.numbered.ensures ∙ rw (left x.counter x.count 0xffff_ffff_ffff_ffff (search rules))))  -- returns

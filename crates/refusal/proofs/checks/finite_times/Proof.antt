@@ -1,5 +1,5 @@
 -- `refusal::checks::finite_times` meets its contract: all are finite where the search reaches the end. Assumes nothing.
-use Rattle.lists.specs.Prelude.{ap, ◌∙◌, Bool, add-zero, get_or, nan, needs}
+use Rattle.lists.specs.Prelude.{ap, ◌∙◌, Bool, add-zero, get_or, nan, rules}
 use Rattle.lists.specs.Indexed.{all_below}
 use Rattle.complex.specs.Arithmetic.{finite}
 use Rattle.refusal.specs.Verdict.{ask, by}
@@ -13,8 +13,8 @@ unfolding finite_times
 finite_times_spec =
     tie.close
     (tie.spec
-    (λ c κs. search needs) (λ c κs. search needs)  -- finite-prefix-requires, numbered-requires
+    (λ c κs. search rules) (λ c κs. search rules)  -- finite_prefix-requires, numbered-requires
     (λ c.
     let x = c.before.before.before.args in
     c.numbered.ensures
-    ∙ ap (λ (yes : Bool). ask yes (by 4)) (prefix-all _ _ _ c.before.finite-prefix.ensures.1 ∙ ap (all_below x.points) (λ j i. finite (get_or x.times.now (add-zero i j) nan)))))  -- returns
+    ∙ ap (λ (yes : Bool). ask yes (by 4)) (prefix-all _ _ _ c.before.finite_prefix.ensures.1 ∙ ap (all_below x.points) (λ j i. finite (get_or x.times.now (add-zero i j) nan)))))  -- returns

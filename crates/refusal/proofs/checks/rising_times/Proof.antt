@@ -1,5 +1,5 @@
 -- `refusal::checks::rising_times` meets its contract: the step after the search's end is the first that does not rise. Assumes nothing.
-use Rattle.lists.specs.Prelude.{◌∙◌, needs}
+use Rattle.lists.specs.Prelude.{◌∙◌, rules}
 use Rattle.refusal.specs.Checks.{rising_times}
 use Rattle.refusal.specs.Search.{prefix-asked}
 use Rattle.refusal.proofs.checks.rising_times.Statement.{statement}
@@ -10,6 +10,6 @@ unfolding rising_times
 rising_times_spec =
     tie.close
     (tie.spec
-    (λ c κs. search needs) (λ c κs. search needs) (λ c. search needs)  -- less-requires, rising-prefix-requires, add-t6
-    (λ c κs. search needs)  -- asked-requires
-    (λ c. rw (← c.before.before.less.ensures) (c.asked.ensures ∙ prefix-asked _ _ _ _ c.before.rising-prefix.ensures)))  -- returns
+    (λ c κs. search rules) (λ c κs. search rules) (λ c. search rules)  -- less-steps-requires, rising_prefix-risen-requires, overflow_add-refusal
+    (λ c κs. search rules)  -- asked-requires
+    (λ c. rw (← c.before.before.less-steps.ensures) (c.asked.ensures ∙ prefix-asked _ _ _ _ c.before.rising_prefix-risen.ensures)))  -- returns

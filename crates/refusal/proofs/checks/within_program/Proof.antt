@@ -1,5 +1,5 @@
 -- `refusal::checks::within_program` meets its contract: N·n is at most 16 where n is 0, and where N is at most 16 / n. Assumes nothing.
-use Rattle.lists.specs.Prelude.{◌≡◌, ◌∙◌, ℕ, ◌*◌, ◌/◌, ◌<◌, le-div_iff_mul-le, mul-zero, arith, leb, needs, leb-true, le-leb}
+use Rattle.lists.specs.Prelude.{◌≡◌, ◌∙◌, ℕ, ◌*◌, ◌/◌, ◌<◌, le-div_iff_mul-le, mul-zero, arith, leb, rules, leb-true, le-leb}
 use Rattle.refusal.specs.Checks.{within_program}
 use Rattle.refusal.specs.Agreement.{same_test}
 use Rattle.refusal.proofs.checks.within_program.Statement.{statement}
@@ -13,7 +13,7 @@ unfolding within_program
 within_program_spec =
     tie.close
     (tie.spec
-    (λ c κs. search needs)  -- numbered-requires
-    (λ c. rw (c.before.if1.true, mul-zero) c.numbered.ensures)  -- returns
-    (λ c. search needs) (λ c κs. search needs)  -- div-numbered, numbered-requires-2
-    (λ c. let x = c.before.before.args in c.numbered2.ensures ∙ rw (divided x.points x.orbitals 16 (omega arith))))  -- returns-2
+    (λ c κs. search rules)  -- numbered-requires
+    (λ c. rw (c.before.if-orbitals-eq0.true, mul-zero) c.numbered.ensures)  -- returns-then-orbitals-eq0
+    (λ c. search rules) (λ c κs. search rules)  -- nonzero_div-orbitals, numbered-requires-2
+    (λ c. let x = c.before.before.args in c.numbered-2.ensures ∙ rw (divided x.points x.orbitals 16 (omega arith))))  -- returns-2

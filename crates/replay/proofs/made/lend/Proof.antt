@@ -1,5 +1,5 @@
 -- `replay::made::lend` is safe and ends: there is room for the times and the function after them. Assumes nothing.
-use Rattle.lists.specs.Prelude.{sym, arith, length-take-le, needs}
+use Rattle.lists.specs.Prelude.{sym, arith, length-take-le, rules}
 use Rattle.replay.proofs.made.lend.Statement.{statement}
 use Rattle.replay.proofs.made.lend.Tie as tie
 
@@ -7,21 +7,21 @@ pub lend_spec : {M : Type 1} → statement M
 lend_spec =
     tie.close
     (tie.spec
-    (λ c κs. search needs)  -- whole-requires
-    (λ c κs. search needs)  -- length-requires
-    (λ c. search needs)  -- returns
-    (λ c. search needs)  -- sub-if2
-    (λ c. search needs)  -- returns-2
-    (λ c. search needs)  -- slice-relend-prefix-make-times
-    (λ c. sym (length-take-le _ _ (omega arith)))  -- slice-aggregate-make-times
-    (λ c κs. search needs)  -- make-times-requires
-    (λ c. search needs)  -- add-make-function
-    (λ c. search needs)  -- mul-make-function
-    (λ c. search needs)  -- sub-make-function
-    (λ c. search needs)  -- part-make-function-start
-    (λ c. search needs)  -- part-make-function-end
-    (λ c κs. search needs)  -- make-function-requires
-    (λ c. search needs)  -- add-shared-places
-    (λ c κs. search needs)  -- shared-places-requires
-    (λ c. search needs)  -- same-length
-    (λ c. search needs))  -- returns-3
+    (λ c κs. search rules)  -- whole-seed-requires
+    (λ c κs. search rules)  -- length-count-requires
+    (λ c. search rules)  -- returns-then-points-numbers
+    (λ c. search rules)  -- overflow_sub-numbers
+    (λ c. search rules)  -- returns-then-count-numbers
+    (λ c. search rules)  -- slice_bounds-make_times-end
+    (λ c. sym (length-take-le _ _ (omega arith)))  -- slice_bounds-make_times-end-2
+    (λ c κs. search rules)  -- make_times-state-requires
+    (λ c. search rules)  -- overflow_add-points
+    (λ c. search rules)  -- offset_bounds-numbers-points
+    (λ c. search rules)  -- slice_bounds-make_function-count
+    (λ c. search rules)  -- slice_bounds-make_function-start
+    (λ c. search rules)  -- slice_bounds-make_function-end
+    (λ c κs. search rules)  -- make_function-requires
+    (λ c. search rules)  -- overflow_add-points-2
+    (λ c κs. search rules)  -- shared_places-requires
+    (λ c. search rules)  -- shape_of-numbers
+    (λ c. search rules))  -- returns-3

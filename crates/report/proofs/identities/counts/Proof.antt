@@ -1,5 +1,5 @@
 -- `report::identities::counts` meets its contract, identity by identity. Assumes nothing.
-use Rattle.lists.specs.Prelude.{◌≡◌, refl, Bool, ℕ, needs}
+use Rattle.lists.specs.Prelude.{◌≡◌, refl, Bool, ℕ, rules}
 use Rattle.report.specs.declared.identities.Identity.{Identity}
 use Rattle.report.specs.Residuals.{counted}
 use Rattle.report.proofs.identities.counts.Statement.{statement}
@@ -12,12 +12,12 @@ pub counts_spec : {M : Type 1} → statement M
 unfolding counted
 counts_spec =
     tie.close (tie.spec
-    (λ c. search needs) (λ c. search needs) (λ c. search needs) (λ c. search needs)  -- enum_told, enum-told-2, enum-told-3, enum-told-4
-    (λ c. search needs) (λ c. search needs) (λ c. search needs)  -- enum-told-5, enum-told-6, enum-told-7
-    (λ c. let x = c.before.before.args in by-identity x.t x.u c.enum_told.given.1 refl)  -- returns
-    (λ c. let x = c.before.before.args in by-identity x.t x.u c.enum-told2.given.1 refl)  -- returns-2
-    (λ c. let x = c.before.before.args in by-identity x.t x.u c.enum-told3.given.1 refl)  -- returns-3
-    (λ c. let x = c.before.before.args in by-identity x.t x.u c.enum-told4.given.1 refl)  -- returns-4
-    (λ c. let x = c.before.before.args in by-identity x.t x.u c.enum-told5.given.1 refl)  -- returns-5
-    (λ c. let x = c.before.before.args in by-identity x.t x.u c.enum-told6.given.1 refl)  -- returns-6
-    (λ c. let x = c.before.before.args in by-identity x.t x.u c.enum-told7.given.1 refl))  -- returns-7
+    (λ c. search rules) (λ c. search rules) (λ c. search rules) (λ c. search rules)  -- enum_told-1, enum_told-in-AdvancedCausality, enum_told-in-AdvancedAdjoint, enum_told-in-LesserAntihermiticity
+    (λ c. search rules) (λ c. search rules) (λ c. search rules)  -- enum_told-in-GreaterAntihermiticity, enum_told-in-Spectral, enum_told-in-EqualTime
+    (λ c. let x = c.before.args in by-identity x.t x.u c.in-RetardedCausality.is refl)  -- returns-in-RetardedCausality
+    (λ c. let x = c.before.args in by-identity x.t x.u c.in-AdvancedCausality.is refl)  -- returns-in-AdvancedCausality
+    (λ c. let x = c.before.args in by-identity x.t x.u c.in-AdvancedAdjoint.is refl)  -- returns-in-AdvancedAdjoint
+    (λ c. let x = c.before.args in by-identity x.t x.u c.in-LesserAntihermiticity.is refl)  -- returns-in-LesserAntihermiticity
+    (λ c. let x = c.before.args in by-identity x.t x.u c.in-GreaterAntihermiticity.is refl)  -- returns-in-GreaterAntihermiticity
+    (λ c. let x = c.before.args in by-identity x.t x.u c.in-Spectral.is refl)  -- returns-in-Spectral
+    (λ c. let x = c.before.args in by-identity x.t x.u c.in-EqualTime.is refl))  -- returns-7

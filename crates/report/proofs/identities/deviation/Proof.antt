@@ -1,5 +1,5 @@
 -- `report::identities::deviation` meets its contract, identity by identity. Assumes nothing.
-use Rattle.lists.specs.Prelude.{ap₂, ◌∙◌, arith, needs}
+use Rattle.lists.specs.Prelude.{ap₂, ◌∙◌, arith, rules}
 use Rattle.complex.specs.Arithmetic.{csub}
 use Rattle.block.specs.Operations.{adjoint, subtracted}
 use Rattle.report.specs.Residuals.{deviation_of}
@@ -7,25 +7,25 @@ use Rattle.report.specs.Passed.{mirrored}
 use Rattle.report.proofs.identities.deviation.Statement.{statement}
 use Rattle.report.proofs.identities.deviation.Tie as tie
 
-abbrev start : tie.After-shared-slice-known4 → tie.Start
+abbrev start : tie.After-shared_slice_known-4-1 → tie.Start
 start c = c.before.before.before.before
 
 pub deviation_spec : {M : Type 1} → statement M
 unfolding deviation_of subtracted adjoint
 deviation_spec =
     tie.close (tie.spec
-    (λ c. search needs) (λ c κs. search needs) (λ c. search needs) (λ c κs. search needs)  -- enum_told, entry-requires, enum-told-2, entry-requires-2
-    (λ c. search needs)  -- enum-told-3
-    (λ c κs. let h = (start c.before.before).requires in (mirrored h.0, omega arith))  -- entry-requires-3
-    (λ c κs. search needs) (λ c κs. search needs) (λ c κs. search needs)  -- conj-requires, entry-requires-4, minus-requires
-    (λ c. search needs) (λ c κs. search needs) (λ c. search needs)  -- enum-told-4, antihermitian-requires, enum-told-5
-    (λ c κs. search needs) (λ c. search needs) (λ c κs. search needs)  -- antihermitian-requires-2, enum-told-6, difference-requires
-    (λ c κs. search needs) (λ c κs. search needs) (λ c. search needs)  -- difference-requires-2, minus-requires-2, enum-told-7
-    (λ c κs. search needs) (λ c κs. search needs) (λ c κs. search needs)  -- difference-requires-3, minus-i-identity-requires, minus-requires-3
-    (λ c. rw c.before.enum_told.given.1 c.entry.ensures)  -- returns
-    (λ c. rw c.before.enum-told2.given.1 c.entry2.ensures)  -- returns-2
-    (λ c. let e = c.before in let m = e.before in rw m.before.before.enum-told3.given.1 (c.minus.ensures ∙ rw (e.entry4.ensures, m.conj.ensures, m.before.entry3.ensures)))  -- returns-3
-    (λ c. rw c.before.enum-told4.given.1 c.antihermitian.ensures)  -- returns-4
-    (λ c. rw c.before.enum-told5.given.1 c.antihermitian2.ensures)  -- returns-5
-    (λ c. let d = c.before in rw d.before.before.enum-told6.given.1 (c.minus2.ensures ∙ rw (d.difference2.ensures, d.before.difference.ensures)))  -- returns-6
-    (λ c. let d = c.before in rw d.before.before.enum-told7.given.1 (c.minus3.ensures ∙ ap₂ csub d.before.difference3.ensures d.minus-i-identity.ensures)))  -- returns-7
+    (λ c. search rules) (λ c κs. search rules) (λ c. search rules) (λ c κs. search rules)  -- enum_told-1, entry-requires, enum_told-in-AdvancedCausality, entry-requires-in-AdvancedCausality
+    (λ c. search rules)  -- enum_told-in-AdvancedAdjoint
+    (λ c κs. let h = (start c.before).requires in (mirrored h.0, omega arith))  -- entry-requires-in-AdvancedAdjoint
+    (λ c κs. search rules) (λ c κs. search rules) (λ c κs. search rules)  -- conj-mirror-requires, entry-requires-in-AdvancedAdjoint-2, minus-requires
+    (λ c. search rules) (λ c κs. search rules) (λ c. search rules)  -- enum_told-in-LesserAntihermiticity, antihermitian-requires, enum_told-in-GreaterAntihermiticity
+    (λ c κs. search rules) (λ c. search rules) (λ c κs. search rules)  -- antihermitian-requires-in-GreaterAntihermiticity, enum_told-in-Spectral, difference-causal-requires
+    (λ c κs. search rules) (λ c κs. search rules) (λ c. search rules)  -- difference-requires, minus-requires-in-Spectral, enum_told-in-EqualTime
+    (λ c κs. search rules) (λ c κs. search rules) (λ c κs. search rules)  -- difference-jump-requires, minus_i_identity-requires, minus-requires-in-EqualTime
+    (λ c. rw c.before.in-RetardedCausality.is c.entry.ensures)  -- returns-in-RetardedCausality
+    (λ c. rw c.before.in-AdvancedCausality.is c.entry-in-AdvancedCausality.ensures)  -- returns-in-AdvancedCausality
+    (λ c. let e = c.before in let m = e.before in rw m.before.before.in-AdvancedAdjoint.is (c.minus.ensures ∙ rw (e.entry-in-AdvancedAdjoint-2.ensures, m.conj-mirror.ensures, m.before.entry-in-AdvancedAdjoint.ensures)))  -- returns-in-AdvancedAdjoint
+    (λ c. rw c.before.in-LesserAntihermiticity.is c.antihermitian.ensures)  -- returns-in-LesserAntihermiticity
+    (λ c. rw c.before.in-GreaterAntihermiticity.is c.antihermitian-in-GreaterAntihermiticity.ensures)  -- returns-in-GreaterAntihermiticity
+    (λ c. let d = c.before in rw d.before.before.in-Spectral.is (c.minus-in-Spectral.ensures ∙ rw (d.difference.ensures, d.before.difference-causal.ensures)))  -- returns-in-Spectral
+    (λ c. let d = c.before in rw d.before.before.in-EqualTime.is (c.minus-in-EqualTime.ensures ∙ ap₂ csub d.before.difference-jump.ensures d.minus_i_identity.ensures)))  -- returns-7

@@ -8,4 +8,4 @@ use Rattle.report.proofs.identities.minus_i_identity.Tie as tie
 
 pub minus_i_identity_spec : {M : Type 1} → statement M
 unfolding scaled identity cmul Ieee.of_bits Ieee.add Ieee.sub Ieee.mul Ieee.neg
-minus_i_identity_spec = tie.close (tie.spec (λ c. rw (eq-eqb _ _ c.if1.true) refl) (λ c. rw (ne_eqb _ _ c.if1.false) refl))
+minus_i_identity_spec = tie.close (tie.spec (λ c. rw (eq-eqb _ _ c.if-a-b.true) refl) (λ c. rw (ne_eqb _ _ c.if-a-b.false) refl))

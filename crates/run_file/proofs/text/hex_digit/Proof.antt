@@ -1,5 +1,5 @@
 -- `run_file::text::hex_digit` meets its contract. Assumes nothing.
-use Rattle.lists.specs.Prelude.{◌≡◌, ℕ, ◌+◌, ◌≤◌, ◌<◌, needs, lt-ltb, le-ltb}
+use Rattle.lists.specs.Prelude.{◌≡◌, ℕ, ◌+◌, ◌≤◌, ◌<◌, rules, lt-ltb, le-ltb}
 use Rattle.run_file.specs.Text.{hex_digit}
 use Rattle.run_file.proofs.text.hex_digit.Statement.{statement}
 use Rattle.run_file.proofs.text.hex_digit.Tie as tie
@@ -16,7 +16,7 @@ pub hex_digit_spec : {M : Type 1} → statement M
 hex_digit_spec =
     tie.close
     (tie.spec
-    (λ c. search needs)  -- add-result
-    (λ c. search needs)  -- add-result-2
-    (λ c. figure _ c.if1.true)  -- returns
-    (λ c. letter _ c.if1.false))  -- returns-2
+    (λ c. search rules)  -- overflow_add-result
+    (λ c. search rules)  -- overflow_add-result-else-d-lt10
+    (λ c. figure _ c.if-d-lt10.true)  -- returns-then-d-lt10
+    (λ c. letter _ c.if-d-lt10.false))  -- returns-2

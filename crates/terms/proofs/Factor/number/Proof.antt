@@ -1,5 +1,5 @@
 -- `terms::Factor::number` meets its contract. Assumes nothing.
-use Rattle.lists.specs.Prelude.{needs}
+use Rattle.lists.specs.Prelude.{rules}
 use Rattle.terms.specs.Kinds.{right_number}
 use Rattle.terms.proofs.Factor.number.Statement.{statement}
 use Rattle.terms.proofs.Factor.number.Tie as tie
@@ -8,6 +8,6 @@ pub number_spec : {M : Type 1} → statement M
 unfolding right_number
 number_spec =
     tie.close (tie.spec
-    (λ c. search needs) (λ c. search needs) (λ c κs. search needs)  -- enum_told, enum-told-2, conj-requires
-    (λ c. rw c.enum_told.given.1)  -- returns
-    (λ c. rw c.before.enum-told2.given.1 c.conj.ensures))  -- returns-2
+    (λ c. search rules) (λ c. search rules) (λ c κs. search rules)  -- enum_told-1, enum_told-in-Adjoint, conj-requires
+    (λ c. rw c.in-Stored.is)  -- returns-in-Stored
+    (λ c. rw c.before.in-Adjoint.is c.conj.ensures))  -- returns-2

@@ -7,6 +7,6 @@ pub counter_of_spec : {M : Type 1} → statement M
 counter_of_spec =
     tie.close
     (tie.spec
-    (λ c. let h = c.requires in omega arith)  -- mul-result
-    (λ c. c.requires)  -- element-copy-out-result
+    (λ c. let h = c.requires in omega arith)  -- offset_bounds-session-desk
+    (λ c. c.requires)  -- bounds-session-desk
     (λ c. refl))  -- returns

@@ -12,8 +12,8 @@ pub with_count_spec : {M : Type 1} → statement M
 with_count_spec =
     tie.close
     (tie.spec
-    (λ c. let h = c.before.requires.0 in omega arith)  -- mul-products
-    (λ c. c.before.requires.0)  -- array-read-products
-    (λ c. let h = c.before.requires.1 in omega arith)  -- add-products
-    (λ c. c.before.requires.0)  -- array-write-products
+    (λ c. let h = c.before.requires.0 in omega arith)  -- offset_bounds-products-desk
+    (λ c. c.before.requires.0)  -- bounds-products-desk
+    (λ c. let h = c.before.requires.1 in omega arith)  -- overflow_add-products
+    (λ c. c.before.requires.0)  -- bounds-products-desk-2
     returns)

@@ -1,5 +1,5 @@
 -- `two_time::capacity::check_capacity` meets its contract: it asks its questions in their order. Assumes nothing.
-use Rattle.lists.specs.Prelude.{ap₂, ◌∙◌, needs}
+use Rattle.lists.specs.Prelude.{ap₂, ◌∙◌, rules}
 use Rattle.refusal.specs.Verdict.{◌then◌}
 use Rattle.two_time.proofs.capacity.check_capacity.Statement.{statement}
 use Rattle.two_time.proofs.capacity.check_capacity.Tie as tie
@@ -8,9 +8,9 @@ pub check_capacity_spec : {M : Type 1} → statement M
 check_capacity_spec =
     tie.close
     (tie.spec
-    (λ c κs. search needs) (λ c κs. search needs) (λ c κs. search needs) (λ c κs. search needs) (λ c κs. search needs) (λ c κs. search needs) (λ c κs. search needs)
+    (λ c κs. search rules) (λ c κs. search rules) (λ c κs. search rules) (λ c κs. search rules) (λ c κs. search rules) (λ c κs. search rules) (λ c κs. search rules)
     (λ c.
     let l = c.before.before in
     let room = l.before.before in
-    c.then3.ensures ∙ ap₂ ◌then◌ c.before.large-enough.ensures
+    c.then.ensures ∙ ap₂ ◌then◌ c.before.large_enough.ensures
     (l.then2.ensures ∙ ap₂ ◌then◌ l.before.within-limits.ensures (room.then.ensures ∙ ap₂ ◌then◌ room.before.before.fitting.ensures room.before.within-capacity.ensures))))  -- returns

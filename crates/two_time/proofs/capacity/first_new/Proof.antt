@@ -4,4 +4,4 @@ use Rattle.two_time.proofs.capacity.first_new.Statement.{statement}
 use Rattle.two_time.proofs.capacity.first_new.Tie as tie
 
 pub first_new_spec : {M : Type 1} → statement M
-first_new_spec = tie.close (tie.spec (λ c. rw (lt-ltb _ _ c.if1.true)) (λ c. rw (le-ltb _ _ c.if1.false)))
+first_new_spec = tie.close (tie.spec (λ c. rw (lt-ltb _ _ c.if-t-old.true)) (λ c. rw (le-ltb _ _ c.if-t-old.false)))

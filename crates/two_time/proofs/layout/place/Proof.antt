@@ -11,11 +11,11 @@ pub place_spec : {M : Type 1} → statement M
 place_spec =
     tie.close
     (tie.spec
-    (λ c. let w = at c in omega arith)  -- mul-result
-    (λ c. let w = at c in omega arith)  -- add-result
-    (λ c. let w = at c in omega arith)  -- mul-result-2
-    (λ c. let w = at c in let p = c.requires in omega arith)  -- add-result-2
-    (λ c. let w = at c in omega arith)  -- mul-result-3
-    (λ c. let w = at c in let p = c.requires in omega arith)  -- add-result-3
-    (λ c. let w = at c in let p = c.requires in omega arith)  -- mul-result-4
+    (λ c. let w = at c in omega arith)  -- overflow_mul-result
+    (λ c. let w = at c in omega arith)  -- overflow_add-result
+    (λ c. let w = at c in omega arith)  -- overflow_mul-result-2
+    (λ c. let w = at c in let p = c.requires in omega arith)  -- overflow_add-result-2
+    (λ c. let w = at c in omega arith)  -- overflow_mul-result-3
+    (λ c. let w = at c in let p = c.requires in omega arith)  -- overflow_add-result-3
+    (λ c. let w = at c in let p = c.requires in omega arith)  -- overflow_mul-result-4
     (λ c. (refl, (at c).inside)))  -- returns
