@@ -56,7 +56,7 @@ pub record With (Out : Type 0) : Type 0 where
   pub out : Out
 
 abbrev pub after_with : {A : Type 0} → ℕ → Passed A → Passed ℕ → Passed Float → With (List A)
-after_with number out places part = record { answer = after number places part; out = now out.exit }
+after_with number out places part = record { answer = after number places part; out = out.exit.now }
 
 -- at most seven numbers, as the first of seven values: one that is measured, and a complex number by its two parts
 abbrev pub numbered : Verdict → List Float → Numbers
@@ -77,7 +77,7 @@ numbers_answer n before places part =
     record { answer = answer_of verdict places part; out = afterwards zeroed verdict (written (take count n.values) before) before }
 
 abbrev pub answers_numbers : Numbers → Passed Float → Passed ℕ → Passed Float → With (List Float)
-answers_numbers n value places part = numbers_answer n (now value.entry) places.entry.now part.entry.now
+answers_numbers n value places part = numbers_answer n value.entry.now places.entry.now part.entry.now
 
 -- a decision in one byte: 1 for yes, 0 for no
 abbrev pub decision_verdict : Decision → Verdict
@@ -95,7 +95,7 @@ decision_answer d before places part =
     record { answer = answer_of (with_output (eqb (length before) 1) (decision_verdict d)) places part; out = decision_byte d before }
 
 abbrev pub answers_decision : Decision → Passed ℕ → Passed ℕ → Passed Float → With (List ℕ)
-answers_decision d decided places part = decision_answer d (now decided.entry) places.entry.now part.entry.now
+answers_decision d decided places part = decision_answer d decided.entry.now places.entry.now part.entry.now
 
 -- the block of these rows, columns and 512 numbers
 abbrev pub block : ℕ → ℕ → List Float → DenseMatrix
@@ -120,7 +120,7 @@ block_answer made shape out places part =
     record { answer = answer_of (with_output (room shape out) made.verdict) places part; out = block_written made.block shape out }
 
 abbrev pub after_block : ℕ → Passed ℕ → Passed Float → Passed ℕ → Passed Float → With Slices
-after_block number shape out places part = record { answer = after number places part; out = slices (now shape.exit) (now out.exit) }
+after_block number shape out places part = record { answer = after number places part; out = slices shape.exit.now out.exit.now }
 
 abbrev pub answers_block : Checked → Passed ℕ → Passed Float → Passed ℕ → Passed Float → With Slices
-answers_block made shape out places part = block_answer made (now shape.entry) (now out.entry) places.entry.now part.entry.now
+answers_block made shape out places part = block_answer made shape.entry.now out.entry.now places.entry.now part.entry.now

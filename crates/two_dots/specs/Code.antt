@@ -1,9 +1,9 @@
 -- L12 of two calls follows from the equations of their contracts. Assumes nothing.
 use Rattle.lists.specs.Prelude.{◌≡◌, ap, ◌∙◌}
 use Rattle.transient_run.specs.Calls.{Run}
-use Rattle.two_runs.specs.Contracts.{run_step}
+use Rattle.two_runs.specs.Promises.{run_step}
 use Rattle.two_dots.specs.declared.Bond.{Bond}
-use Rattle.two_dots.specs.Contracts.{Flowed, flow_of, run_flow, Separate}
+use Rattle.two_dots.specs.Promises.{Flowed, flow_of, run_flow, Separate}
 use Rattle.two_dots.specs.Theorem.{two_dots}
 
 pub one-flow : (r : Run) (q : Bond) (x : Flowed) → x.ran ≡ run_step r → x.flow ≡ (flow_of r q x.ran).flow → x ≡ run_flow r q

@@ -1,8 +1,8 @@
 // Two dots that do not couple (document 02, L12), of the running code: what two runs with one split leave of the first dot, and what a bond flow answers.
 ghost use Rattle.lists.specs.Prelude.{◌≡◌};
 ghost use Rattle.transient_run.specs.Calls.{run_of};
-ghost use Rattle.two_runs.specs.Contracts.{form_with};
-ghost use Rattle.two_dots.specs.Contracts.{run_flow, flow_in, Separate};
+ghost use Rattle.two_runs.specs.Promises.{form_with};
+ghost use Rattle.two_dots.specs.Promises.{run_flow, flow_in, Separate};
 
 use complex::Complex;
 use observables::{Observed, bond_flow_into};

@@ -8,7 +8,7 @@ use Rattle.transient_run.specs.Form.{start_products}
 use Rattle.transient_run.specs.Calls.{Run, run_of, booked, transient_run, append_point}
 use Rattle.causality.specs.Sessions.{Room}
 use Rattle.causality.specs.History.{together}
-use Rattle.two_runs.specs.Contracts.{Step, step_of, run_step}
+use Rattle.two_runs.specs.Promises.{Step, step_of, run_step}
 
 -- the call that is told p points: a run on what r's outputs and scratch hold, and an append after calls
 abbrev pub over : Run → ℕ → Run

@@ -8,7 +8,7 @@ use Rattle.causality.specs.Statement.{DysonDemanded}
 use Rattle.causality.specs.Theorem.{demand_3}
 use Rattle.causality.specs.Dyson.{dyson_of, dyson_demand}
 use Rattle.two_runs.specs.declared.Question.{Question}
-use Rattle.two_runs.specs.Contracts.{Step, step_of, run_step, Answered, answers_of, run_answers, Blind}
+use Rattle.two_runs.specs.Promises.{Step, step_of, run_step, Answered, answers_of, run_answers, Blind}
 
 -- ---- a contract's equations, as one of records
 

@@ -4,7 +4,7 @@ ghost use Rattle.lists.specs.Prelude.{◌≡◌, true};
 ghost use Rattle.transient_run.specs.Calls.{run_of, booked, transient_run, append_point, is_accepted};
 ghost use Rattle.causality.specs.Statement.{DysonDemanded};
 ghost use Rattle.causality.specs.Dyson.{call_of, dyson_of};
-ghost use Rattle.two_runs.specs.Contracts.{form_with, step_in, run_answers, answers_in, solved_in, Blind};
+ghost use Rattle.two_runs.specs.Promises.{form_with, step_in, run_answers, answers_in, solved_in, Blind};
 ghost use Rattle.two_runs.specs.Appending.{run_then_append, AllPoints};
 
 use complex::Complex;

@@ -15,7 +15,7 @@ abbrev start : tie.After-then-inputs → tie.Start
 start c = c.before.before.before.before.before.before.before.before.before.before.before.before.before
 
 abbrev equation : tie.Start → Equation
-equation s = let x = s.args in equation_of x.points x.orbitals x.times.now x.free.now x.self-energy.now
+equation s = let x = s.args in equation_of x.points x.orbitals x.times.now x.free.now x.self_energy.now
 
 abbrev outputs : tie.Start → List (List Float)
 outputs s = s.args.retarded.now ∷ s.args.kernel.now ∷ []
@@ -30,10 +30,10 @@ checked c =
     let sizes = grid.before in
     let entries = sizes.before in
     checks_are (equation s) x.tolerance [] (outputs s)
-    (inputs-asked x.points x.orbitals x.times.now (x.free.now ∷ x.self-energy.now ∷ []) (outputs s) sizes.check_sizes.result grid.check_grid.result entries.then-entries.result _
+    (inputs-asked x.points x.orbitals x.times.now (x.free.now ∷ x.self_energy.now ∷ []) (outputs s) sizes.check_sizes.result grid.check_grid.result entries.then-entries.result _
     (sizes_asked_lem _ _ _ _ _ _ entries.before.before.before.all_fit-fits.ensures sizes.check_sizes.ensures)
     grid.check_grid.ensures
-    (operands-more 0 x.free.now (x.self-energy.now ∷ []) _ _ _ entries.before.before.check_operand.ensures (operands-last 1 x.self-energy.now _ entries.before.check_operand-2.ensures) entries.then-entries.ensures)
+    (operands-more 0 x.free.now (x.self_energy.now ∷ []) _ _ _ entries.before.before.check_operand.ensures (operands-last 1 x.self_energy.now _ entries.before.check_operand-2.ensures) entries.then-entries.ensures)
     (i.then-inputs.ensures ∙ ap (λ (v : Verdict). sizes.check_sizes.result then v) i.before.then.ensures))
     c.before.check_retarded_inputs-support.ensures c.then-verdict.ensures
 

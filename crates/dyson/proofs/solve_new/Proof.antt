@@ -25,7 +25,7 @@ there s = let x = s.args in leb x.old x.shape.points && leb x.shape.points x.sha
 
 -- the verdict is that of checks 1 to 3
 checked : (c : tie.After-check_sizes) → let s = start c in let x = s.args in
-    c.check_sizes.result ≡ size_checks x.shape.capacity x.shape.orbitals (there s) (x.free.now ∷ x.self-energy.now ∷ x.retarded.now ∷ x.kernel.now ∷ [])
+    c.check_sizes.result ≡ size_checks x.shape.capacity x.shape.orbitals (there s) (x.free.now ∷ x.self_energy.now ∷ x.retarded.now ∷ x.kernel.now ∷ [])
 checked c = sizes_asked_lem _ _ _ (there (start c)) _ _ c.before.all_fit-fits.ensures c.check_sizes.ensures
 
 returns : tie.Need-returns-in_default
@@ -43,20 +43,20 @@ abbrev at : tie.After-is_finite → tie.Start
 at f = start (told f).before
 
 passed : (f : tie.After-is_finite) → let s = at f in let x = s.args in
-    size_checks x.shape.capacity x.shape.orbitals (there s) (x.free.now ∷ x.self-energy.now ∷ x.retarded.now ∷ x.kernel.now ∷ []) ≡ Pass
+    size_checks x.shape.capacity x.shape.orbitals (there s) (x.free.now ∷ x.self_energy.now ∷ x.retarded.now ∷ x.kernel.now ∷ []) ≡ Pass
 passed f = sym (checked (told f).before) ∙ (told f).in-Pass.is
 
 sizes : (f : tie.After-is_finite) → let s = at f in let x = s.args in
-    SizesPassed x.shape.capacity x.shape.orbitals (there s) (x.free.now ∷ x.self-energy.now ∷ x.retarded.now ∷ x.kernel.now ∷ [])
+    SizesPassed x.shape.capacity x.shape.orbitals (there s) (x.free.now ∷ x.self_energy.now ∷ x.retarded.now ∷ x.kernel.now ∷ [])
 sizes f = sizes-passed _ _ _ _ (passed f)
 
 -- what the convolution says
 said : (f : tie.After-is_finite) (ok : Bool) → ok ≡ f.is_finite.result → let x = (at f).args in
-    (new_finite Causal x.shape.capacity x.shape.orbitals x.old x.shape.points x.times.now x.free.now x.self-energy.now ≡ ok)
-    × ((convolved f).new_sums-convolved.new.out ≡ cond ok (new_numbers Causal x.shape.capacity x.shape.orbitals x.old x.shape.points x.times.now x.free.now x.self-energy.now x.kernel.now) (cleared_new x.shape.capacity x.shape.orbitals x.old x.shape.points x.kernel.now))
+    (new_finite Causal x.shape.capacity x.shape.orbitals x.old x.shape.points x.times.now x.free.now x.self_energy.now ≡ ok)
+    × ((convolved f).new_sums-convolved.new.out ≡ cond ok (new_numbers Causal x.shape.capacity x.shape.orbitals x.old x.shape.points x.times.now x.free.now x.self_energy.now x.kernel.now) (cleared_new x.shape.capacity x.shape.orbitals x.old x.shape.points x.kernel.now))
 said f ok e =
     let x = (at f).args in let z = sizes f in let l = lengths z in
-    let w : SizesPassed x.shape.capacity x.shape.orbitals true (x.free.now ∷ x.self-energy.now ∷ x.kernel.now ∷ []) = also_asked l.0 (also_asked l.1.0 (also_asked l.1.1.1.0 (none-asked z))) in
+    let w : SizesPassed x.shape.capacity x.shape.orbitals true (x.free.now ∷ x.self_energy.now ∷ x.kernel.now ∷ []) = also_asked l.0 (also_asked l.1.0 (also_asked l.1.1.1.0 (none-asked z))) in
     new_sums_said Causal _ _ _ _ _ _ _ _ (flagged _ _ (there (at f)) _ z.others (sizes_pass _ w w.long)) (convolved f).new_sums-convolved.ensures ok (e ∙ f.is_finite.ensures)
 
 -- a slice of its length is cleared
@@ -70,7 +70,7 @@ returns-2 c =
     let d = c.before.before in let i = d.before.before in let f = i.before in let x = (at f).args in let l = lengths (sizes f) in
     let k = said f false (sym (not-true _ i.if-not-is_finite.true-raw)) in
     let pass = passed f in
-    let lost = kernel_lost x.shape.capacity x.shape.orbitals x.old x.shape.points x.times.now x.free.now x.self-energy.now x.retarded.now x.kernel.now k.0 in
+    let lost = kernel_lost x.shape.capacity x.shape.orbitals x.old x.shape.points x.times.now x.free.now x.self_energy.now x.retarded.now x.kernel.now k.0 in
     (rw (pass, lost), rw (pass, lost) (d.clear_new.ensures ∙ clears f x.retarded.now l.1.1.0), rw (pass, lost) k.1)
 
 forward-requires : tie.Need-forward-requires
@@ -88,12 +88,12 @@ module _ (g : tie.After-forward) where
   f = else1.before
 
   made : let x = (at f).args in
-      (new_finite Causal x.shape.capacity x.shape.orbitals x.old x.shape.points x.times.now x.free.now x.self-energy.now ≡ true)
-      × ((convolved f).new_sums-convolved.new.out ≡ new_numbers Causal x.shape.capacity x.shape.orbitals x.old x.shape.points x.times.now x.free.now x.self-energy.now x.kernel.now)
+      (new_finite Causal x.shape.capacity x.shape.orbitals x.old x.shape.points x.times.now x.free.now x.self_energy.now ≡ true)
+      × ((convolved f).new_sums-convolved.new.out ≡ new_numbers Causal x.shape.capacity x.shape.orbitals x.old x.shape.points x.times.now x.free.now x.self_energy.now x.kernel.now)
   made = said f true (sym (not-false _ else1.if-not-is_finite.left))
 
-  solved : let x = (at f).args in solved_new_finite x.shape.capacity x.shape.orbitals x.old x.shape.points x.times.now x.free.now x.self-energy.now x.retarded.now x.kernel.now ≡ g.forward.result
-  solved = let x = (at f).args in kernel-there x.shape.capacity x.shape.orbitals x.old x.shape.points x.times.now x.free.now x.self-energy.now x.retarded.now x.kernel.now made.0 made.1 g.forward.ensures.0
+  solved : let x = (at f).args in solved_new_finite x.shape.capacity x.shape.orbitals x.old x.shape.points x.times.now x.free.now x.self_energy.now x.retarded.now x.kernel.now ≡ g.forward.result
+  solved = let x = (at f).args in kernel-there x.shape.capacity x.shape.orbitals x.old x.shape.points x.times.now x.free.now x.self_energy.now x.retarded.now x.kernel.now made.0 made.1 g.forward.ensures.0
 
 returns-3 : tie.Need-returns-then-forward
 unfolding solved_new summed_answer new_out

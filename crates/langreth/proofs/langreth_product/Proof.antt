@@ -14,10 +14,10 @@ abbrev start : tie.After-check_inputs-verdict → tie.Start
 start c = c.before.before.before.before.before.before.before.before.before.before.before.before.before.before.before
 
 abbrev lefts : tie.Start → Components
-lefts s = components_of s.args.left-retarded.now s.args.left-advanced.now s.args.left-lesser.now s.args.left-greater.now
+lefts s = components_of s.args.left_retarded.now s.args.left_advanced.now s.args.left_lesser.now s.args.left_greater.now
 
 abbrev rights : tie.Start → Components
-rights s = components_of s.args.right-retarded.now s.args.right-advanced.now s.args.right-lesser.now s.args.right-greater.now
+rights s = components_of s.args.right_retarded.now s.args.right_advanced.now s.args.right_lesser.now s.args.right_greater.now
 
 abbrev operands : tie.Start → List (List Float)
 operands s = listed (lefts s) ++ listed (rights s)

@@ -35,7 +35,7 @@ decreases-loop times retarded lesser_advanced filled capacity n t from count out
 abbrev start : tie.At-loop-p invariant-loop decreases-loop → tie.Start invariant-loop decreases-loop
 start l = l.before.before.before.before.before.before
 
-sizes : (s : tie.Start invariant-loop decreases-loop) → let x = s.args in SizesPassed x.capacity x.orbitals true (x.retarded.now ∷ x.lesser-advanced.now ∷ [])
+sizes : (s : tie.Start invariant-loop decreases-loop) → let x = s.args in SizesPassed x.capacity x.orbitals true (x.retarded.now ∷ x.lesser_advanced.now ∷ [])
 sizes s = sizes-passed _ _ _ _ s.requires.0.2
 
 block : (s : tie.Start invariant-loop decreases-loop) → s.args.orbitals * s.args.orbitals ≤ 256
@@ -63,7 +63,7 @@ group_parts capacity n times retarded lesser_advanced filled t from p m = join_a
 
 -- its checks pass
 passed : (w : tie.After-least-places invariant-loop decreases-loop) → let l = w.before.before in let x = (start l).args in
-    size_checks x.capacity x.orbitals (is_group x.capacity x.orbitals x.t (x.from + l.loop-p.p) w.least-places.result && holds_block x.orbitals x.filled.now) (x.retarded.now ∷ x.lesser-advanced.now ∷ []) ≡ Pass
+    size_checks x.capacity x.orbitals (is_group x.capacity x.orbitals x.t (x.from + l.loop-p.p) w.least-places.result && holds_block x.orbitals x.filled.now) (x.retarded.now ∷ x.lesser_advanced.now ∷ []) ≡ Pass
 passed w = let s = start w.before.before in flagged _ _ _ _ (rw (group_is (part w).there, s.requires.0.3)) s.requires.0.2
 
 -- its part of the slice
@@ -81,8 +81,8 @@ unfolding group_from
 returns c =
     let f = c.before in let g = f.before.before.before in let w = g.before.before in let l = w.before.before in let s = start l in let x = s.args in
     let z = part w in let m = w.least-places.result in
-    fails _ (finite_at x.capacity x.orbitals x.times.now x.retarded.now x.lesser-advanced.now x.filled.now x.t x.from) (laid x.capacity x.orbitals x.times.now x.retarded.now x.lesser-advanced.now x.filled.now x.t x.from) l.loop-p.p m _ z.inside
-    (sym (group_tests x.capacity x.orbitals x.times.now x.retarded.now x.lesser-advanced.now x.filled.now x.t x.from l.loop-p.p m)
+    fails _ (finite_at x.capacity x.orbitals x.times.now x.retarded.now x.lesser_advanced.now x.filled.now x.t x.from) (laid x.capacity x.orbitals x.times.now x.retarded.now x.lesser_advanced.now x.filled.now x.t x.from) l.loop-p.p m _ z.inside
+    (sym (group_tests x.capacity x.orbitals x.times.now x.retarded.now x.lesser_advanced.now x.filled.now x.t x.from l.loop-p.p m)
     ∙ group_failed x.orbitals m _ _ _ (before g) (passed w) (before-long g) _ _ g.group_from-summed.ensures.0 g.group_from-summed.ensures.1 (sym f.is_finite.ensures ∙ not-true _ c.if-not-is_finite.true-raw))
 
 loop-again : tie.Need-loop-p-preserved invariant-loop decreases-loop
@@ -92,16 +92,16 @@ loop-again c =
     let p = l.loop-p.p in let n = x.orbitals in let m = w.least-places.result in let v = 2 * (n * n) in
     let z = part w in
     let made = group_made n m _ _ _ (before g) (passed w) (before-long g) _ _ g.group_from-summed.ensures.0 g.group_from-summed.ensures.1 (sym q.is_finite.ensures ∙ not-false _ c.if-not-is_finite.false-raw) in
-    filled_more x.count (finite_at x.capacity n x.times.now x.retarded.now x.lesser-advanced.now x.filled.now x.t x.from) (laid x.capacity n x.times.now x.retarded.now x.lesser-advanced.now x.filled.now x.t x.from) v
-    (wide x.capacity n x.times.now x.retarded.now x.lesser-advanced.now x.filled.now x.t x.from) x.out.now p m (p * v + m * v - p * v) l.loop-p.out _ l.loop-p.invariant z.inside
-    (sym (group_tests x.capacity n x.times.now x.retarded.now x.lesser-advanced.now x.filled.now x.t x.from p m) ∙ made.0)
-    (made.1 ∙ group_parts x.capacity n x.times.now x.retarded.now x.lesser-advanced.now x.filled.now x.t x.from p m) (omega arith) o.out-1.given.1
+    filled_more x.count (finite_at x.capacity n x.times.now x.retarded.now x.lesser_advanced.now x.filled.now x.t x.from) (laid x.capacity n x.times.now x.retarded.now x.lesser_advanced.now x.filled.now x.t x.from) v
+    (wide x.capacity n x.times.now x.retarded.now x.lesser_advanced.now x.filled.now x.t x.from) x.out.now p m (p * v + m * v - p * v) l.loop-p.out _ l.loop-p.invariant z.inside
+    (sym (group_tests x.capacity n x.times.now x.retarded.now x.lesser_advanced.now x.filled.now x.t x.from p m) ∙ made.0)
+    (made.1 ∙ group_parts x.capacity n x.times.now x.retarded.now x.lesser_advanced.now x.filled.now x.t x.from p m) (omega arith) o.out-1.given.1
 
 returns-2 : tie.Need-returns invariant-loop decreases-loop
 returns-2 c =
     let l = c.before in let s = start l in let x = s.args in let n = x.orbitals in
-    filled-all x.count (finite_at x.capacity n x.times.now x.retarded.now x.lesser-advanced.now x.filled.now x.t x.from) (laid x.capacity n x.times.now x.retarded.now x.lesser-advanced.now x.filled.now x.t x.from) (2 * (n * n))
-    (wide x.capacity n x.times.now x.retarded.now x.lesser-advanced.now x.filled.now x.t x.from) x.out.now l.loop-p.p _ l.loop-p.invariant c.loop-p-test.false s.requires.1
+    filled-all x.count (finite_at x.capacity n x.times.now x.retarded.now x.lesser_advanced.now x.filled.now x.t x.from) (laid x.capacity n x.times.now x.retarded.now x.lesser_advanced.now x.filled.now x.t x.from) (2 * (n * n))
+    (wide x.capacity n x.times.now x.retarded.now x.lesser_advanced.now x.filled.now x.t x.from) x.out.now l.loop-p.p _ l.loop-p.invariant c.loop-p-test.false s.requires.1
 
 abbrev begin : tie.After-slice_known-1 invariant-loop decreases-loop → tie.Start invariant-loop decreases-loop
 begin c = c.before.before.before.before.before

@@ -35,7 +35,7 @@ decreases-loop times retarded lesser_advanced g0 old out₀ points capacity n bl
 abbrev start : tie.At-loop-t invariant-loop decreases-loop → tie.Start invariant-loop decreases-loop
 start l = l.before.before.before.before.before.before
 
-sizes : (s : tie.Start invariant-loop decreases-loop) → let x = s.args in SizesPassed x.shape.capacity x.shape.orbitals true (x.retarded.now ∷ x.lesser-advanced.now ∷ [])
+sizes : (s : tie.Start invariant-loop decreases-loop) → let x = s.args in SizesPassed x.shape.capacity x.shape.orbitals true (x.retarded.now ∷ x.lesser_advanced.now ∷ [])
 sizes s = sizes-passed _ _ _ _ s.requires.0.2
 
 -- where this step's part stands
@@ -71,9 +71,9 @@ part-long f = let z = part f in simp (length-take, length-drop) (omega (arith, z
 returns : tie.Need-returns-then-not-finite invariant-loop decreases-loop
 returns c =
     let w = c.before.before.before in let f = w.before.before in let l = f.before.before in let s = start l in let x = s.args in let ht = f.before.loop-t-test.true in (
-      sym (all-rows x.shape.capacity x.shape.orbitals x.old x.shape.points x.times.now x.retarded.now x.lesser-advanced.now x.g0.now
-          ∙ all-no (finite_row x.shape.capacity x.shape.orbitals x.old x.shape.points x.times.now x.retarded.now x.lesser-advanced.now x.g0.now) x.shape.points l.loop-t.t ht
-          (sym (row_said x.shape.capacity x.shape.orbitals x.old x.shape.points x.times.now x.retarded.now x.lesser-advanced.now x.g0.now l.loop-t.t f.first_new-from.result _ s.requires.0.0 ht f.first_new-from.ensures w.row-finite.ensures.0) ∙ not-true _ c.if-not-finite.true-raw)),
+      sym (all-rows x.shape.capacity x.shape.orbitals x.old x.shape.points x.times.now x.retarded.now x.lesser_advanced.now x.g0.now
+          ∙ all-no (finite_row x.shape.capacity x.shape.orbitals x.old x.shape.points x.times.now x.retarded.now x.lesser_advanced.now x.g0.now) x.shape.points l.loop-t.t ht
+          (sym (row_said x.shape.capacity x.shape.orbitals x.old x.shape.points x.times.now x.retarded.now x.lesser_advanced.now x.g0.now l.loop-t.t f.first_new-from.result _ s.requires.0.0 ht f.first_new-from.ensures w.row-finite.ensures.0) ∙ not-true _ c.if-not-finite.true-raw)),
       (λ g. never g),
       cleared-part x.shape.capacity x.shape.orbitals x.old x.shape.points l.loop-t.t f.first_new-from.result _ l.loop-t.out w.row-finite.new.out s.requires.0.0 s.requires.0.1 ht f.first_new-from.ensures (part f).long (l.loop-t.invariant.1 ∙ s.requires.1) (w.row-finite.auto.out ∙ part-long f)
           ∙ ap (cleared_new x.shape.capacity x.shape.orbitals x.old x.shape.points) l.loop-t.invariant.3 ∙ cleared_to x.shape.capacity x.shape.orbitals x.old x.shape.points _ x.out.now l.loop-t.t,
@@ -83,11 +83,11 @@ loop-again : tie.Need-loop-t-preserved invariant-loop decreases-loop
 loop-again c =
     let o = c.before.before in let w = o.before in let f = w.before.before in let l = f.before.before in let s = start l in let x = s.args in
     let i = l.loop-t.invariant in let z = part f in let ht = f.before.loop-t-test.true in let ok = not-false _ c.if-not-finite.false-raw in
-    let rows = finite_row x.shape.capacity x.shape.orbitals x.old x.shape.points x.times.now x.retarded.now x.lesser-advanced.now x.g0.now in (
+    let rows = finite_row x.shape.capacity x.shape.orbitals x.old x.shape.points x.times.now x.retarded.now x.lesser_advanced.now x.g0.now in (
       omega (arith, ht),
       o.out-1.given.1 ∙ i.1,
-      all_more l.loop-t.t rows ∙ ap₂ ◌&&◌ i.2 (sym (row_said x.shape.capacity x.shape.orbitals x.old x.shape.points x.times.now x.retarded.now x.lesser-advanced.now x.g0.now l.loop-t.t f.first_new-from.result _ s.requires.0.0 ht f.first_new-from.ensures w.row-finite.ensures.0) ∙ ok),
-      row_step x.shape.capacity x.shape.orbitals x.old x.shape.points (made x.shape.capacity x.shape.orbitals x.times.now x.retarded.now x.lesser-advanced.now x.g0.now) x.out.now l.loop-t.t s.requires.0.0 s.requires.0.1 ht
+      all_more l.loop-t.t rows ∙ ap₂ ◌&&◌ i.2 (sym (row_said x.shape.capacity x.shape.orbitals x.old x.shape.points x.times.now x.retarded.now x.lesser_advanced.now x.g0.now l.loop-t.t f.first_new-from.result _ s.requires.0.0 ht f.first_new-from.ensures w.row-finite.ensures.0) ∙ ok),
+      row_step x.shape.capacity x.shape.orbitals x.old x.shape.points (made x.shape.capacity x.shape.orbitals x.times.now x.retarded.now x.lesser_advanced.now x.g0.now) x.out.now l.loop-t.t s.requires.0.0 s.requires.0.1 ht
           f.first_new-from.result _ l.loop-t.out _ f.first_new-from.ensures i.3 (w.row-finite.ensures.1 ok) z.long,
     )
 
@@ -96,9 +96,9 @@ unfolding new_lesser_numbers
 returns-2 c =
     let l = c.before in let s = start l in let x = s.args in let i = l.loop-t.invariant in
     let e = le_antisymm i.0 c.loop-t-test.false in
-    let rows = finite_row x.shape.capacity x.shape.orbitals x.old x.shape.points x.times.now x.retarded.now x.lesser-advanced.now x.g0.now in (
-      sym (all-rows x.shape.capacity x.shape.orbitals x.old x.shape.points x.times.now x.retarded.now x.lesser-advanced.now x.g0.now ∙ ap (λ (k : ℕ). all_below k rows) (sym e) ∙ i.2),
-      (λ g. i.3 ∙ ap (λ (k : ℕ). written_to x.shape.capacity x.shape.orbitals x.old x.shape.points (made x.shape.capacity x.shape.orbitals x.times.now x.retarded.now x.lesser-advanced.now x.g0.now) x.out.now k) e
+    let rows = finite_row x.shape.capacity x.shape.orbitals x.old x.shape.points x.times.now x.retarded.now x.lesser_advanced.now x.g0.now in (
+      sym (all-rows x.shape.capacity x.shape.orbitals x.old x.shape.points x.times.now x.retarded.now x.lesser_advanced.now x.g0.now ∙ ap (λ (k : ℕ). all_below k rows) (sym e) ∙ i.2),
+      (λ g. i.3 ∙ ap (λ (k : ℕ). written_to x.shape.capacity x.shape.orbitals x.old x.shape.points (made x.shape.capacity x.shape.orbitals x.times.now x.retarded.now x.lesser_advanced.now x.g0.now) x.out.now k) e
           ∙ written-rows x.shape.capacity x.shape.orbitals x.old x.shape.points _ x.out.now s.requires.0.1),
       ap (cleared_new x.shape.capacity x.shape.orbitals x.old x.shape.points) i.3 ∙ cleared_to x.shape.capacity x.shape.orbitals x.old x.shape.points _ x.out.now l.loop-t.t,
     )

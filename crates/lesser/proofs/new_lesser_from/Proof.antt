@@ -15,7 +15,7 @@ abbrev start : tie.After-check_sizes-verdict → tie.Start
 start c = c.before.before.before.before.before.before.before.before.before.before.before.before
 
 abbrev slices : tie.After-check_sizes-verdict → List (List Float)
-slices c = let x = (start c).args in x.retarded.now ∷ x.lesser-advanced.now ∷ x.out.now ∷ []
+slices c = let x = (start c).args in x.retarded.now ∷ x.lesser_advanced.now ∷ x.out.now ∷ []
 
 abbrev there : tie.After-check_sizes-verdict → Bool
 there c = let x = (start c).args in leb x.old x.shape.points && leb x.shape.points x.shape.capacity

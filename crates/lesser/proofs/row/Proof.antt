@@ -20,7 +20,7 @@ use Rattle.lesser.proofs.row.Tie as tie
 abbrev start : tie.After-slice_known-1 → tie.Start
 start c = c.before.before.before.before.before
 
-sizes : (s : tie.Start) → let x = s.args in SizesPassed x.capacity x.orbitals true (x.retarded.now ∷ x.lesser-advanced.now ∷ [])
+sizes : (s : tie.Start) → let x = s.args in SizesPassed x.capacity x.orbitals true (x.retarded.now ∷ x.lesser_advanced.now ∷ [])
 sizes s = sizes-passed _ _ _ _ s.requires.0.2
 
 block : (s : tie.Start) → s.args.orbitals * s.args.orbitals ≤ 256
@@ -28,10 +28,10 @@ block s = product-most s.args.orbitals s.args.orbitals (sizes s).orbitals-most (
 
 -- place p from column `from` on
 abbrev finite_at : tie.Start → ℕ → Bool
-finite_at s p = let x = s.args in lesser_finite x.capacity x.orbitals x.times.now x.retarded.now x.lesser-advanced.now x.g0.now x.t (x.from + p)
+finite_at s p = let x = s.args in lesser_finite x.capacity x.orbitals x.times.now x.retarded.now x.lesser_advanced.now x.g0.now x.t (x.from + p)
 
 abbrev laid : tie.Start → ℕ → List Float
-laid s p = let x = s.args in lay_out x.orbitals x.orbitals (lesser_block x.capacity x.orbitals x.times.now x.retarded.now x.lesser-advanced.now x.g0.now x.t (x.from + p))
+laid s p = let x = s.args in lay_out x.orbitals x.orbitals (lesser_block x.capacity x.orbitals x.times.now x.retarded.now x.lesser_advanced.now x.g0.now x.t (x.from + p))
 
 returns : tie.Need-returns-then-count-eq0
 returns c =
@@ -60,7 +60,7 @@ returns-2 c =
     let x = s.args in
     let fails = sym f.first.ensures.0 ∙ not-true _ c.if-not-first.true-raw in
     fails-one x.count (finite_at s) (laid s) 0 _ (let l = e.if-count-eq0.false in omega (arith, l))
-    (first-fails x.capacity x.orbitals x.times.now x.retarded.now x.lesser-advanced.now x.g0.now x.t fails (x.from + 0))
+    (first-fails x.capacity x.orbitals x.times.now x.retarded.now x.lesser_advanced.now x.g0.now x.t fails (x.from + 0))
 
 slice_aggregate_blocks : tie.Need-slice_bounds-blocks-end
 slice_aggregate_blocks c = search rules
@@ -84,8 +84,8 @@ returns-3 c =
     let ok = not-false _ e.if-not-first.false-raw in
     let held = f.first.ensures.2 ok in
     let finite = sym f.first.ensures.0 ∙ ok in (
-      b.blocks-2.ensures.0 ∙ all_agree x.count _ _ (λ p hp. finite-is x.capacity x.orbitals x.times.now x.retarded.now x.lesser-advanced.now x.g0.now x.t (filled f) held finite (x.from + p)),
-      λ h. b.blocks-2.ensures.1 h ∙ join_agree x.count _ _ (λ p hp. block-is x.capacity x.orbitals x.times.now x.retarded.now x.lesser-advanced.now x.g0.now x.t (filled f) held finite (x.from + p)),
+      b.blocks-2.ensures.0 ∙ all_agree x.count _ _ (λ p hp. finite-is x.capacity x.orbitals x.times.now x.retarded.now x.lesser_advanced.now x.g0.now x.t (filled f) held finite (x.from + p)),
+      λ h. b.blocks-2.ensures.1 h ∙ join_agree x.count _ _ (λ p hp. block-is x.capacity x.orbitals x.times.now x.retarded.now x.lesser_advanced.now x.g0.now x.t (filled f) held finite (x.from + p)),
     )
 
 pub row_spec : {M : Type 1} → statement M

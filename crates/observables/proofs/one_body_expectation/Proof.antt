@@ -15,18 +15,18 @@ start c = c.before.before.before.before.before
 
 -- the checks in their order
 asked : (c : tie.After-check_arguments-verdict) → let x = (start c).args in
-    c.check_arguments-verdict.result ≡ with_arguments x.tolerance x.time-index x.shape.points (lesser_block_checks x.shape.capacity x.shape.points x.shape.orbitals x.lesser.now x.observable)
+    c.check_arguments-verdict.result ≡ with_arguments x.tolerance x.time_index x.shape.points (lesser_block_checks x.shape.capacity x.shape.points x.shape.orbitals x.lesser.now x.observable)
 asked c = c.check_arguments-verdict.ensures ∙ ap (with_arguments _ _ _) c.before.check_lesser_block-inputs.ensures
 
 -- what it says that they pass
-passed : (c : tie.In_default) → let x = (start c.before).args in Passed x.shape.capacity x.shape.orbitals x.lesser.now x.time-index
+passed : (c : tie.In_default) → let x = (start c.before).args in Passed x.shape.capacity x.shape.orbitals x.lesser.now x.time_index
 passed c =
     let p = ends-passed _ _ _ (sym (asked c.before) ∙ c.in_default.is) in
     (block_at _ _ _ _ (start c.before).args.observable _ p.0 p.1).0
 
 -- the product is asked
 worked : (c : tie.After-finite_work-work) → let x = (start c.before.before.before.before).args in
-    c.finite_work-work.result ≡ finite_work (all_finite x.shape.orbitals x.shape.orbitals (product_of x.shape.capacity x.shape.orbitals x.observable.values x.lesser.now x.time-index))
+    c.finite_work-work.result ≡ finite_work (all_finite x.shape.orbitals x.shape.orbitals (product_of x.shape.capacity x.shape.orbitals x.observable.values x.lesser.now x.time_index))
 worked c = c.finite_work-work.ensures ∙ ap finite_work c.before.is_finite.ensures
 
 -- the matrix as numbers

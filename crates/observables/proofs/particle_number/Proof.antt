@@ -8,7 +8,7 @@ use Rattle.observables.proofs.particle_number.Tie as tie
 
 -- the checks in their order
 asked : (c : tie.After-check_arguments-verdict) → let x = c.before.before.before.args in
-    c.check_arguments-verdict.result ≡ with_arguments x.tolerance x.time-index x.shape.points (lesser_checks x.shape.capacity x.shape.points x.shape.orbitals x.lesser.now)
+    c.check_arguments-verdict.result ≡ with_arguments x.tolerance x.time_index x.shape.points (lesser_checks x.shape.capacity x.shape.points x.shape.orbitals x.lesser.now)
 asked c = c.check_arguments-verdict.ensures ∙ ap (with_arguments _ _ _) c.before.check_lesser-inputs.ensures
 
 pub particle_number_spec : {M : Type 1} → statement M

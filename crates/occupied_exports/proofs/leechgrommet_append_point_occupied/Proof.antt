@@ -36,8 +36,8 @@ start c = (named c).before.before.before.before.before.before.before.before.befo
 abbrev run : tie.After-append_point_occupied-made → DenseMatrix → Session → Run
 run c g0 session =
     let x = (start c).args in
-    run_of (occupied g0) session x.desk (record { points = x.points; capacity = x.capacity; orbitals = x.orbitals }) x.tolerance x.times.now x.free.now x.self-energy.now x.lesser-self-energy.now x.retarded.now x.lesser.now
-    x.kernel.now x.lesser-advanced.now
+    run_of (occupied g0) session x.desk (record { points = x.points; capacity = x.capacity; orbitals = x.orbitals }) x.tolerance x.times.now x.free.now x.self_energy.now x.lesser_self_energy.now x.retarded.now x.lesser.now
+    x.kernel.now x.lesser_advanced.now
 
 abbrev g0 : tie.After-append_point_occupied-made → DenseMatrix
 g0 c = let x = (start c).args in block x.rows x.columns x.g0.now

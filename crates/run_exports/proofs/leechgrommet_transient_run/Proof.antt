@@ -34,8 +34,8 @@ start c = (named c).before.before.before.before.before.before.before.before.befo
 abbrev run : tie.After-transient_run-made → Session → Run
 run c session =
     let x = (start c).args in
-    run_of empty session x.desk (record { points = x.points; capacity = x.capacity; orbitals = x.orbitals }) x.tolerance x.times.now x.free.now x.self-energy.now x.lesser-self-energy.now x.retarded.now x.lesser.now
-    x.kernel.now x.lesser-advanced.now
+    run_of empty session x.desk (record { points = x.points; capacity = x.capacity; orbitals = x.orbitals }) x.tolerance x.times.now x.free.now x.self_energy.now x.lesser_self_energy.now x.retarded.now x.lesser.now
+    x.kernel.now x.lesser_advanced.now
 
 abbrev session : tie.After-transient_run-made → Session
 session c = session_of ((start c).args.counters.now)

@@ -23,7 +23,7 @@ abbrev start : tie.After-check_sizes-verdict → tie.Start
 start c = c.before.before.before.before.before.before.before.before.before.before
 
 abbrev slices : tie.After-check_sizes-verdict → List (List Float)
-slices c = let x = (start c).args in x.retarded.now ∷ x.lesser-advanced.now ∷ []
+slices c = let x = (start c).args in x.retarded.now ∷ x.lesser_advanced.now ∷ []
 
 abbrev fits : tie.After-check_sizes-verdict → Bool
 fits c = let x = (start c).args in is_group x.points x.orbitals x.t x.u x.places && holds_block x.orbitals x.filled.now
@@ -65,10 +65,10 @@ stands e =
 
 -- what is made
 abbrev finite : tie.After-check_sizes-verdict → Bool
-finite c = let x = (start c).args in all_below x.places (λ p. from_finite x.points x.orbitals x.times.now x.retarded.now x.lesser-advanced.now x.filled.now x.t (x.u + p))
+finite c = let x = (start c).args in all_below x.places (λ p. from_finite x.points x.orbitals x.times.now x.retarded.now x.lesser_advanced.now x.filled.now x.t (x.u + p))
 
 abbrev made : tie.After-check_sizes-verdict → List Float
-made c = let x = (start c).args in join x.places (λ p. from_block x.points x.orbitals x.times.now x.retarded.now x.lesser-advanced.now x.filled.now x.t (x.u + p))
+made c = let x = (start c).args in join x.places (λ p. from_block x.points x.orbitals x.times.now x.retarded.now x.lesser_advanced.now x.filled.now x.t (x.u + p))
 
 returns : tie.Need-returns-in_default
 unfolding group_from
@@ -92,12 +92,12 @@ returns-2 c =
     let s = e.before in let x = (start s).args in let n = x.orbitals in
     let same : (a p b : ℕ) → a < n → p < x.places → b < n → lane_at (lanes r) a (p * n + b) ≡ start_of x.points n x.retarded.now x.filled.now (x.u + p) a b =
     λ a p b ha hp hb. r.product_lanes.ensures.1 a p b ha hp hb ∙ start-product x.points n x.filled.now x.retarded.now x.u p a b in
-    let is : group_onto Lesser x.points n x.times.now x.retarded.now x.lesser-advanced.now (lanes r) x.t x.u x.places x.out.now ≡ group_outcome n x.places (checks s) (finite s) (made s) x.out.now =
+    let is : group_onto Lesser x.points n x.times.now x.retarded.now x.lesser_advanced.now (lanes r) x.t x.u x.places x.out.now ≡ group_outcome n x.places (checks s) (finite s) (made s) x.out.now =
     rw (
       (stands e).onto,
       passed e,
-      from_finite_lem x.points n x.times.now x.retarded.now x.lesser-advanced.now x.filled.now x.t x.u x.places (lanes r) same,
-      from_numbers_lem x.points n x.times.now x.retarded.now x.lesser-advanced.now x.filled.now x.t x.u x.places (lanes r) same,
+      from_finite_lem x.points n x.times.now x.retarded.now x.lesser_advanced.now x.filled.now x.t x.u x.places (lanes r) same,
+      from_numbers_lem x.points n x.times.now x.retarded.now x.lesser_advanced.now x.filled.now x.t x.u x.places (lanes r) same,
     ) in
     (w.group_onto.ensures.0 ∙ ap (λ (o : SumsOutcome). o.answer) is, w.group_onto.ensures.1 ∙ ap (λ (o : SumsOutcome). o.out-1) is)
 

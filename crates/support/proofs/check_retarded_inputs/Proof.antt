@@ -15,7 +15,7 @@ abbrev start : tie.After-then-verdict → tie.Start
 start c = c.before.before.before.before.before.before.before
 
 abbrev operands : tie.After-then-verdict → List (List Float)
-operands c = let x = (start c).args in x.free.now ∷ x.self-energy.now ∷ []
+operands c = let x = (start c).args in x.free.now ∷ x.self_energy.now ∷ []
 
 -- the checks before 9
 abbrev first : tie.After-then-verdict → Verdict

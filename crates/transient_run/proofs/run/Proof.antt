@@ -16,7 +16,7 @@ start c = c.before.before.before.before.before.before.before.before.before.befor
 abbrev run : tie.After-solve-booked → Run
 run c =
     let x = (start c).args in
-    run_of (form_of x.initial x.g0.now) x.session x.desk x.shape x.tolerance x.times.now x.free.now x.self-energy.now x.lesser-self-energy.now x.retarded.now x.lesser.now x.kernel.now x.lesser-advanced.now
+    run_of (form_of x.initial x.g0.now) x.session x.desk x.shape x.tolerance x.times.now x.free.now x.self_energy.now x.lesser_self_energy.now x.retarded.now x.lesser.now x.kernel.now x.lesser_advanced.now
 
 abbrev clear : tie.After-solve-booked → List Float → List Float
 clear c = let r = run c in cleared_new r.capacity r.orbitals 0 r.points

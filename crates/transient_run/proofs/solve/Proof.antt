@@ -22,14 +22,14 @@ start c = c.before.before.before.before.before.before.before.before.before.befor
 abbrev run : tie.After-checks-verdict → Run
 run c =
     let x = (start c).args in
-    run_of (form_of x.initial x.g0.now) x.session x.desk x.shape x.tolerance x.times.now x.free.now x.self-energy.now x.lesser-self-energy.now x.retarded.now x.lesser.now x.kernel.now x.lesser-advanced.now
+    run_of (form_of x.initial x.g0.now) x.session x.desk x.shape x.tolerance x.times.now x.free.now x.self_energy.now x.lesser_self_energy.now x.retarded.now x.lesser.now x.kernel.now x.lesser_advanced.now
 
 -- what is left of a slice once the new places are cleared
 abbrev cleared : tie.After-checks-verdict → List Float → List Float
 cleared c = let x = (start c).args in cleared_new x.shape.capacity x.shape.orbitals x.old x.shape.points
 
 checked : (c : tie.After-checks-verdict) → let x = (start c).args in c.checks-verdict.result ≡ checks_of x.old x.shape.points (run c)
-checked c = let x = (start c).args in c.checks-verdict.ensures x.retarded.now x.lesser.now x.kernel.now x.lesser-advanced.now c.before.all_fit-fits.ensures
+checked c = let x = (start c).args in c.checks-verdict.ensures x.retarded.now x.lesser.now x.kernel.now x.lesser_advanced.now c.before.all_fit-fits.ensures
 
 passed : (c : tie.In-Pass) → let l = c.before in let x = (start l).args in (2 ≤ x.shape.points) × (x.shape.points ≤ x.shape.capacity) × SizesPassed x.shape.capacity x.shape.orbitals true (slices x.shape.points (run l)) × Square x.shape.orbitals (form_of x.initial x.g0.now)
 passed c = let l = c.before in let x = (start l).args in checks-passed x.shape.points (run l) x.old (sym (checked l) ∙ c.in-Pass.is)

@@ -22,7 +22,7 @@ use Rattle.transient_run.proofs.work.Tie as tie
 abbrev run : tie.Start → Session → ℕ → Float → Run
 run s session desk tolerance =
     let x = s.args in
-    run_of (form_of x.initial x.g0.now) session desk x.shape tolerance x.times.now x.free.now x.self-energy.now x.lesser-self-energy.now x.retarded.now x.lesser.now x.kernel.now x.lesser-advanced.now
+    run_of (form_of x.initial x.g0.now) session desk x.shape tolerance x.times.now x.free.now x.self_energy.now x.lesser_self_energy.now x.retarded.now x.lesser.now x.kernel.now x.lesser_advanced.now
 
 -- slices of their length pass the sizes that a step asks
 asked : (s : tie.Start) (slices : List (List Float)) → let x = s.args in SizesPassed x.shape.capacity x.shape.orbitals true slices
@@ -57,7 +57,7 @@ module _ (session : Session) (desk : ℕ) (tolerance : Float) (f : tie.After-is_
       let x = s.args in
       let z = s.requires.3 in
       let l = lengths z in
-      solved_new_said x.shape.capacity x.shape.orbitals x.old x.shape.points x.times.now x.free.now x.self-energy.now x.retarded.now x.kernel.now
+      solved_new_said x.shape.capacity x.shape.orbitals x.old x.shape.points x.times.now x.free.now x.self_energy.now x.retarded.now x.kernel.now
       (asked s _ (also_asked l.0 (also_asked l.1.0 (also_asked l.1.1.1.0 (also_asked l.1.1.1.1.1.0 (none-asked z)))))) solved.solve_new.ensures ok (e ∙ f.is_finite.ensures)
 
   -- both are cleared to what they were
@@ -66,7 +66,7 @@ module _ (session : Session) (desk : ℕ) (tolerance : Float) (f : tie.After-is_
       let x = s.args in
       let t = retardeds f.is_finite.result refl in (
         retarded-cleared x.shape.capacity x.shape.orbitals x.old x.shape.points x.times.now x.free.now (kernel_made x.old x.shape.points r) x.retarded.now f.is_finite.result t.1,
-        sums_cleared x.shape.capacity x.shape.orbitals x.old x.shape.points Causal x.times.now x.free.now x.self-energy.now x.kernel.now f.is_finite.result t.2,
+        sums_cleared x.shape.capacity x.shape.orbitals x.old x.shape.points Causal x.times.now x.free.now x.self_energy.now x.kernel.now f.is_finite.result t.2,
       )
 
 returns : tie.Need-returns-then-not-is_finite
@@ -93,20 +93,20 @@ module _ (session : Session) (desk : ℕ) (tolerance : Float) (f₂ : tie.After-
   lesser_advanced = summed.new_sums.last.1.1.1.1.1.1.0
 
   lesser_advanced_made_lem : (ok : Bool) → ok ≡ f₂.is_finite-2.result → let x = (s session desk tolerance f).args in
-      (new_finite LesserAdvanced x.shape.capacity x.shape.orbitals x.old x.shape.points x.times.now x.lesser-self-energy.now (retarded session desk tolerance f) ≡ ok)
-      × (lesser_advanced ≡ cond ok (new_numbers LesserAdvanced x.shape.capacity x.shape.orbitals x.old x.shape.points x.times.now x.lesser-self-energy.now (retarded session desk tolerance f) x.lesser-advanced.now) (cleared (s session desk tolerance f) x.lesser-advanced.now))
+      (new_finite LesserAdvanced x.shape.capacity x.shape.orbitals x.old x.shape.points x.times.now x.lesser_self_energy.now (retarded session desk tolerance f) ≡ ok)
+      × (lesser_advanced ≡ cond ok (new_numbers LesserAdvanced x.shape.capacity x.shape.orbitals x.old x.shape.points x.times.now x.lesser_self_energy.now (retarded session desk tolerance f) x.lesser_advanced.now) (cleared (s session desk tolerance f) x.lesser_advanced.now))
   lesser_advanced_made_lem ok e =
       let x = (s session desk tolerance f).args in
       let z = (s session desk tolerance f).requires.3 in
       let l = lengths z in
       let long = (solved session desk tolerance f).solve-new.kept.1.1.1.1.1.0 in
-      new_sums_said LesserAdvanced x.shape.capacity x.shape.orbitals x.old x.shape.points x.times.now x.lesser-self-energy.now (retarded session desk tolerance f) x.lesser-advanced.now
+      new_sums_said LesserAdvanced x.shape.capacity x.shape.orbitals x.old x.shape.points x.times.now x.lesser_self_energy.now (retarded session desk tolerance f) x.lesser_advanced.now
       (asked (s session desk tolerance f) _ (also_asked l.1.1.0 (also_asked (long ∙ l.1.1.1.0) (also_asked l.1.1.1.1.1.1.0 (none-asked z))))) summed.new_sums.ensures ok (e ∙ f₂.is_finite-2.ensures)
 
-  lesser_advanced_gone : let x = (s session desk tolerance f).args in cleared (s session desk tolerance f) lesser_advanced ≡ cleared (s session desk tolerance f) x.lesser-advanced.now
+  lesser_advanced_gone : let x = (s session desk tolerance f).args in cleared (s session desk tolerance f) lesser_advanced ≡ cleared (s session desk tolerance f) x.lesser_advanced.now
   lesser_advanced_gone =
       let x = (s session desk tolerance f).args in
-      sums_cleared x.shape.capacity x.shape.orbitals x.old x.shape.points LesserAdvanced x.times.now x.lesser-self-energy.now (retarded session desk tolerance f) x.lesser-advanced.now f₂.is_finite-2.result (lesser_advanced_made_lem f₂.is_finite-2.result refl).1
+      sums_cleared x.shape.capacity x.shape.orbitals x.old x.shape.points LesserAdvanced x.times.now x.lesser_self_energy.now (retarded session desk tolerance f) x.lesser_advanced.now f₂.is_finite-2.result (lesser_advanced_made_lem f₂.is_finite-2.result refl).1
 
 returns-2 : tie.Need-returns-then-not-is_finite-2
 returns-2 c session desk tolerance =
@@ -135,7 +135,7 @@ returns-3 c session desk tolerance =
     let lesser-advanced-long = (summed session desk tolerance f₂).new-sums.auto.1.1.1.1.1.1.0 in
     let one = first session desk tolerance f₂ in
     let m = lesser_advanced_made_lem session desk tolerance f₂ true (sym (not-false _ e.if2.false)) in
-    let numbers : List Float → List Float = λ xs. new_numbers LesserAdvanced y.shape.capacity y.shape.orbitals y.old y.shape.points y.times.now y.lesser-self-energy.now xs y.lesser-advanced.now in
+    let numbers : List Float → List Float = λ xs. new_numbers LesserAdvanced y.shape.capacity y.shape.orbitals y.old y.shape.points y.times.now y.lesser_self_energy.now xs y.lesser_advanced.now in
     let made = m.1 ∙ ap numbers one.1 in
     let form = form_of y.initial y.g0.now in
     let o = lesser_said y.shape.capacity y.shape.orbitals y.old y.shape.points y.times.now (retarded session desk tolerance g) (lesser_advanced session desk tolerance f₂) y.lesser.now

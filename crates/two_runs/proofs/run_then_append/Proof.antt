@@ -3,7 +3,7 @@
 use Rattle.lists.specs.Prelude.{◌≡◌, refl, ◌∙◌, List, ℕ, ◌+◌, ◌-◌, ◌≤◌, ◌<◌, le_refl, min-le_right, arith, length, Float, rules}
 use Rattle.transient_run.specs.declared.Session.{Session}
 use Rattle.transient_run.specs.Calls.{Run, run_of, Outcome, transient_run, append_point}
-use Rattle.two_runs.specs.Contracts.{form_with, step_in}
+use Rattle.two_runs.specs.Promises.{form_with, step_in}
 use Rattle.two_runs.specs.Appending.{over, onto, appends}
 use Rattle.two_runs.specs.Demand.{one-step}
 use Rattle.two_runs.specs.Appended.{none_yet, go_on, refused, finished, ends}
@@ -34,10 +34,10 @@ start c = (counted c).before.before.before.before.before.before.before.before.be
 
 -- a run that is given this, in any session and whatever its outputs and scratch hold
 abbrev given : tie.After-slice_known-8-1 invariant-loop decreases-loop → Session → List Float → List Float → List Float → List Float → Run
-given c session g l k x = let y = (start c).args in run_of (form_with y.start) session y.desk y.shape y.tolerance y.times.now y.free.now y.self-energy.now y.lesser-self-energy.now g l k x
+given c session g l k x = let y = (start c).args in run_of (form_with y.start) session y.desk y.shape y.tolerance y.times.now y.free.now y.self_energy.now y.lesser_self_energy.now g l k x
 
 abbrev run : tie.After-slice_known-8-1 invariant-loop decreases-loop → Run
-run c = let y = (start c).args in given c y.session y.retarded.now y.lesser.now y.kernel.now y.lesser-advanced.now
+run c = let y = (start c).args in given c y.session y.retarded.now y.lesser.now y.kernel.now y.lesser_advanced.now
 
 abbrev first_run : tie.After-slice_known-8-1 invariant-loop decreases-loop → Outcome
 first_run c = transient_run (over (run c) (counted c).least-points.result)
@@ -58,7 +58,7 @@ fewer h = omega arith
 -- the slices are as long as they were
 long : (at : tie.At-loop-points invariant-loop decreases-loop) → (let l = at.loop-points in let y = (start at.before).args in
     (length l.retarded ≡ length y.retarded.now) × (length l.lesser ≡ length y.lesser.now)
-    × (length l.kernel ≡ length y.kernel.now) × (length l.lesser-advanced ≡ length y.lesser-advanced.now))
+    × (length l.kernel ≡ length y.kernel.now) × (length l.lesser_advanced ≡ length y.lesser_advanced.now))
 long at =
     let inv = at.loop-points.invariant in
     let kept = (ran at.before).run_by-booked.kept.1.1.1.1.1.1.1.1.1 in
@@ -79,7 +79,7 @@ loop-again c =
     let told = appended.before.before.before.before.before in
     let at = told.before.before.before in
     let loop = at.loop in
-    let left = step_in loop.booked loop.retarded loop.lesser loop.kernel loop.lesser-advanced in
+    let left = step_in loop.booked loop.retarded loop.lesser loop.kernel loop.lesser_advanced in
     let kept = appended.append_by-booked.auto.1.1.1.1.1.1.1.1.1 in (
       more loop.invariant.0,
       within told.before.if1.true,

@@ -23,8 +23,8 @@ returns c slices fits =
     let right-fit = left.before in
     let left-fit = right-fit.before in
     let x = (start left-fit).args in
-    let lefts : List (List Float) = listed (components_of x.left-retarded.now x.left-advanced.now x.left-lesser.now x.left-greater.now) in
-    let rights : List (List Float) = listed (components_of x.right-retarded.now x.right-advanced.now x.right-lesser.now x.right-greater.now) in
+    let lefts : List (List Float) = listed (components_of x.left_retarded.now x.left_advanced.now x.left_lesser.now x.left_greater.now) in
+    let rights : List (List Float) = listed (components_of x.right_retarded.now x.right_advanced.now x.right_lesser.now x.right_greater.now) in
     inputs-asked x.points x.orbitals x.times.now (lefts ++ rights) slices sizes.check_sizes.result grid.check_grid.result both.then.result _
     (sizes_asked_lem x.points x.orbitals (lefts ++ rights ++ slices) (eqb (length x.times.now) x.points) _ _
     (fits-append x.points x.orbitals lefts (rights ++ slices) _ _ left-fit.all_fit-left_fits.ensures (fits-append x.points x.orbitals rights slices _ _ right-fit.all_fit-right_fits.ensures fits))

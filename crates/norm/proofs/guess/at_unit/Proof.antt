@@ -86,5 +86,5 @@ at_unit_spec =
     (λ c κs.
     let n = c.before.before in
     let b = below-unit-is c in
-    (n.near-root.ensures.0, n.near-root.ensures.1, (b.0, omega (arith, b.1, up n.before.before.before, n.before.before.before.before.missing.ensures.0.1))))
+    (n.near_root.ensures.0, n.near_root.ensures.1, (b.0, omega (arith, b.1, up n.before.before.before, n.before.before.before.before.missing-up.ensures.0.1))))
     returns-2)

@@ -26,7 +26,7 @@ small c = upper-small _ _ c.places-down.result c.before.places_beside-up.result 
 
 -- those from the unit on
 abbrev on : tie.After-from_unit → tie.After-places-down
-on c = c.before.before.before.before.before
+on c = c.before.before.before.before.before.before
 
 from-unit-holds : (c : tie.After-from_unit) → held c.from_unit.result ≡ pos ((on c).places-down.result - 1)
 from-unit-holds c =
@@ -73,10 +73,10 @@ rounded_spec =
     (λ c. let h = small c.before.before in omega (arith, h))
     (λ c. let p = c.before.before.before in omega (arith, beside p, (digits p).some))
     (λ c κs. search rules)
-    (λ c. let h = small c.before.before.before.before in omega (arith, h, c.rounding_up-more.ensures.most))
+    (λ c. let h = small c.before.before.before.before.before in omega (arith, h, c.rounding_up-more.ensures.most))
     (λ c κs.
-    let p = c.before.before.before.before in
-    let d = p.before.before.dropped in
-    (passed d.result d.ensures.0 (omega arith) (omega arith), omega (arith, p.places.ensures, (digits p).some)))
+    let p = c.before.before.before.before.before in
+    let d = p.before.before.dropped-k in
+    (passed d.result d.ensures.0 (omega arith) (omega arith), omega (arith, p.places-down.ensures, (digits p).some)))
     encoded-requires
     (λ c. (c.encoded.ensures.0, λ n v. c.encoded.ensures.1 ∙ ap (units binary64 false _) (step_is c.before) ∙ sym (result (known c.before) n v))))

@@ -22,7 +22,7 @@ read-digits-requires c κs =
     let v = c.before.loop-i.invariant in
     let x = two c.before.loop-i.r.root in
     let N = read s.args.s * 2 ^ 64 + s.args.word in
-    let h : x < 2 ^ 81 = root-small N (read c.before.loop-i.r) c.before.loop-i.false c.before.loop-i.i x (two c.before.loop-i.r.rest) v.0 v.3 refl
+    let h : x < 2 ^ 81 = root-small N (read c.before.loop-i.r) c.before.loop-i.left c.before.loop-i.i x (two c.before.loop-i.r.rest) v.0 v.3 refl
     (digits_lt s.requires.1 s.ranges.word.fits) in
     (v.2, lt_of_lt_of_le h (pow_mono (lit≤ {m = 81} {n = 82} tt)), shr_lt 2 62 v.1)
 

@@ -32,7 +32,7 @@ known c = sym (named c).before.desk_known-named.ensures ∙ (named c).in-Pass.is
 
 module _ (retarded lesser kernel lesser_advanced : List Float) where
   abbrev run : tie.Start → Run
-  run c = let x = c.args in run_of (form_of x.initial x.g0.now) x.session x.desk x.shape x.tolerance x.times.now x.free.now x.self-energy.now x.lesser-self-energy.now retarded lesser kernel lesser_advanced
+  run c = let x = c.args in run_of (form_of x.initial x.g0.now) x.session x.desk x.shape x.tolerance x.times.now x.free.now x.self_energy.now x.lesser_self_energy.now retarded lesser kernel lesser_advanced
 
   -- the sizes
   sized : (c : tie.After-form_sizes-sizes) → let x = (begun c).args in x.fits ≡ all_fit x.shape.capacity x.shape.orbitals (retarded ∷ lesser ∷ kernel ∷ lesser_advanced ∷ [])

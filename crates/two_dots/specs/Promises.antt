@@ -3,7 +3,7 @@ use Rattle.lists.specs.Prelude.{◌≡◌, true, List, Float}
 use Rattle.transient_run.specs.Calls.{Run}
 use Rattle.observables.specs.declared.Observed.{Observed}
 use Rattle.observables.specs.Calls.{bond_flow_into}
-use Rattle.two_runs.specs.Contracts.{Step, run_step, step_in}
+use Rattle.two_runs.specs.Promises.{Step, run_step, step_in}
 use Rattle.two_dots.specs.declared.Bond.{Bond}
 use Rattle.two_dots.specs.declared.Flow.{Flow}
 use Rattle.two_dots.specs.Statement.{Split, Dots, TwoDots}
