@@ -23,14 +23,14 @@ bond_flows_into_spec =
     (λ c. let v = c.before in list_nothing _ _ _ _ (queries (start v)) _ _ (asked v) c.in_default.is)  -- returns-in_default
     (λ c κs.
     let e = c.before.before in
-    let v = e.before.before in
+    let v = e.before in
     let s = start v in
-    let f = list_fitting _ _ _ _ (queries s) s.args.flows.now s.args.numbers.now (asked v) e.enum_told.given.1 in
+    let f = list_fitting _ _ _ _ (queries s) s.args.flows.now s.args.numbers.now (asked v) e.in-Pass.is in
     (f.0, (f.1, f.2)))  -- fill-requires
     (λ c. search rules) (λ c. search rules)  -- shape_of-flows, shape_of-numbers
     (λ c.
     let f = c.before.before.before.before in
     let e = f.before.before.before in
-    let v = e.before.before in
+    let v = e.before in
     let s = start v in
-    list_written _ _ _ _ (queries s) s.args.flows.now s.args.numbers.now (asked v) e.enum_told.given.1 f.fill.ensures.0 f.fill.ensures.1))  -- returns-2
+    list_written _ _ _ _ (queries s) s.args.flows.now s.args.numbers.now (asked v) e.in-Pass.is f.fill.ensures.0 f.fill.ensures.1))  -- returns-2

@@ -24,5 +24,5 @@ answer_spec =
     let e = c.before.before in
     let f = e.before.before in
     c.refused.ensures ∙ ap (λ (r : Refusal). record { verdict = Refused r; block = no_block }) c.before.by.ensures
-    ∙ answer-overflow _ _ _ _ _ _ f.before.before.enum_told.given.1 f.fill.ensures.0 e.if1.false)  -- returns-else-tested-finite
+    ∙ answer-overflow _ _ _ _ _ _ f.before.before.in-Pass.is f.fill-finite.ensures.0 e.if-tested-finite.false)  -- returns-else-tested-finite
     (λ c. c.refused-in-Refused.ensures ∙ answer-refused _ _ _ _ _ _ c.before.in-Refused.is))  -- returns-3

@@ -49,15 +49,15 @@ one_body_expectation_spec =
     (λ c κs. (passed c.before, le_of_eq (first c)))  -- is_finite-requires
     (λ c κs. search rules) (λ c. search rules) (λ c κs. search rules)  -- finite_work-work-requires, enum_known-work, refused-requires-in-Refused-work
     (λ c.
-    let w = c.before.before in
-    let e = w.before.before.before.before.before in
-    c.refused-in-Refused-work.ensures ∙ product-refused _ _ _ _ _ _ _ (asked e.before.before) e.enum_told.given.1 (worked w.before.before) _ w.work.given.1)  -- returns-in-Refused-work
+    let w = c.before in
+    let e = w.before.before.before.before in
+    c.refused-in-Refused-work.ensures ∙ product-refused _ _ _ _ _ _ _ (asked e.before) e.in_default.is (worked w.before) _ w.in-Refused-work.is)  -- returns-in-Refused-work
     (λ c. search rules)  -- enum_told-in_default-work
     second
     (λ c κs. (passed c.before.before.before.before.before, le_of_eq (second c)))  -- trace-requires
     (λ c κs. search rules)  -- real_checked-requires
     (λ c.
     let w = c.before.before.before in
-    let e = w.before.before.before.before.before in
+    let e = w.before.before.before.before in
     c.real_checked.ensures ∙ ap (real_observed _) c.before.trace.ensures
-    ∙ product-passed _ _ _ _ _ _ _ (asked e.before.before) e.enum_told.given.1 (worked w.before.before) w.enum-told2.given.1))  -- returns-3
+    ∙ product-passed _ _ _ _ _ _ _ (asked e.before) e.in_default.is (worked w.before) w.in_default-work.is))  -- returns-3

@@ -26,13 +26,13 @@ consistency_report_spec =
     (λ c κs. let l = all_long_lem c.before in omega arith)  -- difference_finite-requires
     (λ c κs. search rules) (λ c. search rules)  -- finite_work-work-requires, enum_known-work
     (λ c.
-    let w = c.before.before.before in
+    let w = c.before in
     let e = w.before.before.before in
-    work-refused _ _ _ _ _ _ e.before.before.check-inputs.ensures e.enum_told.given.1 (finite w) w.finite-work.ensures c.before.work-1.given.1)  -- returns-in-Refused-work
+    work-refused _ _ _ _ _ _ e.before.check_inputs-verdict.ensures e.in_default.is (finite w) w.finite_work-work.ensures c.in-Refused-work.is)  -- returns-in-Refused-work
     (λ c. search rules)  -- enum_told-in_default-work
     (λ c κs. all_long_lem c.before.before.before.before)  -- residuals-requires
     (λ c.
     let found = c.before in
-    let w = found.before.before in
+    let w = found.before in
     let e = w.before.before.before in
-    report-made _ _ _ _ _ _ e.before.before.check-inputs.ensures e.enum_told.given.1 (finite w) w.finite-work.ensures found.enum-told2.given.1 c.residuals.ensures))  -- returns-3
+    report-made _ _ _ _ _ _ e.before.check_inputs-verdict.ensures e.in_default.is (finite w) w.finite_work-work.ensures found.in_default-work.is c.residuals.ensures))  -- returns-3

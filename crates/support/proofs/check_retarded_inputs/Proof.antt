@@ -44,8 +44,8 @@ check_retarded_inputs_spec =
     (λ c. search rules)  -- enum_told-1
     (λ c. search rules)  -- enum_told-in_default
     (λ c.
-    let refused = c.enum_told-in_default-1.given.1 in
-    let v = c.before.before in
+    let refused = c.in_default.is in
+    let v = c.before in
     refused ∙ sym (then-refused (first v) _ _ (sym (asked v) ∙ refused)) ∙ then-assoc _ _ _)  -- returns-in_default
     (λ c κs. let z = sizes c in (z.2.points-most, z.2.orbitals-most, z.1, le_of_eq (sym (long-first _ _ _ z.2.long).0)))  -- retarded-first-requires
     (λ c κs. let z = sizes c.before in (z.2.points-most, z.2.orbitals-most, z.1, le_of_eq (sym (long-first _ _ _ (long-first _ _ _ z.2.long).1).0)))  -- retarded-requires
@@ -53,5 +53,5 @@ check_retarded_inputs_spec =
     (λ c.
     let r = c.before in
     let e = r.before.before in
-    let v = e.before.before in
-    c.then.ensures ∙ ap₂ ◌then◌ r.before.retarded.ensures r.retarded2.ensures ∙ sym (then-after (first v) _ (sym (asked v) ∙ e.enum_told.given.1)) ∙ then-assoc _ _ _))  -- returns-2
+    let v = e.before in
+    c.then.ensures ∙ ap₂ ◌then◌ r.before.retarded-first.ensures r.retarded.ensures ∙ sym (then-after (first v) _ (sym (asked v) ∙ e.in-Pass.is)) ∙ then-assoc _ _ _))  -- returns-2

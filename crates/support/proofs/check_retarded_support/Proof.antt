@@ -35,17 +35,17 @@ check_retarded_support_spec =
     (λ c. search rules)  -- enum_told-1
     (λ c. search rules)  -- enum_told-in_default
     (λ c.
-    let refused = c.enum_told-in_default-1.given.1 in
-    let v = c.before.before in
+    let refused = c.in_default.is in
+    let v = c.before in
     let x = (start v).args in
     refused ∙ sym (then-refused _ _ _ (sym (asked v) ∙ refused)) ∙ nine_last x.points x.orbitals (x.xs.now ∷ []) x.tolerance _)  -- returns-in_default
     (λ c κs.
-    let v = c.before.before in
+    let v = c.before in
     let x = (start v).args in
-    let z = nine_sizes x.points x.orbitals (x.xs.now ∷ []) x.tolerance (sym (asked v) ∙ c.enum_told-1.given.1) in
+    let z = nine_sizes x.points x.orbitals (x.xs.now ∷ []) x.tolerance (sym (asked v) ∙ c.in-Pass.is) in
     (z.points-most, z.orbitals-most, le_refl _, le_of_eq (sym (long-first _ _ _ z.long).0)))  -- retarded-requires
     (λ c.
     let e = c.before in
-    let v = e.before.before in
+    let v = e.before in
     let x = (start v).args in
-    c.retarded.ensures ∙ sym (then-after _ _ (sym (asked v) ∙ e.enum_told.given.1)) ∙ nine_last x.points x.orbitals (x.xs.now ∷ []) x.tolerance _))  -- returns-2
+    c.retarded.ensures ∙ sym (then-after _ _ (sym (asked v) ∙ e.in-Pass.is)) ∙ nine_last x.points x.orbitals (x.xs.now ∷ []) x.tolerance _))  -- returns-2

@@ -28,9 +28,9 @@ retarded_spec =
     (λ c. search rules)  -- enum_told-1
     (λ c. search rules)  -- enum_told-in_default
     (λ c.
-    let refused = c.enum_told-in_default-1.given.1 in
-    let step = c.before.before.before in
-    refused ∙ sym (first-refused _ _ _ _ step.loop-test.true step.before.loop.invariant.1 (sym c.before.before.row_within-row.ensures ∙ refused)))  -- returns-in_default
+    let refused = c.in_default.is in
+    let step = c.before.before in
+    refused ∙ sym (first-refused _ _ _ _ step.loop-t-test.true step.before.loop-t.invariant.1 (sym c.before.row_within-row.ensures ∙ refused)))  -- returns-in_default
     (λ c. search rules)  -- overflow_step-t
     (λ c. search rules)  -- loop-t-smaller
     (λ c. (omega arith, below_more _ _ c.before.before.before.loop-t.invariant.1 (sym c.before.row_within-row.ensures ∙ c.in-Pass.is)))  -- loop-t-preserved

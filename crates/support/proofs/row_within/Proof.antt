@@ -49,9 +49,9 @@ row_within_spec =
     (λ c. search rules)  -- enum_told-1
     (λ c. search rules)  -- enum_told-in_default
     (λ c.
-    let refused = c.enum_told-in_default-1.given.1 in
-    let step = c.before.before.before.before in
-    refused ∙ sym (first-refused _ _ _ _ step.loop-test.true step.before.loop.invariant.2 (here c.before.before ∙ refused)))  -- returns-in_default
+    let refused = c.in_default.is in
+    let step = c.before.before.before in
+    refused ∙ sym (first-refused _ _ _ _ step.loop-u-test.true step.before.loop-u.invariant.2 (here c.before ∙ refused)))  -- returns-in_default
     (λ c. search rules)  -- overflow_step-u-in-loop-u
     (λ c. search rules)  -- loop-u-smaller
     (λ c. (omega arith, omega arith, below_more _ _ c.before.before.before.before.loop-u.invariant.2 (here c.before ∙ c.in-Pass.is)))  -- loop-u-preserved

@@ -36,9 +36,9 @@ scale_of_spec =
     (λ c. search rules)  -- loop-t-smaller
     (λ c.
     let l = c.before.before in let x = l.before.before.args in
-    (omega arith, c.largest_from-largest.ensures ∙ rw l.loop.invariant.1 (row-numbers x.capacity x.orbitals x.xs.now x.points l.loop.t)))  -- loop-t-preserved
+    (omega arith, c.largest_from-largest.ensures ∙ rw l.loop-t.invariant.1 (row-numbers x.capacity x.orbitals x.xs.now x.points l.loop-t.t)))  -- loop-t-preserved
     (λ c. at-most-infinity _ (lit≤ tt))  -- float_from_bits-max
     (λ c κs. search rules)  -- max-requires
     (λ c.
     let l = c.before.before in
-    c.max.ensures ∙ ap (λ (m : Float). larger m _) (l.loop.invariant.1 ∙ rw (le_antisymm l.loop.invariant.0 c.before.loop-t-test.false))))  -- returns
+    c.max.ensures ∙ ap (λ (m : Float). larger m _) (l.loop-t.invariant.1 ∙ rw (le_antisymm l.loop-t.invariant.0 c.before.loop-t-test.false))))  -- returns

@@ -20,6 +20,6 @@ append_spec =
     let l = v.before.before.before.before.before in
     let x = l.before.before.before.before.before.before.before.before.before.before.args in
     let e = append-cut (run_of (form_of x.initial x.g0.now) x.session x.desk x.shape x.tolerance x.times.now x.free.now x.self_energy.now x.lesser_self_energy.now x.retarded.now x.lesser.now x.kernel.now x.lesser_advanced.now)
-    l.least.result l.least.ensures in
+    l.least-old.result l.least-old.ensures in
     let o = v.solve.ensures in
     (o.0 ∙ answers e, o.1 ∙ ap (booked x.session x.desk) (answers e), o.2 ∙ retardeds e, o.3 ∙ lessers e, o.4 ∙ kernels e, o.5 ∙ lesser_advanceds e)))  -- returns

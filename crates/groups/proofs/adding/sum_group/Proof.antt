@@ -63,5 +63,5 @@ sum_group_spec =
     loop-again
     (λ c. c.before.loop-s.invariant.3 ∙ sym (start c.before).requires.1.1.1.3)  -- shape_of-totals
     (λ c.
-    let l = c.before in let x = (start l).args in let i = l.loop.invariant in
+    let l = c.before in let x = (start l).args in let i = l.loop-s.invariant in
     (i.3, λ a p b ha hp hb. i.4 a p b ha hp hb ∙ ap (λ (s : ℕ). partial_at x.orbitals (terms_of x.sums x.points x.stride x.orbitals x.times.now x.left.now x.right.now x.t (x.u + p) (lane_at x.totals.now a (p * x.orbitals + b))) s a b) (le_antisymm i.1 c.loop-s-test.false))))  -- returns

@@ -32,8 +32,8 @@ returns-2 c t =
       down_a = w.before.wrapping_sub_u64-down_a.result;
       down_b = w.wrapping_sub_u64-down_b.result;
       looks = p;
-      first = no_wrap _ _ s.args.a (omega arith) w.before.wrapping_sub_u64-down_a.ensures p.near-a;
-      second = no_wrap _ _ s.args.b (omega arith) w.wrapping_sub_u64-down_b.ensures p.near-b;
+      first = no_wrap _ _ s.args.a (omega arith) w.before.wrapping_sub_u64-down_a.ensures p.near_a;
+      second = no_wrap _ _ s.args.b (omega arith) w.wrapping_sub_u64-down_b.ensures p.near_b;
       square-a = d.before.before.part_square.ensures.1;
       square-b = d.before.part_square-2.ensures.1;
       middle-square = subst (λ (x : ℕ). c.high_square.result * 2 ^ 64 ≤ (x + 512) * (x + 512)) d.digits.ensures c.high_square.ensures.1;
@@ -45,6 +45,6 @@ above_root_spec =
     tie.close
     (tie.spec
     (λ c κs. search rules) (λ c κs. search rules) (λ c t. never t)
-    (λ c κs. (passed c).near-a)
-    (λ c κs. (passed c.before).near-b)
+    (λ c κs. (passed c).near_a)
+    (λ c κs. (passed c.before).near_b)
     add_result add_result_2 (λ c κs. search rules) add-high-square high-square-requires returns-2)

@@ -32,7 +32,7 @@ trace_spec =
     (λ c. search rules)  -- enum_known-verdict
     (λ c.
     let d = c.before in
-    let x = d.before.before.before.before.before.before.args.self in
+    let x = d.before.before.before.before.before.args.self in
     let p = passed d.before in
     c.finite_value.ensures
     ∙ value_then _ (λ (z : Complex). finite_work (cfinite z)) _ p (d.diagonal.ensures ∙ ap (λ (m : ℕ). trace m (entries_of x)) (sym (eqb-true x.rows x.columns (block-passed _ _ p).1))))  -- returns-in-Pass

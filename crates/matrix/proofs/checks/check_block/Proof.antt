@@ -19,4 +19,4 @@ check_block_spec =
     let f = c.before in
     let n = f.before in
     let s = n.before.shape.ensures in
-    c.then.ensures ∙ then-agree _ _ _ _ s (λ p. f.finite-entries.ensures ∙ rw (n.count.ensures ∙ uncut (shape-passed _ _ _ (sym s ∙ p)).0))))  -- returns
+    c.then.ensures ∙ then-agree _ _ _ _ s (λ p. f.finite_entries.ensures ∙ rw (n.count.ensures ∙ uncut (shape-passed _ _ _ (sym s ∙ p)).0))))  -- returns

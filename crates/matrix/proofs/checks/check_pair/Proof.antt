@@ -24,7 +24,7 @@ check_pair_spec =
     let s = t.before in
     let g = s.before in
     let f = g.before.before in
-    let e = s.pair-shape.ensures in
+    let e = s.pair_shape.ensures in
     c.then-2.ensures
     ∙ then-agree _ _ _ _ e (λ p. let q = pair_shape-passed _ _ _ _ _ (sym e ∙ p) in
-    t.then.ensures ∙ ap₂ ◌then◌ (f.finite-entries.ensures ∙ rw (f.before.count.ensures ∙ uncut q.0)) (g.finite-entries2.ensures ∙ rw (g.before.count2.ensures ∙ uncut q.1)))))  -- returns
+    t.then.ensures ∙ ap₂ ◌then◌ (f.finite_entries-first.ensures ∙ rw (f.before.count.ensures ∙ uncut q.0)) (g.finite_entries-second.ensures ∙ rw (g.before.count-2.ensures ∙ uncut q.1)))))  -- returns

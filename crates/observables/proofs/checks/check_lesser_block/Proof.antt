@@ -35,5 +35,5 @@ check_lesser_block_spec =
     (λ c κs. search rules) (λ c κs. search rules)  -- finite_entries-requires, then-requires
     (λ c.
     let o = c.before.before in
-    let s = o.before.before.before in
-    block-asked _ _ _ ((start s).args.lesser.now) (block (start s)) (asked s) o.before.enum_told.given.1 o.check-points.ensures (c.then.ensures ∙ ap (λ (v : Verdict). o.check-points.result then v) c.before.finite_entries.ensures)))  -- returns-2
+    let s = o.before.before in
+    block-asked _ _ _ ((start s).args.lesser.now) (block (start s)) (asked s) o.before.in-Pass.is o.check_points.ensures (c.then.ensures ∙ ap (λ (v : Verdict). o.check_points.result then v) c.before.finite_entries.ensures)))  -- returns-2

@@ -36,6 +36,6 @@ flow_of_spec =
     (λ c.
     let t = c.before in
     let f = t.before.before in
-    let v = f.before.before.before in
-    observed_yes (sym (asked v) ∙ f.before.enum_told.given.1)
-    (ap (λ (z : Complex). mul (mul (of_bits binary64 0x4000_0000_0000_0000) (start v).args.charge) z.im) (t.times2.ensures ∙ ap (cmul _) (t.before.times.ensures ∙ ap (cmul minus_i) f.found.ensures)))))  -- returns-2
+    let v = f.before.before in
+    observed_yes (sym (asked v) ∙ f.before.in_default.is)
+    (ap (λ (z : Complex). mul (mul (of_bits binary64 0x4000_0000_0000_0000) (start v).args.charge) z.im) (t.times.ensures ∙ ap (cmul _) (t.before.times-rho_ba.ensures ∙ ap (cmul minus_i) f.found.ensures)))))  -- returns-2

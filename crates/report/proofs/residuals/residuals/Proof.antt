@@ -17,4 +17,4 @@ residuals_spec =
     let g = h.before in
     let j = g.before.before in
     let a = j.before in
-    rw (a.before.residual.ensures, a.residual2.ensures, j.residual3.ensures, g.before.residual4.ensures, g.residual5.ensures, h.residual6.ensures, c.residual-7.ensures)))  -- returns
+    rw (a.before.residual.ensures, a.residual-2.ensures, j.residual-3.ensures, g.before.residual-4.ensures, g.residual-5.ensures, h.residual-6.ensures, c.residual-7.ensures)))  -- returns

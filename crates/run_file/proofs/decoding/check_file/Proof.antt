@@ -34,5 +34,5 @@ check_file_spec =
     table-fits-requires
     (λ c κs. search rules)  -- well_formed-requires-2
     (λ c.
-    head_passed _ (checked c.before.before.before.before) c.before.before.enum_told-1.given.1
-    (c.well_formed-2.ensures ∙ ap well_formed (c.before.table_fits.ensures ∙ rw (c.before.before.before.before.before.before.before.before.before.before.word-points.ensures, c.before.before.before.before.before.before.before.before.before.word-orbitals.ensures)))))  -- returns-2
+    head_passed _ (checked c.before.before.before) c.before.before.in-Pass.is
+    (c.well_formed2.ensures ∙ ap well_formed (c.before.table_fits.ensures ∙ rw (c.before.before.before.before.before.before.before.before.before.word-points.ensures, c.before.before.before.before.before.before.before.before.word-orbitals.ensures)))))  -- returns-2

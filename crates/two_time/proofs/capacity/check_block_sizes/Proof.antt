@@ -15,4 +15,4 @@ check_block_sizes_spec =
     let room = c.before.before in
     let most = room.before.before.before in
     let some = most.before.before.before in
-    c.then-2.ensures ∙ rw (c.before.then.ensures, room.then3.ensures, room.before.within-capacity.ensures, room.before.before.fitting.ensures, most.then2.ensures, most.before.Within-block.ensures, most.before.before.within-limits.ensures, some.then.ensures, some.before.not-empty.ensures, some.before.before.large-enough.ensures)))  -- returns
+    c.then-2.ensures ∙ rw (c.before.then.ensures, room.then-room.ensures, room.before.within_capacity.ensures, room.before.before.fitting.ensures, most.then-most.ensures, most.before.within_block.ensures, most.before.before.within_limits.ensures, some.then-some.ensures, some.before.not_empty.ensures, some.before.before.large_enough.ensures)))  -- returns

@@ -13,4 +13,4 @@ check_capacity_spec =
     let l = c.before.before in
     let room = l.before.before in
     c.then.ensures ∙ ap₂ ◌then◌ c.before.large_enough.ensures
-    (l.then2.ensures ∙ ap₂ ◌then◌ l.before.within-limits.ensures (room.then.ensures ∙ ap₂ ◌then◌ room.before.before.fitting.ensures room.before.within-capacity.ensures))))  -- returns
+    (l.then-limits.ensures ∙ ap₂ ◌then◌ l.before.within_limits.ensures (room.then-room.ensures ∙ ap₂ ◌then◌ room.before.before.fitting.ensures room.before.within_capacity.ensures))))  -- returns

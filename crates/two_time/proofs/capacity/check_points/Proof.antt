@@ -23,13 +23,13 @@ check_points_spec =
     (λ c. search rules)  -- enum_told-1
     (λ c. search rules)  -- enum_told-in_default
     (λ c.
-    let refused = c.enum_told-in_default-1.given.1 in
-    let v = c.before.before in
+    let refused = c.in_default.is in
+    let v = c.before in
     refused ∙ sym (then-refused _ _ _ (sym (asked v) ∙ refused)))  -- returns-in_default
     (λ c κs.
-    let v = c.before.before in
-    let z = capacity-passed _ _ _ _ _ (sym (asked v) ∙ c.enum_told-1.given.1) in
+    let v = c.before in
+    let z = capacity-passed _ _ _ _ _ (sym (asked v) ∙ c.in-Pass.is) in
     (z.2.points-most, z.2.orbitals-most, z.1))  -- finite_points-requires
     (λ c.
     let e = c.before in
-    c.finite_points.ensures ∙ sym (then-after _ _ (sym (asked e.before.before) ∙ e.enum_told.given.1))))  -- returns-2
+    c.finite_points.ensures ∙ sym (then-after _ _ (sym (asked e.before) ∙ e.in-Pass.is))))  -- returns-2
