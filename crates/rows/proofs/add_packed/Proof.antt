@@ -41,6 +41,6 @@ add_packed_spec =
     tie.close (tie.spec
     (λ c κs. search rules) (λ c κs. search rules)  -- is_ranged-requires, has_block-requires
     returns
-    (λ c κs. let f = fit c.before in ((f.ranged, f.few, f.rows_long, f.totals-long), (f.inside, f.short)))  -- add_rows-requires
+    (λ c κs. let f = fit c.before in ((f.ranged, f.few, f.rows_long, f.totals_long), (f.inside, f.short)))  -- add_rows-requires
     (λ c. c.before.before.add_rows.auto.totals)  -- shape_of-totals
     returns-2)

@@ -26,14 +26,14 @@ long l = l.loop-c.invariant.2.long ∙ (start l).requires.2
 loop-again : tie.Need-loop-c-preserved invariant-loop decreases-loop
 loop-again c =
     let set = c.before.before in let plus = set.before.before in let times = plus.before in let real' = times.before in
-    let number = real'.before in let new = number.before.before in let t = new.before.before.before in let l = t.before in let s = start l in
-    let x = s.args in let k = l.loop.c in
+    let number = real'.before in let new = number.before in let t = new.before.before.before in let l = t.before in let s = start l in
+    let x = s.args in let k = l.loop-c.c in
     let f = made x.weight x.sums.now in (
       omega arith,
       omega arith,
-      mapped_next (only_from x.lo f) k x.totals.now l.loop.totals _ plus.plus-sum.result l.loop.invariant.2 s.requires.2 (omega arith)
-          (plus.plus-sum.ensures ∙ ap₂ cadd number.number-z.ensures (times.times.ensures ∙ ap₂ cmul new.new.ensures real'.real.ensures)
-          ∙ sym (from_on x.lo f k (number_at l.loop.totals k) l.loop.invariant.0))
+      mapped_next (only_from x.lo f) k x.totals.now l.loop-c.totals _ plus.plus-sum.result l.loop-c.invariant.2 s.requires.2 (omega arith)
+          (plus.plus-sum.ensures ∙ ap₂ cadd number.number-z.ensures (times.times.ensures ∙ ap₂ cmul new.new-p.ensures real'.real.ensures)
+          ∙ sym (from_on x.lo f k (number_at l.loop-c.totals k) l.loop-c.invariant.0))
           set.set_number.ensures,
     )
 
@@ -43,9 +43,9 @@ scale_lanes_spec =
     (λ c. (omega arith, omega arith, from-none _ _ _))  -- loop-c-init
     (λ c. search rules) (λ c. search rules) (λ c. search rules) (λ c. search rules)  -- offset_bounds-sums-c, bounds-sums-c, overflow_add-c, offset_bounds-sums-c-in-loop-c
     (λ c. search rules) (λ c κs. search rules)  -- bounds-sums-c-in-loop-c, new-p-requires
-    (λ c κs. let t = c.before.before.before.before in (omega (arith, t.loop-test.true, (start t.before).requires.1), long t.before))  -- number-z-requires
+    (λ c κs. let t = c.before.before.before in (omega (arith, t.loop-c-test.true, (start t.before).requires.1), long t.before))  -- number-z-requires
     (λ c κs. search rules) (λ c κs. search rules) (λ c κs. search rules)  -- real-requires, times-requires, plus-sum-requires
-    (λ c κs. let t = c.before.before.before.before.before.before.before.before.before in (omega (arith, t.loop-test.true, (start t.before).requires.1), long t.before))  -- set_number-requires
+    (λ c κs. let t = c.before.before.before.before.before.before.before.before in (omega (arith, t.loop-c-test.true, (start t.before).requires.1), long t.before))  -- set_number-requires
     (λ c. search rules) (λ c. search rules)  -- overflow_step-c, loop-c-smaller
     loop-again
     (λ c. c.before.loop-c.invariant.2.long)  -- shape_of-totals

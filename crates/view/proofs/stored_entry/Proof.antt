@@ -18,7 +18,7 @@ asked c =
     c.then-verdict.ensures
     ∙ ap₂ ◌then◌ l.check.ensures
     (c.before.then.ensures
-    ∙ ap₂ ◌then◌ (t.then.ensures ∙ ap₂ ◌then◌ t.before.before.time-below.ensures t.before.time-below2.ensures)
+    ∙ ap₂ ◌then◌ (t.then.ensures ∙ ap₂ ◌then◌ t.before.before.time_below_lem.ensures t.before.time-below2.ensures)
     (o.then2.ensures ∙ ap₂ ◌then◌ o.before.before.orbital-below.ensures o.before.orbital-below2.ensures))
 
 pub stored_entry_spec : {M : Type 1} → own.Statement.statement M

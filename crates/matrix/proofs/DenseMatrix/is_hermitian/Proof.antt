@@ -36,14 +36,14 @@ whole c = search rules
 
 -- past the checks, of a square block: what both loops found
 square-is : (x : DenseMatrix) (tolerance largest : Float) (within : Bool) (v : Verdict) → v ≡ Pass → x.rows ≡ x.columns
-    → largest ≡ largest_from plus_zero (x.rows * x.rows) (λ p. part_size (entry_at x.values-1 (2 * p)))
-    → within ≡ hermitian_within x.rows (mul tolerance largest) (entries_in x.rows x.values-1)
+    → largest ≡ largest_from plus_zero (x.rows * x.rows) (λ p. part_size (entry_at x.values (2 * p)))
+    → within ≡ hermitian_within x.rows (mul tolerance largest) (entries_in x.rows x.values)
     → decide Pass within ≡ decide v (square x && hermitian x.rows tolerance (entries_of x))
 unfolding hermitian
 square-is x tolerance largest within v p e l w =
     ap₂ decide (sym p)
-    (w ∙ ap (λ (m : Float). hermitian_within x.rows (mul tolerance m) (entries_in x.rows x.values-1)) (l ∙ largest_in_lem x.rows x.rows _)
-    ∙ ap (λ (m : ℕ). hermitian x.rows tolerance (entries_in m x.values-1)) e
+    (w ∙ ap (λ (m : Float). hermitian_within x.rows (mul tolerance m) (entries_in x.rows x.values)) (l ∙ largest_in_lem x.rows x.rows _)
+    ∙ ap (λ (m : ℕ). hermitian x.rows tolerance (entries_in m x.values)) e
     ∙ ap (λ (b : Bool). b && hermitian x.rows tolerance (entries_of x)) (sym (eq-eqb x.rows x.columns e)))
 
 returns : tie.Need-returns-then-rows-columns
