@@ -24,7 +24,7 @@ returns c =
     ap₂ (λ (n places : ℕ). group_sums x.sums x.points n x.times.now x.left.now x.right.now x.t x.u places x.out.now) (one d).0 (one d).1
     ∙ single-outcome x.sums x.points x.times.now x.left.now x.right.now x.t x.u x.out.now (one d).2 (tests d).1 p.place_sum-z.result
     (p.place_sum-z.ensures ∙ begins x.sums x.points 1 x.times.now x.left.now x.right.now x.t x.u 0 0) in
-    (w.write.ensures.0 ∙ sym (ap (λ (o : SumsOutcome). o.answer) e), w.write.ensures.1 ∙ sym (ap (λ (o : SumsOutcome). o.out-1) e))
+    (w.write.ensures.0 ∙ sym (ap (λ (o : SumsOutcome). o.answer) e), w.write.ensures.1 ∙ sym (ap (λ (o : SumsOutcome). o.out) e))
 
 pub group_spec : {M : Type 1} → statement M
 group_spec =

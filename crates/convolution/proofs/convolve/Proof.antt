@@ -23,7 +23,7 @@ asked c =
     let x = (start c).args in let h = lengths c in let grid = c.before.before in let sizes = grid.before in let entries = sizes.before in
     inputs-asked x.points x.orbitals x.times.now (x.left.now ∷ x.right.now ∷ []) (x.out.now ∷ []) sizes.check_sizes.result grid.check_grid.result entries.then-finite.result _
     (sizes_asked_lem x.points x.orbitals (x.left.now ∷ x.right.now ∷ x.out.now ∷ []) (eqb (length x.times.now) x.points) _ _
-    (fits_more _ _ _ _ _ _ h.before.before.before.has-length.ensures (fits_more _ _ _ _ _ _ h.before.before.has-length2.ensures h.has_length-out_fits.ensures))
+    (fits_more _ _ _ _ _ _ h.before.before.has_length-left_fits.ensures (fits_more _ _ _ _ _ _ h.before.has_length-right_fits.ensures h.has_length-out_fits.ensures))
     sizes.check_sizes.ensures)
     grid.check_grid.ensures
     (operands-more 0 x.left.now (x.right.now ∷ []) _ _ _ entries.before.before.check_operand.ensures (operands-last 1 x.right.now _ entries.before.check_operand-2.ensures) entries.then-finite.ensures)

@@ -75,7 +75,7 @@ returns-2 c =
 
 forward-requires : tie.Need-forward-requires
 forward-requires c κs =
-    let f = c.before.before.before in let z = sizes f in let l = lengths z in let x = (at f).args in
+    let f = c.before.before in let z = sizes f in let l = lengths z in let x = (at f).args in
     let orders = both (leb x.old x.shape.points) _ z.others in
     (leb-true _ _ orders.0, leb-true _ _ orders.1, also_asked l.0 (also_asked ((convolved f).new_sums-convolved.auto.out ∙ l.1.1.1.0) (also_asked l.1.1.0 (none-asked z))))
 

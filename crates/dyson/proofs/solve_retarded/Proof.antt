@@ -11,4 +11,4 @@ solve_retarded_spec =
     (λ c κs. search rules) (λ c. search rules) (λ c. search rules)  -- solve_new-requires, shape_of-retarded, shape_of-kernel
     (λ c. let w = c.before.before.before.before in let x = w.before.before.before.before.before.before.before.before.args in
     let all = solved-all x.points x.orbitals x.times.now x.free.now x.self_energy.now x.retarded.now x.kernel.now in
-    (w.solve_new.ensures.0 ∙ ap (λ (o : SumsSolved). o.answer) all, w.solve_new.ensures.1 ∙ ap (λ (o : SumsSolved). o.retarded-1) all, w.solve_new.ensures.2 ∙ ap (λ (o : SumsSolved). o.kernel-1) all)))  -- returns
+    (w.solve_new.ensures.0 ∙ ap (λ (o : SumsSolved). o.answer) all, w.solve_new.ensures.1 ∙ ap (λ (o : SumsSolved). o.retarded) all, w.solve_new.ensures.2 ∙ ap (λ (o : SumsSolved). o.kernel) all)))  -- returns

@@ -27,10 +27,10 @@ checks c = let x = (start c).args in size_checks x.points x.orbitals (below c) (
 
 asked : (c : tie.After-check_sizes-verdict) → c.check_sizes-verdict.result ≡ checks c
 asked c =
-    let x = (start c).args in let h = c.before in let b = h.before.before.before.before in
-    sizes_asked_lem x.points x.orbitals (slices c) b.is_below.result _ _
-    (fits_more _ _ _ _ _ _ h.before.before.before.has-length.ensures (fits_more _ _ _ _ _ _ h.before.before.has-length2.ensures h.has_length-retarded_fits.ensures)) c.check_sizes-verdict.ensures
-    ∙ ap (λ (f : Bool). size_checks x.points x.orbitals f (slices c)) b.is_below.ensures
+    let x = (start c).args in let h = c.before in let b = h.before.before.before in
+    sizes_asked_lem x.points x.orbitals (slices c) b.is_below-below.result _ _
+    (fits_more _ _ _ _ _ _ h.before.before.has_length-free_fits.ensures (fits_more _ _ _ _ _ _ h.before.has_length-kernel_fits.ensures h.has_length-retarded_fits.ensures)) c.check_sizes-verdict.ensures
+    ∙ ap (λ (f : Bool). size_checks x.points x.orbitals f (slices c)) b.is_below-below.ensures
 
 passed : (c : tie.In-Pass) → checks c.before ≡ Pass
 passed c = sym (asked c.before) ∙ c.in-Pass.is
@@ -134,7 +134,7 @@ lanes r = r.forward_totals.new.totals
 returns-2 : tie.Need-returns
 returns-2 c =
     let w = c.before.before in let r = w.before.before.before.before in let e = r.before.before in
-    let x = (start e.before.before).args in
+    let x = (start e.before).args in
     let n = x.orbitals in let z = stands e in
     let at = row_at x.points n x.t + x.u * (2 * (n * n)) in
     let finite = group_finite_lem x.points n x.times.now x.free.now x.kernel.now x.retarded.now x.t x.u x.places (lanes r) z.under r.forward_totals.ensures.1 in
@@ -156,7 +156,7 @@ forward_group_spec =
     (λ c. (stands c).count.before)  -- overflow_mul-start-3
     (λ c. (stands c).count.first)  -- overflow_add-start
     (λ c. (stands c).count.room)  -- overflow_mul-end
-    (λ c. (stands c).count.new)  -- overflow_add-end
+    (λ c. (stands c).count.last)  -- overflow_add-end
     (λ c. search rules)  -- slice_bounds-forward_totals-end
     forward-totals-requires
     (λ c. search rules)  -- slice_bounds-write_group-end

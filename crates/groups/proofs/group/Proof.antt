@@ -113,7 +113,7 @@ returns-3 c =
     let e = told r.before.before in
     let x = (start e.before).args in
     let is = group_written x.sums x.points x.orbitals x.times.now x.left.now x.right.now x.t x.u x.places x.out.now (there e) (passed e) (lanes r) r.group_totals.ensures.0 (is_finite r) (is_made r) in
-    (w.write_group.ensures.0 ∙ ap (λ (o : SumsOutcome). o.answer) is, w.write_group.ensures.1 ∙ ap (λ (o : SumsOutcome). o.out-1) is)
+    (w.write_group.ensures.0 ∙ ap (λ (o : SumsOutcome). o.answer) is, w.write_group.ensures.1 ∙ ap (λ (o : SumsOutcome). o.out) is)
 
 pub group_spec : {M : Type 1} → statement M
 group_spec =

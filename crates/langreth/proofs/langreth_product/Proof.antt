@@ -58,10 +58,10 @@ returns-2 c =
     let e = accepted zeroed (checked l) (finite (start l)) told.in-Pass.is (sym w.work.ensures.0 ∙ c.if-work.true) in
     let made = w.work.ensures.1 c.if-work.true in (
       e.answered,
-      ap (λ (x : Components). x.retarded-1) made ∙ e.slice _ _,
-      ap (λ (x : Components). x.advanced-1) made ∙ e.slice _ _,
-      ap (λ (x : Components). x.lesser-1) made ∙ e.slice _ _,
-      ap (λ (x : Components). x.greater-1) made ∙ e.slice _ _,
+      ap (λ (x : Components). x.retarded) made ∙ e.slice _ _,
+      ap (λ (x : Components). x.advanced) made ∙ e.slice _ _,
+      ap (λ (x : Components). x.lesser) made ∙ e.slice _ _,
+      ap (λ (x : Components). x.greater) made ∙ e.slice _ _,
     )
 
 returns-3 : tie.Need-returns

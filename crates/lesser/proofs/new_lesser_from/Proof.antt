@@ -29,11 +29,11 @@ checks c = let x = (start c).args in size_checks x.shape.capacity x.shape.orbita
 -- the verdict is that of checks 1 to 3
 asked : (c : tie.After-check_sizes-verdict) → c.check_sizes-verdict.result ≡ checks c
 asked c =
-    let x = (start c).args in let h = c.before in let b = h.before.before.before in
-    sizes_asked_lem x.shape.capacity x.shape.orbitals (slices c) (there c && b.before.holds-block.result) _ _
-    (fits_more _ _ _ _ _ _ b.has-length.ensures (fits_more _ _ _ _ _ _ h.before.before.has-length2.ensures h.has_length-out_fits.ensures))
+    let x = (start c).args in let h = c.before in let b = h.before.before in
+    sizes_asked_lem x.shape.capacity x.shape.orbitals (slices c) (there c && b.before.holds_block-holds.result) _ _
+    (fits_more _ _ _ _ _ _ b.has_length-retarded_fits.ensures (fits_more _ _ _ _ _ _ h.before.has_length-lesser_advanced_fits.ensures h.has_length-out_fits.ensures))
     c.check_sizes-verdict.ensures
-    ∙ ap (λ (f : Bool). size_checks x.shape.capacity x.shape.orbitals (there c && f) (slices c)) b.before.holds-block.ensures
+    ∙ ap (λ (f : Bool). size_checks x.shape.capacity x.shape.orbitals (there c && f) (slices c)) b.before.holds_block-holds.ensures
 
 -- what it says that they pass
 sizes : (c : tie.In-Pass) → let s = c.before in SizesPassed (start s).args.shape.capacity (start s).args.shape.orbitals (fits s) (slices s)

@@ -46,16 +46,16 @@ abbrev session : tie.After-append_point_occupied-made → Session
 session c = session_of ((start c).args.counters.now)
 
 long : (c : tie.After-append_point_occupied-made) → length ((start c).args.counters.now) ≡ 8
-long c = (named c).before.before.before.if1.false
+long c = (named c).before.before.if-counters-ne8.false
 
 opened : (c : tie.After-append_point_occupied-made) → (named c).session_of-session.result ≡ session c
 opened c = (named c).session_of-session.ensures ∙ session_in_lem _ (long c)
 
 abbrev made : tie.After-append_point_occupied-made → Run
-made c = run c (named c).before.before.block.result (named c).session_of-session.result
+made c = run c (named c).before.block-start.result (named c).session_of-session.result
 
 same : (c : tie.After-append_point_occupied-made) → append_point (made c) ≡ counted_append (run c (g0 c) (session c))
-same c = ap₂ (λ (g : DenseMatrix) (s : Session). append_point (run c g s)) (named c).before.before.block.ensures (opened c) ∙ append-counted (run c (g0 c) (session c)) (long c)
+same c = ap₂ (λ (g : DenseMatrix) (s : Session). append_point (run c g s)) (named c).before.block-start.ensures (opened c) ∙ append-counted (run c (g0 c) (session c)) (long c)
 
 returns-2 : tie.Need-returns
 returns-2 c =
@@ -68,10 +68,10 @@ returns-2 c =
       w.write_booked.ensures.1
           ∙ counters_after_lem _ (long r) x.desk r.append_point_occupied-made.result.answer r.append_point_occupied-made.result.session (v.1 ∙ session-left (sym v.0) x.desk (opened r)) (append-desk (made r) v.0)
           ∙ ap (λ (a : Solved). (booked (session r) x.desk a).products) answer,
-      v.2 ∙ ap (λ (o : Outcome). o.retarded-1) (same r),
-      v.3 ∙ ap (λ (o : Outcome). o.lesser-1) (same r),
-      v.4 ∙ ap (λ (o : Outcome). o.kernel-1) (same r),
-      v.5 ∙ ap (λ (o : Outcome). o.lesser_advanced-1) (same r),
+      v.2 ∙ ap (λ (o : Outcome). o.retarded) (same r),
+      v.3 ∙ ap (λ (o : Outcome). o.lesser) (same r),
+      v.4 ∙ ap (λ (o : Outcome). o.kernel) (same r),
+      v.5 ∙ ap (λ (o : Outcome). o.lesser_advanced) (same r),
     )
 
 pub leechgrommet_append_point_occupied_spec : {M : Type 1} → statement M

@@ -41,7 +41,7 @@ abbrev session : tie.After-transient_run-made → Session
 session c = session_of ((start c).args.counters.now)
 
 long : (c : tie.After-transient_run-made) → length ((start c).args.counters.now) ≡ 8
-long c = (named c).before.before.if1.false
+long c = (named c).before.if-counters-ne8.false
 
 opened : (c : tie.After-transient_run-made) → (named c).session_of-session.result ≡ session c
 opened c = (named c).session_of-session.ensures ∙ session_in_lem _ (long c)
@@ -60,10 +60,10 @@ returns-2 c =
       w.write_booked.ensures.1
           ∙ counters_after_lem _ (long r) x.desk r.transient_run-made.result.answer r.transient_run-made.result.session (v.1 ∙ session-left (sym v.0) x.desk (opened r)) (run-desk (run r (named r).session_of-session.result) v.0)
           ∙ ap (λ (a : Solved). (booked (session r) x.desk a).products) answer,
-      v.2 ∙ ap (λ (o : Outcome). o.retarded-1) (same r),
-      v.3 ∙ ap (λ (o : Outcome). o.lesser-1) (same r),
-      v.4 ∙ ap (λ (o : Outcome). o.kernel-1) (same r),
-      v.5 ∙ ap (λ (o : Outcome). o.lesser_advanced-1) (same r),
+      v.2 ∙ ap (λ (o : Outcome). o.retarded) (same r),
+      v.3 ∙ ap (λ (o : Outcome). o.lesser) (same r),
+      v.4 ∙ ap (λ (o : Outcome). o.kernel) (same r),
+      v.5 ∙ ap (λ (o : Outcome). o.lesser_advanced) (same r),
     )
 
 pub leechgrommet_transient_run_spec : {M : Type 1} → statement M

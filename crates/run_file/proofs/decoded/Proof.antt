@@ -9,7 +9,7 @@ use Rattle.run_file.proofs.decoded.Tie as tie
 
 -- the places before the buffers
 abbrev session : tie.After-retarded-1 → tie.After-open
-session c = c.before.before.before.before.before
+session c = c.before
 
 abbrev fourth : tie.After-retarded-1 → tie.After-numbers-4
 fourth c = (session c).before.before.before

@@ -6,7 +6,7 @@ use Rattle.run_file.proofs.solve.Statement.{statement}
 use Rattle.run_file.proofs.solve.Tie as tie
 
 abbrev ran : tie.After-slice_known-10-1 → tie.After-transient_run-booked
-ran c = c.before.before.before.before.before.before.before.before.before.before.before.before.before
+ran c = c.before.before.before.before.before.before.before.before.before.before.before.before
 
 returns : tie.Need-returns
 returns c = let made = (ran c).transient_run-booked.ensures in as_text (answer-printed _ made.0 made.3) c.before.before.answer_text.ensures

@@ -91,7 +91,7 @@ returns-2 c =
     let same : (a b : ℕ) → a < n → b < n → lane_at (lanes r) a (0 * n + b) ≡ made s a b = λ a b ha hb. r.product_lanes.ensures.1 a 0 b ha (omega arith) hb ∙ product_is s a b in
     let is = outcome-written n 1 (checks s) (all_finite n n (made s)) (lay_out n n (made s)) x.out.now (stands e).there (passed e) (lanes r) r.product_lanes.ensures.0
     (one-finite n (made s) (lanes r) same) (one_laid n (made s) (lanes r) same) in
-    (w.write_group.ensures.0 ∙ ap (λ (o : SumsOutcome). o.answer) is, w.write_group.ensures.1 ∙ ap (λ (o : SumsOutcome). o.out-1) is)
+    (w.write_group.ensures.0 ∙ ap (λ (o : SumsOutcome). o.answer) is, w.write_group.ensures.1 ∙ ap (λ (o : SumsOutcome). o.out) is)
 
 pub first_factor_spec : {M : Type 1} → statement M
 first_factor_spec =

@@ -99,7 +99,7 @@ returns-2 c =
       from_finite_lem x.points n x.times.now x.retarded.now x.lesser_advanced.now x.filled.now x.t x.u x.places (lanes r) same,
       from_numbers_lem x.points n x.times.now x.retarded.now x.lesser_advanced.now x.filled.now x.t x.u x.places (lanes r) same,
     ) in
-    (w.group_onto.ensures.0 ∙ ap (λ (o : SumsOutcome). o.answer) is, w.group_onto.ensures.1 ∙ ap (λ (o : SumsOutcome). o.out-1) is)
+    (w.group_onto.ensures.0 ∙ ap (λ (o : SumsOutcome). o.answer) is, w.group_onto.ensures.1 ∙ ap (λ (o : SumsOutcome). o.out) is)
 
 pub group_from_spec : {M : Type 1} → statement M
 group_from_spec =

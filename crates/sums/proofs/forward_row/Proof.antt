@@ -25,7 +25,7 @@ asked : (c : tie.After-check_sizes-verdict) → c.check_sizes-verdict.result ≡
 asked c =
     let x = (start c).args in let h = c.before in
     sizes_asked_lem x.points x.orbitals (slices c) (ltb x.t x.points) _ _
-    (fits_more _ _ _ _ _ _ h.before.before.before.has-length.ensures (fits_more _ _ _ _ _ _ h.before.before.has-length2.ensures h.has_length-retarded_fits.ensures))
+    (fits_more _ _ _ _ _ _ h.before.before.has_length-free_fits.ensures (fits_more _ _ _ _ _ _ h.before.has_length-kernel_fits.ensures h.has_length-retarded_fits.ensures))
     c.check_sizes-verdict.ensures
 
 -- what it says that they pass

@@ -27,7 +27,7 @@ asked : (c : tie.After-check_sizes-verdict) → c.check_sizes-verdict.result ≡
 asked c =
     let x = (start c).args in let h = c.before in
     sizes_asked_lem x.shape.capacity x.shape.orbitals (slices c) (there c) _ _
-    (fits_more _ _ _ _ _ _ h.before.before.before.has-length.ensures (fits_more _ _ _ _ _ _ h.before.before.has-length2.ensures h.has_length-out_fits.ensures))
+    (fits_more _ _ _ _ _ _ h.before.before.has_length-left_fits.ensures (fits_more _ _ _ _ _ _ h.before.has_length-right_fits.ensures h.has_length-out_fits.ensures))
     c.check_sizes-verdict.ensures
 
 -- what it says that they pass

@@ -10,4 +10,4 @@ weighted_sums_spec =
     (λ c κs. search rules) (λ c. search rules)  -- new_sums-requires, shape_of-out
     (λ c. let w = c.before.before in let x = w.before.before.before.before.before.before.args in
     let all = new_sums-all x.sums x.points x.orbitals x.times.now x.left.now x.right.now x.out.now in
-    (w.new_sums.ensures.0 ∙ ap (λ (o : SumsOutcome). o.answer) all, w.new_sums.ensures.1 ∙ ap (λ (o : SumsOutcome). o.out-1) all)))  -- returns
+    (w.new_sums.ensures.0 ∙ ap (λ (o : SumsOutcome). o.answer) all, w.new_sums.ensures.1 ∙ ap (λ (o : SumsOutcome). o.out) all)))  -- returns

@@ -124,7 +124,7 @@ returns-2 c session desk tolerance =
 returns-3 : tie.Need-returns
 returns-3 c session desk tolerance =
     let w = c.before.before.before in
-    let e = w.before.before.before.before in
+    let e = w.before.before in
     let f₂ = e.before in
     let g = f session desk tolerance f₂ in
     let t = s session desk tolerance g in
@@ -134,7 +134,7 @@ returns-3 c session desk tolerance =
     let retarded-long = (solved session desk tolerance g).solve-new.kept.1.1.1.1.1.0 in
     let lesser-advanced-long = (summed session desk tolerance f₂).new-sums.auto.1.1.1.1.1.1.0 in
     let one = first session desk tolerance f₂ in
-    let m = lesser_advanced_made_lem session desk tolerance f₂ true (sym (not-false _ e.if2.false)) in
+    let m = lesser_advanced_made_lem session desk tolerance f₂ true (sym (not-false _ e.if-not-is_finite-2.false-raw)) in
     let numbers : List Float → List Float = λ xs. new_numbers LesserAdvanced y.shape.capacity y.shape.orbitals y.old y.shape.points y.times.now y.lesser_self_energy.now xs y.lesser_advanced.now in
     let made = m.1 ∙ ap numbers one.1 in
     let form = form_of y.initial y.g0.now in

@@ -5,7 +5,7 @@ use Rattle.two_dots.proofs.run_and_flow.Statement.{statement}
 use Rattle.two_dots.proofs.run_and_flow.Tie as tie
 
 abbrev ran : tie.After-bond_flow_into-flow → tie.After-run_by-run
-ran c = c.before.before.before.before.before.before.before.before.before.before.before
+ran c = c.before.before.before.before.before.before.before.before.before.before
 
 returns : tie.Need-returns
 returns c = one-flow _ _ _ (one-step _ _ (ran c).run_by-run.ensures) c.bond_flow_into-flow.ensures

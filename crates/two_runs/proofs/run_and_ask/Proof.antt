@@ -4,12 +4,12 @@ use Rattle.two_runs.proofs.run_and_ask.Statement.{statement}
 use Rattle.two_runs.proofs.run_and_ask.Tie as tie
 
 abbrev ran : tie.After-bond_flow_into-flow → tie.After-run_by-run
-ran c = c.before.before.before.before.before.before.before.before.before.before.before.before.before.before.before
+ran c = c.before.before.before.before.before.before.before.before.before.before.before.before
 
 returns : tie.Need-returns
 returns c =
-    one-answered _ _ _ _ (one-step _ _ (ran c).run_by-run.ensures) c.before.before.before.before.particle-number.ensures
-    c.before.before.one-body-expectation.ensures c.bond_flow_into-flow.ensures
+    one-answered _ _ _ _ (one-step _ _ (ran c).run_by-run.ensures) c.before.before.particle_number-number.ensures
+    c.before.one_body_expectation-expectation.ensures c.bond_flow_into-flow.ensures
 
 pub run_and_ask_spec : {M : Type 1} → statement M
 run_and_ask_spec =

@@ -3,7 +3,7 @@
 use Rattle.lists.specs.Prelude.{◌≡◌, refl, ◌∙◌, List, ℕ, ◌+◌, ◌-◌, ◌≤◌, ◌<◌, le_refl, min-le_right, arith, length, Float, rules}
 use Rattle.transient_run.specs.declared.Session.{Session}
 use Rattle.transient_run.specs.Calls.{Run, run_of, Outcome, transient_run, append_point}
-use Rattle.two_runs.specs.Promises.{form_with, step_in}
+use Rattle.two_runs.specs.Contracts.{form_with, step_in}
 use Rattle.two_runs.specs.Appending.{over, onto, appends}
 use Rattle.two_runs.specs.Demand.{one-step}
 use Rattle.two_runs.specs.Appended.{none_yet, go_on, refused, finished, ends}
@@ -76,20 +76,20 @@ returns c =
 loop-again : tie.Need-loop-points-preserved invariant-loop decreases-loop
 loop-again c =
     let appended = c.before.before.before.before.before.before.before.before in
-    let told = appended.before.before.before.before.before in
+    let told = appended.before.before.before.before.before.before in
     let at = told.before.before.before in
-    let loop = at.loop in
+    let loop = at.loop-points in
     let left = step_in loop.booked loop.retarded loop.lesser loop.kernel loop.lesser_advanced in
     let kept = appended.append_by-booked.auto.1.1.1.1.1.1.1.1.1 in (
       more loop.invariant.0,
-      within told.before.if1.true,
+      within told.before.loop-points-test.true,
       kept.0 ∙ loop.invariant.2,
       kept.1.0 ∙ loop.invariant.3,
       kept.1.1.0 ∙ loop.invariant.4,
       kept.1.1.1.0 ∙ loop.invariant.5,
       λ session g l k x.
           let r = given at.before session g l k x in
-          go_on r _ _ loop.points loop.invariant.0 (loop.invariant.6 session g l k x) told.enum_told.given.1
+          go_on r _ _ loop.points loop.invariant.0 (loop.invariant.6 session g l k x) told.in-Accepted.is
           (one-step loop.booked.session r.desk {p = append_point (onto r loop.points left)} appended.append_by-booked.ensures),
     )
 
@@ -117,7 +117,7 @@ run_then_append_spec =
     returns
     (λ c κs. tt)  -- append_by-booked-requires
     (λ c. search rules)  -- overflow_add-points
-    (λ c. fewer c.before.before.before.before.before.before.before.before.before.before.before.before.before.before.if1.true)  -- loop-points-smaller
+    (λ c. fewer c.before.before.before.before.before.before.before.before.before.before.before.before.before.before.before.loop-points-test.true)  -- loop-points-smaller
     loop-again
     (λ c. (long c.before.before).0)  -- shape_of-retarded
     (λ c. (long c.before.before).1)  -- shape_of-lesser

@@ -69,26 +69,26 @@ returns c =
 
 -- the packed rows, and the term fits them
 abbrev packed : tie.After-add_packed → List Float
-packed g = g.before.before.before.before.before.pack.last.1.1.1.1.1.1.1.0
+packed g = g.before.before.before.before.pack.new.rows
 
-fit : (g : tie.After-add_packed) → let i = g.before.before.before.before.before.before.before.before in let x = (start i.before.before).args in
-    Fits x.left.now i.place.result x.orbitals (packed g) i.before.term_of.result x.totals.now
+fit : (g : tie.After-add_packed) → let i = g.before.before.before.before.before.before.before in let x = (start i.before.before).args in
+    Fits x.left.now i.place-i.result x.orbitals (packed g) i.before.term_of-term.result x.totals.now
 fit g =
-    let w = g.before.before.before.before.before in let i = w.before.before.before in
+    let w = g.before.before.before.before in let i = w.before.before.before in
     let s = start i.before.before in
     let p = s.requires in
     record {
       ranged = ranges i.before;
       few = p.0.5;
       short = p.1.1.0.2;
-      inside = block_inside (placed i.before.before) i.place.result (length s.args.left.now) i.place.ensures.0 p.1.1.0.0;
+      inside = block_inside (placed i.before.before) i.place-i.result (length s.args.left.now) i.place-i.ensures.0 p.1.1.0.0;
       rows_long = w.pack.ensures.0;
       totals_long = p.1.1.1.1;
     }
 
 returns-2 : tie.Need-returns-else-orbitals-eq1
 returns-2 c =
-    let g = c.before.before in let w = g.before.before.before.before.before in let i = w.before.before.before in let k = i.before in
+    let g = c.before.before in let w = g.before.before.before.before in let i = w.before.before.before in let k = i.before in
     let f = k.before in let s = start f in let x = s.args in let pre = s.requires.0 in
     let m = g.add_packed.ensures.1 in (
       w.pack.ensures.0,
@@ -96,9 +96,9 @@ returns-2 c =
       λ a p b ha hp hb.
           ap (λ (xs : List Float). lane_at xs a (p * x.orbitals + b)) m
           ∙ totals_lane _ _ _ _ _ _ (fit g) a (p * x.orbitals + b) ha (rw (term_is k).lanes (digits_lt hp hb))
-          ∙ lane_step x.sums x.times.now x.points x.orbitals x.t x.s x.u x.places k.term_of.result (term_is k) pre.1 s.requires.1.0 x.stride x.left.now x.right.now p a b hp hb _ _
-          (lane_product x.sums x.points x.stride x.orbitals x.times.now x.left.now x.right.now x.t x.s x.u i.place.result (packed g) a p b ha hb i.place.ensures.0
-          (λ q hq. w.pack.ensures.1 q p b hq hp hb ∙ ap (λ (h : Factor). right_by h (read_as x.stride x.orbitals x.right.now) x.s (x.u + p) q b) f.factor-of.ensures)),
+          ∙ lane_step x.sums x.times.now x.points x.orbitals x.t x.s x.u x.places k.term_of-term.result (term_is k) pre.1 s.requires.1.0 x.stride x.left.now x.right.now p a b hp hb _ _
+          (lane_product x.sums x.points x.stride x.orbitals x.times.now x.left.now x.right.now x.t x.s x.u i.place-i.result (packed g) a p b ha hb i.place-i.ensures.0
+          (λ q hq. w.pack.ensures.1 q p b hq hp hb ∙ ap (λ (h : Factor). right_by h (read_as x.stride x.orbitals x.right.now) x.s (x.u + p) q b) f.factor_of-factor.ensures)),
     )
 
 -- the first number of this step's left factor
@@ -135,6 +135,6 @@ add_term_spec =
     (λ c κs. search rules)  -- add_packed-requires
     (λ c. let g = c.before.before in (one-row g).long ∙ sym (start g.before.before.before.before.before.before.before.before.before).requires.1.1.1.1)  -- shape_of-totals-then-orbitals-eq1
     returns
-    (λ c. let w = c.before.before.before.before.before.before.before in w.pack.ensures.0 ∙ sym (start w.before.before.before.before.before).requires.1.1.1.0)  -- shape_of-rows
+    (λ c. let w = c.before.before.before.before.before.before in w.pack.ensures.0 ∙ sym (start w.before.before.before.before.before).requires.1.1.1.0)  -- shape_of-rows
     (λ c. c.before.before.add_packed.auto.totals)  -- shape_of-totals-else-orbitals-eq1
     returns-2)

@@ -74,7 +74,7 @@ returns-2 c =
     let is = outcome-written x.orbitals x.places (checks s) (finite s) (made s) x.out.now (there e) (passed e) (lanes r) r.group_totals.ensures.0
     (onto_finite_lem x.sums x.points x.orbitals x.times.now x.left.now x.right.now x.starts x.t x.u x.places (lanes r) sum)
     (onto_laid x.sums x.points x.orbitals x.times.now x.left.now x.right.now x.starts x.t x.u x.places (lanes r) sum) in
-    (w.write_group.ensures.0 ∙ ap (λ (o : SumsOutcome). o.answer) is, w.write_group.ensures.1 ∙ ap (λ (o : SumsOutcome). o.out-1) is)
+    (w.write_group.ensures.0 ∙ ap (λ (o : SumsOutcome). o.answer) is, w.write_group.ensures.1 ∙ ap (λ (o : SumsOutcome). o.out) is)
 
 pub group_onto_spec : {M : Type 1} → statement M
 group_onto_spec =

@@ -28,7 +28,7 @@ convolve_requires_2 c κs =
 
 add-functions-requires : tie.Need-add_functions-requires
 add-functions-requires c κs =
-    let w = second c.before.before in
+    let w = second c.before in
     let s = first w.before.before in
     let l = lengths (start s.before).requires in
     let out = s.convolve.auto.out in
@@ -44,12 +44,12 @@ returns-2 c = (second-fails _ _ _ _ _ _ _ (sym c.before.before.before.convolve-2
 returns-3 : tie.Need-returns
 returns-3 c =
     let a = c.before.before in
-    let e = a.before.before.before in
+    let e = a.before.before in
     let w = second e in
     let d = w.before.before in
     let s = first d in
     let one = not-false _ d.if-not-convolve.false-raw in
-    let two = not-false _ e.if2.false in
+    let two = not-false _ e.if-not-convolve-2.false-raw in
     let said = both-added _ _ _ _ _ _ _ (sym s.convolve.ensures.0 ∙ one) (sym w.convolve-2.ensures.0 ∙ two) (s.convolve.ensures.1 one) (w.convolve-2.ensures.1 two)
     a.add_functions.ensures.0 a.add_functions.ensures.1 in
     (said.0, λ h. said.1)

@@ -1,5 +1,5 @@
 -- `observables::density::block` meets its contract: after a steps the first a rows are written. Assumes nothing.
-use Rattle.lists.specs.Prelude.{◌≡◌, sym, ap, ◌∙◌, List, ℕ, ◌+◌, ◌-◌, ◌*◌, ◌≤◌, le_antisymm, le_trans, arith, Float, length, replicate, length-replicate, length-take}
+use Rattle.lists.specs.Prelude.{◌<◌, ◌≡◌, sym, ap, ◌∙◌, List, ℕ, ◌+◌, ◌-◌, ◌*◌, ◌≤◌, le_antisymm, le_trans, arith, Float, length, replicate, length-replicate, length-take}
 use Rattle.lists.specs.Prelude.{length-drop, rules, same_len_mid}
 use Rattle.lists.specs.Indexed.{join}
 use Rattle.lists.specs.Steps.{join_more}
@@ -27,11 +27,10 @@ abbrev start : tie.At-loop-a invariant-loop decreases-loop → tie.Start invaria
 start c = c.before.before
 
 -- this step's row lies within the block
-within : (c : tie.In-loop-a invariant-loop decreases-loop) → let w = 2 * (start c.before).args.orbitals in c.before.loop-a.a * w + w ≤ 512
-within c =
-    let n = (start c.before).args.orbitals in
-    let most = (start c.before).requires.orbitals-most in
-    le_trans (part-within (2 * n) c.loop-a-test.true) (product-most n (2 * n) {m = 16} {n = 32} most (omega arith))
+within : (l : tie.At-loop-a invariant-loop decreases-loop) → l.loop-a.a < (start l).args.orbitals → let w = 2 * (start l).args.orbitals in l.loop-a.a * w + w ≤ 512
+within l under =
+    let n = (start l).args.orbitals in
+    le_trans (part-within (2 * n) under) (product-most n (2 * n) {m = 16} {n = 32} (start l).requires.orbitals-most (omega arith))
 
 loop-again : tie.Need-loop-a-preserved invariant-loop decreases-loop
 loop-again c =
@@ -43,7 +42,7 @@ loop-again c =
     let first = l.loop-a.a * (2 * n) in
     let width = first + 2 * n - first in
     let row : ℕ → List Float = λ i. cells n (density (read_as x.capacity n x.lesser.now) x.time i) in
-    let h = within t in (
+    let h = within t.before t.loop-a-test.true in (
       omega arith,
       same_len_mid {X = Float} first width l.loop-a.values r.row.new.out c.values-in-loop-a-1.given ∙ l.loop-a.invariant.1,
       rw (l.loop-a.invariant.2, r.row.ensures, join_more)
@@ -68,13 +67,13 @@ block_spec =
     decreases-loop
     (λ c. omega (arith, c.before.requires.orbitals-most))  -- overflow_mul-width
     (λ c. (omega arith, length-replicate 512 plus_zero, sym (over_none _)))  -- loop-a-init
-    (λ c. let h = within c in omega arith)  -- overflow_mul-start
-    (λ c. let h = within c in omega arith)  -- overflow_add-end
-    (λ c. let h = within c in omega arith)  -- offset_bounds-values-start
-    (λ c. let h = within c in omega arith)  -- slice_bounds-row-count
-    (λ c. let h = within c in omega arith)  -- slice_bounds-values-start
-    (λ c. let h = within c in omega arith)  -- slice_bounds-values-end
-    (λ c κs. let t = c.before in let h = within t in let i = t.before.loop-a.invariant in ((start t.before).requires, (t.loop-a-test.true, simp (length-take, length-drop) (omega arith))))  -- row-requires
+    (λ c. let h = within c.before c.loop-a-test.true in omega arith)  -- overflow_mul-start
+    (λ c. let h = within c.before c.loop-a-test.true in omega arith)  -- overflow_add-end
+    (λ c. let h = within c.before c.loop-a-test.true in omega arith)  -- offset_bounds-values-start
+    (λ c. let h = within c.before c.loop-a-test.true in omega arith)  -- slice_bounds-row-count
+    (λ c. let h = within c.before c.loop-a-test.true in omega arith)  -- slice_bounds-values-start
+    (λ c. let h = within c.before c.loop-a-test.true in omega arith)  -- slice_bounds-values-end
+    (λ c κs. let t = c.before in let h = within t.before t.loop-a-test.true in let i = t.before.loop-a.invariant in ((start t.before).requires, (t.loop-a-test.true, simp (length-take, length-drop) (omega arith))))  -- row-requires
     (λ c. search rules) (λ c. search rules)  -- overflow_step-a, loop-a-smaller
     loop-again
     returns)

@@ -7,12 +7,12 @@ use Rattle.run_file.proofs.text.time_line.Tie as tie
 
 returns : tie.Need-returns-in-Number
 returns c =
-    let index = c.before.before.before.before.before.before.before.before.before.before.before.before.before.before.before.before.before.before.before.before.before.decimal.ensures in
-    let space = c.before.before.before.before.before.before.before.before.before.before.before.before.before.before.before.before.before.letter.ensures in
+    let index = c.before.before.before.before.before.before.before.before.before.before.before.before.before.before.before.before.before.before.before.before.before.before.decimal-index.ensures in
+    let space = c.before.before.before.before.before.before.before.before.before.before.before.before.before.before.before.before.before.before.letter-to.ensures in
     let word = c.before.before.before.before.before.before.before.before.before.before.before.letters-bits_at.ensures in
     let bits = c.before.before.before.before.before.before.hexadecimal-ended.ensures in
     let end = c.before.before.letter.ensures in (
-      as_text (number-words _ _ _ c.before.before.before.before.before.before.before.before.before.before.before.before.before.before.before.number.given.1 c.before.before.before.before.before.before.before.to_bits.ensures)
+      as_text (number-words _ _ _ c.before.before.before.before.before.before.before.before.before.before.before.before.before.before.before.in-Number.is c.before.before.before.before.before.before.before.to_bits.ensures)
           (both_words _ _ (both_words _ _ (both_words _ _ (both_words _ _ index.0 space.0) word.0) bits.0) end.0),
       omega arith,
     )
