@@ -76,12 +76,12 @@ returns-3 c =
     let told = worked w in
     let l = told.before in
     let e = overflowed zeroed (checked l) (finite (start l)) told.in-Pass.is (sym w.work.ensures.0 ∙ test.if-work.false) in
-    let lengths = w.work.auto.1.1.1.1.1.1.1.1.1.1.1 in (
+    let lengths = w.work.auto in (
       ap Refused c.by.ensures ∙ e.answered,
-      cleared first.clear.ensures lengths.0 ∙ e.slice _ _,
-      cleared second.clear-2.ensures lengths.1.0 ∙ e.slice _ _,
-      cleared third.clear-3.ensures lengths.1.1.0 ∙ e.slice _ _,
-      cleared fourth.clear-4.ensures lengths.1.1.1.0 ∙ e.slice _ _,
+      cleared first.clear.ensures lengths.retarded ∙ e.slice _ _,
+      cleared second.clear-2.ensures lengths.advanced ∙ e.slice _ _,
+      cleared third.clear-3.ensures lengths.lesser ∙ e.slice _ _,
+      cleared fourth.clear-4.ensures lengths.greater ∙ e.slice _ _,
     )
 
 pub langreth_product_spec : {M : Type 1} → statement M

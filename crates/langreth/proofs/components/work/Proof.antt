@@ -45,7 +45,7 @@ convolve_requires_2 c κs =
     let w = second (third c.before).before.before in
     let z = (start (first w.before.before.before).before).requires in
     let l = lengths z in
-    let scratch = w.correlation2.kept.1.1.1.1.1.1.1.1.0 in
+    let scratch = w.correlation-2.auto.scratch in
     also_asked (omega arith) (also_asked (omega arith) (also_asked (omega arith) (none-asked z)))
 
 returns : tie.Need-returns-then-not-correlation
