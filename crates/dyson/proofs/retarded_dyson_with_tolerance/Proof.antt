@@ -53,13 +53,13 @@ module _ (f : tie.After-is_finite) where
   told = solved.before.before.before
 
   abbrev s : tie.Start
-  s = start told.before.before.before.before
+  s = start told.before.before.before
 
   said : (ok : Bool) → f.is_finite.result ≡ ok → (solved_finite (equation s) ≡ ok)
-      × (solved.solve_retarded-solved.last.1.1.1.1.1.0 ≡ cond ok (retarded_of (equation s)) (zeroed s.args.retarded.now))
-      × (solved.solve_retarded-solved.last.1.1.1.1.1.1.0 ≡ cond ok (kernel_of (equation s)) (zeroed s.args.kernel.now))
+      × (solved.solve_retarded-solved.new.retarded ≡ cond ok (retarded_of (equation s)) (zeroed s.args.retarded.now))
+      × (solved.solve_retarded-solved.new.kernel ≡ cond ok (kernel_of (equation s)) (zeroed s.args.kernel.now))
   said ok e =
-      solved_said (equation s) s.args.retarded.now s.args.kernel.now (checks-passed (equation s) s.args.tolerance [] (outputs s) (sym (checked told.before.before) ∙ told.enum_told-1.given.1))
+      solved_said (equation s) s.args.retarded.now s.args.kernel.now (checks-passed (equation s) s.args.tolerance [] (outputs s) (sym (checked told.before) ∙ told.in-Pass.is))
       solved.solve_retarded-solved.ensures ok (sym e ∙ f.is_finite.ensures)
 
 returns-2 : tie.Need-returns-then-is_finite
@@ -67,7 +67,7 @@ unfolding dyson_with_tolerance dyson_verdict
 returns-2 c =
     let f = c.before in
     let m = said f true c.if-is_finite.true in
-    let e = accepted zeroed (checked (told f).before.before) _ (told f).enum_told.given.1 m.0 in
+    let e = accepted zeroed (checked (told f).before) _ (told f).in-Pass.is m.0 in
     (e.answered, m.1 ∙ e.slice _ _, m.2 ∙ e.slice _ _)
 
 returns-3 : tie.Need-returns
@@ -75,7 +75,7 @@ unfolding dyson_with_tolerance dyson_verdict
 returns-3 c =
     let f = c.before.before in
     let m = said f false c.before.if-is_finite.false in
-    let e = overflowed zeroed (checked (told f).before.before) _ (told f).enum_told.given.1 m.0 in
+    let e = overflowed zeroed (checked (told f).before) _ (told f).in-Pass.is m.0 in
     (ap Refused c.by.ensures ∙ e.answered, m.1 ∙ e.slice _ _, m.2 ∙ e.slice _ _)
 
 pub retarded_dyson_with_tolerance_spec : {M : Type 1} → statement M

@@ -82,7 +82,7 @@ forward-requires c κs =
 -- K is made, and G is finite or not
 module _ (g : tie.After-forward) where
   abbrev else1 : tie.Else-not-is_finite
-  else1 = g.before.before.before
+  else1 = g.before.before
 
   abbrev f : tie.After-is_finite
   f = else1.before
@@ -90,7 +90,7 @@ module _ (g : tie.After-forward) where
   made : let x = (at f).args in
       (new_finite Causal x.shape.capacity x.shape.orbitals x.old x.shape.points x.times.now x.free.now x.self_energy.now ≡ true)
       × ((convolved f).new_sums-convolved.new.out ≡ new_numbers Causal x.shape.capacity x.shape.orbitals x.old x.shape.points x.times.now x.free.now x.self_energy.now x.kernel.now)
-  made = said f true (sym (not-false _ else1.if-not-is_finite.left))
+  made = said f true (sym (not-false _ else1.if-not-is_finite.false-raw))
 
   solved : let x = (at f).args in solved_new_finite x.shape.capacity x.shape.orbitals x.old x.shape.points x.times.now x.free.now x.self_energy.now x.retarded.now x.kernel.now ≡ g.forward.result
   solved = let x = (at f).args in kernel-there x.shape.capacity x.shape.orbitals x.old x.shape.points x.times.now x.free.now x.self_energy.now x.retarded.now x.kernel.now made.0 made.1 g.forward.ensures.0
@@ -110,7 +110,7 @@ returns-4 c =
     let pass = passed (f g) in let finite = solved g ∙ test.if-forward.false in (
       rw (pass, finite),
       rw (pass, finite) (first.clear_new-2.ensures ∙ clears (f g) g.forward.new.retarded (g.forward.auto.retarded ∙ l.1.1.0) ∙ g.forward.ensures.2),
-      rw (pass, finite) (second.clear_new-3.ensures ∙ clears (f g) (convolved (f g)).new-sums.new.1.1.1.1.1.1.0 ((convolved (f g)).new-sums.auto.1.1.1.1.1.1.0 ∙ l.1.1.1.0)
+      rw (pass, finite) (second.clear_new-3.ensures ∙ clears (f g) (convolved (f g)).new_sums-convolved.new.out ((convolved (f g)).new_sums-convolved.auto.out ∙ l.1.1.1.0)
           ∙ ap (cleared_new x.shape.capacity x.shape.orbitals x.old x.shape.points) m.1 ∙ cleared-written x.shape.capacity x.shape.orbitals x.old x.shape.points _ x.kernel.now),
     )
 
