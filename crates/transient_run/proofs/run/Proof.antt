@@ -52,13 +52,13 @@ returns-2 c =
     let told = k.in-Refused.is in
     let x = k.in-Refused.r in
     let end = sym (ten_end 0 (run s).points (run s) (clear s) zeroed x (sym o.0 ∙ told) (eq-eqb x.number 10 test.if-r-eq10.true)) in
-    let kept = s.solve-booked.kept.1.1.1.1.1.1.1.1.1.1.1 in (
+    let kept = s.solve-booked.auto in (
       answers end,
       o.1 ∙ books s (sym o.0 ∙ told ∙ answers end),
-      cleared first.clear.ensures kept.0 ∙ retardeds end,
-      cleared second.clear-then-r-eq10.ensures kept.1.0 ∙ lessers end,
-      cleared third.clear-then-r-eq10-2.ensures kept.1.1.0 ∙ kernels end,
-      cleared fourth.clear-then-r-eq10-3.ensures kept.1.1.1.0 ∙ lesser_advanceds end,
+      cleared first.clear.ensures kept.retarded ∙ retardeds end,
+      cleared second.clear-then-r-eq10.ensures kept.lesser ∙ lessers end,
+      cleared third.clear-then-r-eq10-2.ensures kept.kernel ∙ kernels end,
+      cleared fourth.clear-then-r-eq10-3.ensures kept.lesser_advanced ∙ lesser_advanceds end,
     )
 
 returns-3 : tie.Need-returns-else-r-eq10

@@ -54,20 +54,20 @@ formed-requires : tie.Need-formed-count-requires
 formed-requires c κs =
     let e = told (worked-at c) in
     let z = passed e in
-    (c.start_products.ensures.1, (start e.before.before).requires, le_trans z.1 z.2.points-most)
+    (c.start_products.ensures.1, (start e.before).requires, le_trans z.1 z.2.points-most)
 
 -- its count is that of its form
-count-is : (c : tie.After-formed-count) → let x = (start (told (worked-at c.before)).before.before).args in c.formed-count.result ≡ formed (start_products (form_of x.initial x.g0.now)) x.old x.shape.points
+count-is : (c : tie.After-formed-count) → let x = (start (told (worked-at c.before)).before).args in c.formed-count.result ≡ formed (start_products (form_of x.initial x.g0.now)) x.old x.shape.points
 count-is c =
-    let x = (start (told (worked-at c.before)).before.before).args in
+    let x = (start (told (worked-at c.before)).before).args in
     c.formed-count.ensures ∙ ap (λ (k : ℕ). formed k x.old x.shape.points) (c.before.start_products.ensures.0 x.initial.rows x.initial.columns x.g0.now)
 
 with-count-requires : tie.Need-with_count-session-requires
 with-count-requires c κs =
     let e = told (worked-at c.before) in
-    let l = e.before.before in
+    let l = e.before in
     let x = (start l).args in
-    let passes = sym (checked l) ∙ e.enum_told.given.1 in
+    let passes = sym (checked l) ∙ e.in-Pass.is in
     let room = counter_room x.shape.points (run l) x.old passes in
     (desk-below x.shape.points (run l) x.old passes, let h = count-is c in omega (arith, room, h))
 
@@ -116,14 +116,14 @@ returns-3 c =
     let t = w.work.ensures x.session x.desk x.tolerance in
     let end = sym (overflow-end x.old x.shape.points (run l) (cleared l) (sym (checked l) ∙ e.in-Pass.is) (sym t.0 ∙ test.if-work.false)) in
     let answered = ap NotSolved c.by.ensures ∙ answers end in
-    let kept = w.work.auto.1.1.1.1.1.1.1.1 in
+    let kept = w.work.auto in
     let long = (lengths (passed e).2).1.1.1 in (
       answered,
       ap (booked x.session x.desk) (answers end),
-      first.clear_new.ensures ∙ clears e _ (kept.0 ∙ long.0) ∙ t.2 ∙ retardeds end,
-      second.clear_new-in-Pass.ensures ∙ clears e _ (kept.1.0 ∙ long.1.0) ∙ t.3 ∙ lessers end,
-      third.clear_new-in-Pass-2.ensures ∙ clears e _ (kept.1.1.0 ∙ long.1.1.0) ∙ t.4 ∙ kernels end,
-      fourth.clear_new-in-Pass-3.ensures ∙ clears e _ (kept.1.1.1.0 ∙ long.1.1.1.0) ∙ t.5 ∙ lesser_advanceds end,
+      first.clear_new.ensures ∙ clears e _ (kept.retarded ∙ long.0) ∙ t.2 ∙ retardeds end,
+      second.clear_new-in-Pass.ensures ∙ clears e _ (kept.lesser ∙ long.1.0) ∙ t.3 ∙ lessers end,
+      third.clear_new-in-Pass-2.ensures ∙ clears e _ (kept.kernel ∙ long.1.1.0) ∙ t.4 ∙ kernels end,
+      fourth.clear_new-in-Pass-3.ensures ∙ clears e _ (kept.lesser_advanced ∙ long.1.1.1.0) ∙ t.5 ∙ lesser_advanceds end,
     )
 
 pub solve_spec : {M : Type 1} → statement M

@@ -45,10 +45,10 @@ module _ (session : Session) (desk : ℕ) (tolerance : Float) (f : tie.After-is_
   r = run s session desk tolerance
 
   abbrev retarded : List Float
-  retarded = solved.solve_new.last.1.1.1.1.1.0
+  retarded = solved.solve_new.new.retarded
 
   abbrev kernel : List Float
-  kernel = solved.solve_new.last.1.1.1.1.1.1.0
+  kernel = solved.solve_new.new.kernel
 
   retardeds : (ok : Bool) → ok ≡ f.is_finite.result → let x = s.args in
       (retarded_is_finite x.old x.shape.points r ≡ ok) × (retarded ≡ cond ok (retarded_made x.old x.shape.points r) (cleared s x.retarded.now))
@@ -81,16 +81,16 @@ module _ (session : Session) (desk : ℕ) (tolerance : Float) (f₂ : tie.After-
   summed = f₂.before.before.before
 
   abbrev else1 : tie.Else-not-is_finite
-  else1 = summed.before.before.before
+  else1 = summed.before.before
 
   abbrev f : tie.After-is_finite
   f = else1.before
 
   first : let x = (s session desk tolerance f).args in (retarded_is_finite x.old x.shape.points (r session desk tolerance f) ≡ true) × (retarded session desk tolerance f ≡ retarded_made x.old x.shape.points (r session desk tolerance f)) × (kernel session desk tolerance f ≡ kernel_made x.old x.shape.points (r session desk tolerance f))
-  first = retardeds session desk tolerance f true (sym (not-false _ else1.if-not-is_finite.left))
+  first = retardeds session desk tolerance f true (sym (not-false _ else1.if-not-is_finite.false-raw))
 
   abbrev lesser_advanced : List Float
-  lesser_advanced = summed.new_sums.last.1.1.1.1.1.1.0
+  lesser_advanced = summed.new_sums.new.out
 
   lesser_advanced_made_lem : (ok : Bool) → ok ≡ f₂.is_finite-2.result → let x = (s session desk tolerance f).args in
       (new_finite LesserAdvanced x.shape.capacity x.shape.orbitals x.old x.shape.points x.times.now x.lesser_self_energy.now (retarded session desk tolerance f) ≡ ok)
@@ -99,7 +99,7 @@ module _ (session : Session) (desk : ℕ) (tolerance : Float) (f₂ : tie.After-
       let x = (s session desk tolerance f).args in
       let z = (s session desk tolerance f).requires.3 in
       let l = lengths z in
-      let long = (solved session desk tolerance f).solve-new.kept.1.1.1.1.1.0 in
+      let long = (solved session desk tolerance f).solve_new.auto.retarded in
       new_sums_said LesserAdvanced x.shape.capacity x.shape.orbitals x.old x.shape.points x.times.now x.lesser_self_energy.now (retarded session desk tolerance f) x.lesser_advanced.now
       (asked (s session desk tolerance f) _ (also_asked l.1.1.0 (also_asked (long ∙ l.1.1.1.0) (also_asked l.1.1.1.1.1.1.0 (none-asked z))))) summed.new_sums.ensures ok (e ∙ f₂.is_finite-2.ensures)
 
@@ -131,8 +131,8 @@ returns-3 c session desk tolerance =
     let y = t.args in
     let z = t.requires.3 in
     let l = lengths z in
-    let retarded-long = (solved session desk tolerance g).solve-new.kept.1.1.1.1.1.0 in
-    let lesser-advanced-long = (summed session desk tolerance f₂).new-sums.auto.1.1.1.1.1.1.0 in
+    let retarded-long = (solved session desk tolerance g).solve_new.auto.retarded in
+    let lesser-advanced-long = (summed session desk tolerance f₂).new_sums.auto.1.1.1.1.1.1.0 in
     let one = first session desk tolerance f₂ in
     let m = lesser_advanced_made_lem session desk tolerance f₂ true (sym (not-false _ e.if-not-is_finite-2.false-raw)) in
     let numbers : List Float → List Float = λ xs. new_numbers LesserAdvanced y.shape.capacity y.shape.orbitals y.old y.shape.points y.times.now y.lesser_self_energy.now xs y.lesser_advanced.now in
