@@ -9,7 +9,7 @@ use Rattle.run_file.proofs.decoding.check_file.Tie as tie
 -- 15 for the head, 1 and 2
 checked : (c : tie.After-then-head) → c.then-head.result ≡ head_checks c.before.before.before.before.before.before.before.before.args.bytes.now
 checked c =
-    head_is _ c.then-head.ensures c.before.before.before.before.before.before.before.before.well_formed.ensures c.before.before.then-limits.ensures c.before.before.before.before.large_enough.ensures c.before.before.before.within_program.ensures
+    head_is _ c.then-head.ensures c.before.well_formed-2.ensures c.before.before.then-limits.ensures c.before.before.before.before.large_enough.ensures c.before.before.before.within_program.ensures
     c.before.before.before.before.before.before.word-points.ensures c.before.before.before.before.before.word-orbitals.ensures
 
 table-fits-requires : tie.Need-table_fits-requires
@@ -35,4 +35,4 @@ check_file_spec =
     (λ c κs. search rules)  -- well_formed-requires-2
     (λ c.
     head_passed _ (checked c.before.before.before) c.before.before.in-Pass.is
-    (c.before.before.before.before.well_formed-2.ensures ∙ ap well_formed (c.before.table_fits.ensures ∙ rw (c.before.before.before.before.before.before.before.before.before.word-points.ensures, c.before.before.before.before.before.before.before.before.word-orbitals.ensures)))))  -- returns-2
+    (c.well_formed-3.ensures ∙ ap well_formed (c.before.table_fits.ensures ∙ rw (c.before.before.before.before.before.before.before.before.before.word-points.ensures, c.before.before.before.before.before.before.before.before.word-orbitals.ensures)))))  -- returns-2

@@ -9,7 +9,6 @@ pub refused_line_spec : {M : Type 1} → statement M
 refused_line_spec =
     tie.close
     (tie.spec
-    (λ c. search rules)  -- slice-aggregate-letters
     (λ c κs. search rules)  -- letters-to-requires
     (λ c κs. search rules)  -- decimal-ended-requires
     (λ c κs. search rules)  -- letter-requires

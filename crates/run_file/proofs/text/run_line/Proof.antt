@@ -9,7 +9,6 @@ pub run_line_spec : {M : Type 1} → statement M
 run_line_spec =
     tie.close
     (tie.spec
-    (λ c. search rules)  -- slice-aggregate-letters
     (λ c κs. search rules)  -- letters-first-requires
     (λ c κs. search rules)  -- decimal-between-requires
     (λ c κs. search rules)  -- letter-second-requires

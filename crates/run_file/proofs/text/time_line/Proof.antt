@@ -38,7 +38,6 @@ time_line_spec =
     (λ c κs. search rules)  -- decimal-index-requires
     (λ c κs. search rules)  -- letter-to-requires
     (λ c. search rules)  -- enum_known-number
-    (λ c. search rules)  -- slice-aggregate-letters
     (λ c κs. search rules)  -- letters-bits_at-requires
     (λ c κs. search rules)  -- to_bits-requires
     (λ c κs. search rules)  -- hexadecimal-ended-requires
