@@ -81,10 +81,10 @@ leechgrommet_append_point_spec =
     (λ c κs. search rules)  -- append_point-made-requires
     (λ c κs. search rules)  -- write_booked-requires
     (λ c. (wrote c).write_booked.auto.counters)  -- shape_of-counters
-    (λ c. (ran (wrote c)).append-point.auto.1.1.1.1.1.1.1.1.0)  -- shape_of-retarded
-    (λ c. (ran (wrote c)).append-point.auto.1.1.1.1.1.1.1.1.1.0)  -- shape_of-lesser
-    (λ c. (ran (wrote c)).append-point.auto.1.1.1.1.1.1.1.1.1.1.0)  -- shape_of-kernel
-    (λ c. (ran (wrote c)).append-point.auto.1.1.1.1.1.1.1.1.1.1.1.0)  -- shape_of-lesser_advanced
+    (λ c. (ran (wrote c)).append_point-made.auto.retarded)  -- shape_of-retarded
+    (λ c. (ran (wrote c)).append_point-made.auto.lesser)  -- shape_of-lesser
+    (λ c. (ran (wrote c)).append_point-made.auto.kernel)  -- shape_of-kernel
+    (λ c. (ran (wrote c)).append_point-made.auto.lesser_advanced)  -- shape_of-lesser_advanced
     (λ c. (wrote c).write_booked.auto.places)  -- shape_of-places
     (λ c. (wrote c).write_booked.auto.part)  -- shape_of-part
     returns-2)

@@ -79,10 +79,10 @@ leechgrommet_transient_run_spec =
     (λ c κs. search rules)  -- transient_run-made-requires
     (λ c κs. search rules)  -- write_booked-requires
     (λ c. (wrote c).write_booked.auto.counters)  -- shape_of-counters
-    (λ c. (ran (wrote c)).transient-run.auto.1.1.1.1.1.1.1.1.0)  -- shape_of-retarded
-    (λ c. (ran (wrote c)).transient-run.auto.1.1.1.1.1.1.1.1.1.0)  -- shape_of-lesser
-    (λ c. (ran (wrote c)).transient-run.auto.1.1.1.1.1.1.1.1.1.1.0)  -- shape_of-kernel
-    (λ c. (ran (wrote c)).transient-run.auto.1.1.1.1.1.1.1.1.1.1.1.0)  -- shape_of-lesser_advanced
+    (λ c. (ran (wrote c)).transient_run-made.auto.retarded)  -- shape_of-retarded
+    (λ c. (ran (wrote c)).transient_run-made.auto.lesser)  -- shape_of-lesser
+    (λ c. (ran (wrote c)).transient_run-made.auto.kernel)  -- shape_of-kernel
+    (λ c. (ran (wrote c)).transient_run-made.auto.lesser_advanced)  -- shape_of-lesser_advanced
     (λ c. (wrote c).write_booked.auto.places)  -- shape_of-places
     (λ c. (wrote c).write_booked.auto.part)  -- shape_of-part
     returns-2)
