@@ -3,7 +3,7 @@
 use Rattle.lists.specs.Prelude.{◌≡◌, refl, ◌∙◌, List, ℕ, ◌+◌, ◌-◌, ◌≤◌, ◌<◌, le_refl, min-le_right, arith, length, Float, rules}
 use Rattle.transient_run.specs.declared.Session.{Session}
 use Rattle.transient_run.specs.Calls.{Run, run_of, Outcome, transient_run, append_point}
-use Rattle.two_runs.specs.Contracts.{form_with, step_in}
+use Rattle.two_runs.specs.Promises.{form_with, step_in}
 use Rattle.two_runs.specs.Appending.{over, onto, appends}
 use Rattle.two_runs.specs.Demand.{one-step}
 use Rattle.two_runs.specs.Appended.{none_yet, go_on, refused, finished, ends}
@@ -61,8 +61,8 @@ long : (at : tie.At-loop-points invariant-loop decreases-loop) → (let l = at.l
     × (length l.kernel ≡ length y.kernel.now) × (length l.lesser_advanced ≡ length y.lesser_advanced.now))
 long at =
     let inv = at.loop-points.invariant in
-    let kept = (ran at.before).run_by-booked.kept.1.1.1.1.1.1.1.1.1 in
-    (inv.2 ∙ kept.0, inv.3 ∙ kept.1.0, inv.4 ∙ kept.1.1.0, inv.5 ∙ kept.1.1.1.0)
+    let kept = (ran at.before).run_by-booked.auto in
+    (inv.2 ∙ kept.retarded, inv.3 ∙ kept.lesser, inv.4 ∙ kept.kernel, inv.5 ∙ kept.lesser_advanced)
 
 -- a refusal
 returns : tie.Need-returns-in_default invariant-loop decreases-loop
@@ -80,13 +80,13 @@ loop-again c =
     let at = told.before.before.before in
     let loop = at.loop-points in
     let left = step_in loop.booked loop.retarded loop.lesser loop.kernel loop.lesser_advanced in
-    let kept = appended.append_by-booked.auto.1.1.1.1.1.1.1.1.1 in (
+    let kept = appended.append_by-booked.auto in (
       more loop.invariant.0,
       within told.before.loop-points-test.true,
-      kept.0 ∙ loop.invariant.2,
-      kept.1.0 ∙ loop.invariant.3,
-      kept.1.1.0 ∙ loop.invariant.4,
-      kept.1.1.1.0 ∙ loop.invariant.5,
+      kept.retarded ∙ loop.invariant.2,
+      kept.lesser ∙ loop.invariant.3,
+      kept.kernel ∙ loop.invariant.4,
+      kept.lesser_advanced ∙ loop.invariant.5,
       λ session g l k x.
           let r = given at.before session g l k x in
           go_on r _ _ loop.points loop.invariant.0 (loop.invariant.6 session g l k x) told.in-Accepted.is
