@@ -4,8 +4,7 @@ use crate::lent::Head;
 use crate::{show, words};
 use complex::Complex;
 use matrix::{DenseMatrix, Value};
-use std::io;
-use std::io::{Read, Write};
+use std::io::{self, Read, Write};
 
 fn number_at(numbers: &[f64], i: usize) -> f64 {
     if i < numbers.len() {

@@ -3,8 +3,7 @@
 use crate::lent::{Head, Places, output, part};
 use crate::{show, words};
 use flows::bond_flows_into;
-use std::io;
-use std::io::{Read, Write};
+use std::io::{self, Read, Write};
 use two_time::capacity::Shape;
 
 // Reads a slice of whole numbers, and answers how many it has: none where there is no room for it.

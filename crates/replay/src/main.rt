@@ -16,8 +16,7 @@ mod xorshift;
 
 use lent::{Head, Places};
 use norm::norm;
-use std::io;
-use std::io::{BufReader, BufWriter, Read, Write};
+use std::io::{self, BufReader, BufWriter, Read, Write};
 use words::Word;
 
 // The call of a function, and whether the function is one.

@@ -5,8 +5,7 @@ use crate::{show, words};
 use complex::Complex;
 use observables::{bond_flow_into, density_matrix, one_body_expectation, particle_number};
 use report::{ConsistencyReport, Reported, consistency_report};
-use std::io;
-use std::io::{Read, Write};
+use std::io::{self, Read, Write};
 use support::check_retarded_support;
 use two_time::capacity::Shape;
 

@@ -5,8 +5,7 @@ use complex::bits::to_bits;
 use matrix::Checked;
 use observables::Observed;
 use refusal::{Decision, Measured, Refusal, Verdict};
-use std::io;
-use std::io::Write;
+use std::io::{self, Write};
 use transient_run::{Booked, Session, Solved};
 
 pub(crate) fn text(out: &mut impl Write, bytes: &[u8]) -> io::Result<()> {

@@ -8,8 +8,7 @@ use convolution::{causal_volterra_convolution, time_convolution};
 use dyson::{retarded_dyson, retarded_dyson_with_tolerance};
 use langreth::langreth_product;
 use refusal::Verdict;
-use std::io;
-use std::io::{Read, Write};
+use std::io::{self, Read, Write};
 use two_time::capacity::Shape;
 
 // Of two operands: both convolutions, and Dyson with the default tolerance or the one that is given, which leaves G and K.

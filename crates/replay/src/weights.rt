@@ -6,8 +6,7 @@ use grid::{
     check_grid, check_times, checked_interval_weight, full_weight, full_weights, half_step,
     interval_weight,
 };
-use std::io;
-use std::io::{Read, Write};
+use std::io::{self, Read, Write};
 
 fn print_full(
     out: &mut impl Write,

@@ -4,8 +4,7 @@
 
 ghost use Rattle.std.specs.Prelude.{◌≤◌, length};
 
-use std::io;
-use std::io::Read;
+use std::io::{self, Read};
 
 // Reads until `buf` is full, the input ends or a read fails, and answers how many bytes now stand at its start.
 fn read_full(input: &mut impl Read, buf: &mut [u8]) -> usize

@@ -5,8 +5,7 @@ ghost use Rattle.std.specs.Prelude.{◌≤◌, length};
 
 use std::env::{Env, FillError};
 use std::fs::File;
-use std::io;
-use std::io::{Cursor, Read, Write};
+use std::io::{self, Cursor, Read, Write};
 use std::rt::Files;
 
 // Reads until `buf` is full, the input ends or a read fails, and answers how many bytes now stand at its start.
@@ -64,6 +63,7 @@ fn answer(rt: &impl Print, bytes: &[u8]) -> io::Result<()> {
 }
 
 // Runs the file that an argument names, and answers whether there is such an argument. A file that cannot be opened is told to `errors`.
+// An argument longer than the room is read as an empty name, which no file has.
 fn run_case(
     rt: &(impl Env + Files + Print),
     errors: &impl Print,
