@@ -3,23 +3,24 @@
 use crate::lent::{Head, Places, output, part};
 use crate::{show, words};
 use flows::bond_flows_into;
+use std::io::{self, Read, Write};
 use two_time::capacity::Shape;
 
 // Reads a slice of whole numbers, and answers how many it has: none where there is no room for it.
-fn wholes(to: &mut [usize]) -> usize {
-    let count = words::whole();
+fn wholes(input: &mut impl Read, to: &mut [usize]) -> usize {
+    let count = words::whole(input);
     if count > to.len() {
         return 0;
     }
     for i in 0..count {
-        to[i] = words::whole();
+        to[i] = words::whole(input);
     }
     count
 }
 
 // What is stored again and again up to the next word's length, empty where there is no room for it.
-fn whole_list(stored: usize, to: &mut [usize]) -> &mut [usize] {
-    let count = words::whole();
+fn whole_list<'a>(input: &mut impl Read, stored: usize, to: &'a mut [usize]) -> &'a mut [usize] {
+    let count = words::whole(input);
     if count > to.len() {
         return &mut to[..0];
     }
@@ -30,8 +31,8 @@ fn whole_list(stored: usize, to: &mut [usize]) -> &mut [usize] {
 }
 
 // The same of numbers.
-fn number_list(stored: usize, to: &mut [f64]) -> &mut [f64] {
-    let count = words::whole();
+fn number_list<'a>(input: &mut impl Read, stored: usize, to: &'a mut [f64]) -> &'a mut [f64] {
+    let count = words::whole(input);
     if count > to.len() {
         return &mut to[..0];
     }
@@ -51,8 +52,8 @@ fn held(i: usize) -> u8 {
 }
 
 // The refusals, of the next word's length, empty where there is no room for them.
-fn refusals(to: &mut [u8]) -> &mut [u8] {
-    let count = words::whole();
+fn refusals<'a>(input: &mut impl Read, to: &'a mut [u8]) -> &'a mut [u8] {
+    let count = words::whole(input);
     if count > to.len() {
         return &mut to[..0];
     }
@@ -64,6 +65,8 @@ fn refusals(to: &mut [u8]) -> &mut [u8] {
 
 // The outputs' lengths are the last words.
 fn answer(
+    input: &mut impl Read,
+    out: &mut impl Write,
     shape: Shape,
     lesser: &[f64],
     times: &[usize],
@@ -71,41 +74,48 @@ fn answer(
     b: &[usize],
     hoppings: &[f64],
     factors: &[f64],
-) {
+) -> io::Result<()> {
     let mut flow_room = [0.0; 2052];
     let mut refusal_room = [0u8; 2052];
-    let flows = output(&mut flow_room);
-    let numbers = refusals(&mut refusal_room);
+    let flows = output(input, &mut flow_room);
+    let numbers = refusals(input, &mut refusal_room);
     let verdict = bond_flows_into(
         lesser, shape, times, a, b, hoppings, factors, flows, numbers,
     );
-    show::verdict(verdict);
-    show::output(false, flows);
-    show::bytes(numbers);
+    show::verdict(out, verdict)?;
+    show::output(out, false, flows)?;
+    show::bytes(out, numbers)
 }
 
-fn queries(head: Head, lesser: &[f64]) {
+fn queries(
+    input: &mut impl Read,
+    out: &mut impl Write,
+    head: Head,
+    lesser: &[f64],
+) -> io::Result<()> {
     let mut times = [0usize; 2052];
     let mut a = [0usize; 2052];
     let mut b = [0usize; 2052];
     let mut hoppings = [0.0; 2052];
     let mut factors = [0.0; 2052];
-    let stored_times = wholes(&mut times);
-    let stored_a = wholes(&mut a);
-    let stored_b = wholes(&mut b);
-    let stored_hoppings = words::slice(&mut hoppings, 0);
-    let stored_factors = words::slice(&mut factors, 0);
+    let stored_times = wholes(input, &mut times);
+    let stored_a = wholes(input, &mut a);
+    let stored_b = wholes(input, &mut b);
+    let stored_hoppings = words::slice(input, &mut hoppings, 0);
+    let stored_factors = words::slice(input, &mut factors, 0);
     let shape = Shape {
         points: head.points,
-        capacity: words::whole(),
+        capacity: words::whole(input),
         orbitals: head.orbitals,
     };
-    let all_times = whole_list(stored_times, &mut times);
-    let all_a = whole_list(stored_a, &mut a);
-    let all_b = whole_list(stored_b, &mut b);
-    let all_hoppings = number_list(stored_hoppings, &mut hoppings);
-    let all_factors = number_list(stored_factors, &mut factors);
+    let all_times = whole_list(input, stored_times, &mut times);
+    let all_a = whole_list(input, stored_a, &mut a);
+    let all_b = whole_list(input, stored_b, &mut b);
+    let all_hoppings = number_list(input, stored_hoppings, &mut hoppings);
+    let all_factors = number_list(input, stored_factors, &mut factors);
     answer(
+        input,
+        out,
         shape,
         lesser,
         all_times,
@@ -113,16 +123,21 @@ fn queries(head: Head, lesser: &[f64]) {
         all_b,
         all_hoppings,
         all_factors,
-    );
+    )
 }
 
 // Seven slices: the times, of which there are none, the lesser function, and five of the queries.
-pub(crate) fn call(head: Head, numbers: &mut [f64]) {
-    words::whole();
+pub(crate) fn call(
+    input: &mut impl Read,
+    out: &mut impl Write,
+    head: Head,
+    numbers: &mut [f64],
+) -> io::Result<()> {
+    words::whole(input);
     let mut at: Places = [0; 18];
-    let begin = words::slice(numbers, 0);
-    let end = words::slice(numbers, begin);
+    let begin = words::slice(input, numbers, 0);
+    let end = words::slice(input, numbers, begin);
     at[2] = begin;
     at[3] = end;
-    queries(head, part(numbers, &at, 1));
+    queries(input, out, head, part(numbers, &at, 1))
 }

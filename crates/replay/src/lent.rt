@@ -1,5 +1,6 @@
 // What a call is lent: slices that stand in the list or are made, and what its outputs hold before.
 use crate::{made, words};
+use std::io::Read;
 use two_time::capacity::Shape;
 
 // What every call begins with: the function, whether its slices are made, points, orbitals and the tolerance.
@@ -15,13 +16,13 @@ pub(crate) struct Head {
 // Where each slice begins and ends among the numbers: the times, then up to eight operands.
 pub(crate) type Places = [usize; 18];
 
-pub(crate) fn begin(word: u64) -> Head {
+pub(crate) fn begin(input: &mut impl Read, word: u64) -> Head {
     Head {
         function: word % 64,
         made: word >= 64,
-        points: words::whole(),
-        orbitals: words::whole(),
-        tolerance: words::number(),
+        points: words::whole(input),
+        orbitals: words::whole(input),
+        tolerance: words::number(input),
     }
 }
 
@@ -31,11 +32,11 @@ fn in_capacity(function: u64) -> bool {
 }
 
 // The points and orbitals of a call; a function without a capacity is laid out for its points.
-pub(crate) fn shape(head: Head) -> Shape {
+pub(crate) fn shape(input: &mut impl Read, head: Head) -> Shape {
     Shape {
         points: head.points,
         capacity: if in_capacity(head.function) {
-            words::whole()
+            words::whole(input)
         } else {
             head.points
         },
@@ -44,26 +45,26 @@ pub(crate) fn shape(head: Head) -> Shape {
 }
 
 // The slices that stand in the list, one after the other.
-fn stored(numbers: &mut [f64]) -> Places {
+fn stored(input: &mut impl Read, numbers: &mut [f64]) -> Places {
     let mut at = [0usize; 18];
     let mut end = 0;
-    let count = words::whole();
+    let count = words::whole(input);
     if count > 9 {
         return at;
     }
     for i in 0..count {
         at[2 * i] = end;
-        end = words::slice(numbers, end);
+        end = words::slice(input, numbers, end);
         at[2 * i + 1] = end;
     }
     at
 }
 
-pub(crate) fn lend(head: Head, numbers: &mut [f64]) -> Places {
+pub(crate) fn lend(input: &mut impl Read, head: Head, numbers: &mut [f64]) -> Places {
     if head.made {
-        return made::lend(head.points, head.orbitals, numbers);
+        return made::lend(input, head.points, head.orbitals, numbers);
     }
-    stored(numbers)
+    stored(input, numbers)
 }
 
 // A slice of the call, empty where its places are not among the numbers.
@@ -105,8 +106,8 @@ fn held(i: usize) -> f64 {
 }
 
 // An output of the next word's length, empty where there is no room for it.
-pub(crate) fn output(numbers: &mut [f64]) -> &mut [f64] {
-    let count = words::whole();
+pub(crate) fn output<'a>(input: &mut impl Read, numbers: &'a mut [f64]) -> &'a mut [f64] {
+    let count = words::whole(input);
     if count > numbers.len() {
         return &mut numbers[..0];
     }
@@ -130,6 +131,7 @@ fn copied<'a>(before: &[f64], numbers: &'a mut [f64]) -> &'a mut [f64] {
 
 // An output of a call: in a capacity it holds what is given in the list.
 pub(crate) fn output_of<'a>(
+    input: &mut impl Read,
     function: u64,
     before: &[f64],
     numbers: &'a mut [f64],
@@ -137,5 +139,5 @@ pub(crate) fn output_of<'a>(
     if in_capacity(function) {
         return copied(before, numbers);
     }
-    output(numbers)
+    output(input, numbers)
 }

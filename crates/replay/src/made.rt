@@ -4,6 +4,7 @@ ghost use Rattle.lists.specs.Prelude.{◌≤◌};
 
 use crate::lent::Places;
 use crate::{words, xorshift};
+use std::io::Read;
 
 // The numbers of a function with these points and orbitals, 0 where they are more than there is room for.
 fn length(points: usize, orbitals: usize) -> usize
@@ -77,8 +78,13 @@ fn shared_places(points: usize, end: usize) -> Places {
 }
 
 // Makes the slices of the next word's seed.
-pub(crate) fn lend(points: usize, orbitals: usize, numbers: &mut [f64]) -> Places {
-    let seed = words::whole() as u64;
+pub(crate) fn lend(
+    input: &mut impl Read,
+    points: usize,
+    orbitals: usize,
+    numbers: &mut [f64],
+) -> Places {
+    let seed = words::whole(input) as u64;
     let count = length(points, orbitals);
     if points > numbers.len() {
         return [0; 18];

@@ -1,126 +1,128 @@
-// Answers as text on standard output, each after a space: a refusal by its number, operand, first, second and part, a number by its
+// Answers as text on the output, each after a space: a refusal by its number, operand, first, second and part, a number by its
 // bits.
 use crate::xorshift::digest;
-use libc::STDOUT_FILENO;
+use complex::bits::to_bits;
 use matrix::Checked;
 use observables::Observed;
 use refusal::{Decision, Measured, Refusal, Verdict};
+use std::io::{self, Write};
 use transient_run::{Booked, Session, Solved};
 
-pub(crate) fn text(bytes: &[u8]) {
-    io::write_all(STDOUT_FILENO, bytes);
+pub(crate) fn text(out: &mut impl Write, bytes: &[u8]) -> io::Result<()> {
+    out.write_all(bytes)
 }
 
-pub(crate) fn begin(index: u64) {
-    io::print_decimal(STDOUT_FILENO, index);
+pub(crate) fn begin(out: &mut impl Write, index: u64) -> io::Result<()> {
+    write!(out, "{index}")
 }
 
-fn decimal(n: u64) {
-    text(b" ");
-    io::print_decimal(STDOUT_FILENO, n);
+fn decimal(out: &mut impl Write, n: u64) -> io::Result<()> {
+    write!(out, " {n}")
 }
 
-fn whole(n: usize) {
-    decimal(n as u64);
+fn whole(out: &mut impl Write, n: usize) -> io::Result<()> {
+    decimal(out, n as u64)
 }
 
 // A NaN's bits are free, so it has none.
-pub(crate) fn number(x: f64) {
+pub(crate) fn number(out: &mut impl Write, x: f64) -> io::Result<()> {
     if x != x {
-        text(b" nan");
-        return;
+        return text(out, b" nan");
     }
-    text(b" ");
-    io::print_hex(STDOUT_FILENO, f64::to_bits(x), 16);
+    let bits = to_bits(x);
+    write!(out, " {bits:016x}")
 }
 
-fn numbers(xs: &[f64]) {
+fn numbers(out: &mut impl Write, xs: &[f64]) -> io::Result<()> {
     for i in 0..xs.len() {
-        number(xs[i]);
+        number(out, xs[i])?;
     }
+    Ok(())
 }
 
 // An output or scratch slice: its numbers, or one digest of them.
-pub(crate) fn output(digested: bool, xs: &[f64]) {
+pub(crate) fn output(out: &mut impl Write, digested: bool, xs: &[f64]) -> io::Result<()> {
     if digested & (xs.len() > 0) {
-        text(b" ");
-        io::print_hex(STDOUT_FILENO, digest(xs), 16);
-        return;
+        let bits = digest(xs);
+        return write!(out, " {bits:016x}");
     }
-    numbers(xs);
+    numbers(out, xs)
 }
 
-pub(crate) fn refused(r: Refusal) {
-    text(b" refused ");
-    io::print_decimal(STDOUT_FILENO, r.number as u64);
-    whole(r.operand);
-    whole(r.first);
-    whole(r.second);
-    number(r.part);
+pub(crate) fn refused(out: &mut impl Write, r: Refusal) -> io::Result<()> {
+    text(out, b" refused")?;
+    decimal(out, r.number as u64)?;
+    whole(out, r.operand)?;
+    whole(out, r.first)?;
+    whole(out, r.second)?;
+    number(out, r.part)
 }
 
-pub(crate) fn verdict(v: Verdict) {
+pub(crate) fn verdict(out: &mut impl Write, v: Verdict) -> io::Result<()> {
     match v {
-        Verdict::Pass => text(b" accepted"),
-        Verdict::Refused(r) => refused(r),
+        Verdict::Pass => text(out, b" accepted"),
+        Verdict::Refused(r) => refused(out, r),
     }
 }
 
 // A session's counters.
-fn counters(session: Session) {
+fn counters(out: &mut impl Write, session: Session) -> io::Result<()> {
     let products = session.products;
     for i in 0..8 {
-        decimal(products[i]);
+        decimal(out, products[i])?;
     }
+    Ok(())
 }
 
 // The answer of a run or an append; with the count that an accepted one carries and the counters after any, if they are told.
-pub(crate) fn booked(told: bool, booked: Booked) {
+pub(crate) fn booked(out: &mut impl Write, told: bool, booked: Booked) -> io::Result<()> {
     let answer = booked.answer;
     match answer {
         Solved::Accepted(count) => {
-            text(b" accepted");
+            text(out, b" accepted")?;
             if told {
-                decimal(count);
+                decimal(out, count)?;
             }
         }
-        Solved::Refused(r) => refused(r),
+        Solved::Refused(r) => refused(out, r)?,
     }
     if told {
-        counters(booked.session);
+        counters(out, booked.session)?;
     }
+    Ok(())
 }
 
-pub(crate) fn measured(m: Measured) {
+pub(crate) fn measured(out: &mut impl Write, m: Measured) -> io::Result<()> {
     match m {
-        Measured::Of(x) => number(x),
-        Measured::Refused(r) => refused(r),
+        Measured::Of(x) => number(out, x),
+        Measured::Refused(r) => refused(out, r),
     }
 }
 
-pub(crate) fn decision(d: Decision) {
+pub(crate) fn decision(out: &mut impl Write, d: Decision) -> io::Result<()> {
     match d {
-        Decision::Yes => text(b" yes"),
-        Decision::No => text(b" no"),
-        Decision::Refused(r) => refused(r),
+        Decision::Yes => text(out, b" yes"),
+        Decision::No => text(out, b" no"),
+        Decision::Refused(r) => refused(out, r),
     }
 }
 
-pub(crate) fn observed(answer: Observed) {
+pub(crate) fn observed(out: &mut impl Write, answer: Observed) -> io::Result<()> {
     match answer {
-        Observed::Number(x) => number(x),
+        Observed::Number(x) => number(out, x),
         Observed::NotReal(x) => {
-            text(b" not-real");
-            number(x);
+            text(out, b" not-real")?;
+            number(out, x)
         }
-        Observed::Refused(r) => refused(r),
+        Observed::Refused(r) => refused(out, r),
     }
 }
 
-pub(crate) fn bytes(xs: &[u8]) {
+pub(crate) fn bytes(out: &mut impl Write, xs: &[u8]) -> io::Result<()> {
     for i in 0..xs.len() {
-        decimal(xs[i] as u64);
+        decimal(out, xs[i] as u64)?;
     }
+    Ok(())
 }
 
 // Whether a number is +0.
@@ -129,20 +131,20 @@ fn plus_zero(x: f64) -> bool {
 }
 
 // The numbers up to the last one that is not +0.
-fn values(xs: &[f64]) {
+fn values(out: &mut impl Write, xs: &[f64]) -> io::Result<()> {
     let mut count = xs.len();
     while count > 0 && plus_zero(xs[count - 1]) {
         count -= 1;
     }
-    numbers(&xs[..count]);
+    numbers(out, &xs[..count])
 }
 
-pub(crate) fn block(made: Checked) {
+pub(crate) fn block(out: &mut impl Write, made: Checked) -> io::Result<()> {
     let answer = made.verdict;
     let block = made.block;
-    verdict(answer);
-    whole(block.rows);
-    whole(block.columns);
+    verdict(out, answer)?;
+    whole(out, block.rows)?;
+    whole(out, block.columns)?;
     let numbers = block.values;
-    values(&numbers);
+    values(out, &numbers)
 }

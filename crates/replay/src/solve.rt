@@ -8,6 +8,7 @@ use convolution::{causal_volterra_convolution, time_convolution};
 use dyson::{retarded_dyson, retarded_dyson_with_tolerance};
 use langreth::langreth_product;
 use refusal::Verdict;
+use std::io::{self, Read, Write};
 use two_time::capacity::Shape;
 
 // Of two operands: both convolutions, and Dyson with the default tolerance or the one that is given, which leaves G and K.
@@ -57,6 +58,8 @@ fn product(
 
 // The call, and its answer as text.
 fn with_outputs(
+    input: &mut impl Read,
+    out: &mut impl Write,
     head: Head,
     shape: Shape,
     numbers: &[f64],
@@ -65,37 +68,71 @@ fn with_outputs(
     b: &mut [f64],
     c: &mut [f64],
     d: &mut [f64],
-) {
+) -> io::Result<()> {
     let function = head.function;
     match function {
         5 | 36 | 37 | 42..=45 => show::booked(
+            out,
             transient::in_session(function),
-            transient::call(head, shape, numbers, at, a, b, c, d),
+            transient::call(input, head, shape, numbers, at, a, b, c, d),
         ),
-        12 => show::verdict(product(head, numbers, at, a, b, c, d)),
-        _ => show::verdict(of_two(head, numbers, at, a, b)),
+        12 => show::verdict(out, product(head, numbers, at, a, b, c, d)),
+        _ => show::verdict(out, of_two(head, numbers, at, a, b)),
     }
 }
 
-fn print_outputs(digested: bool, a: &[f64], b: &[f64], c: &[f64], d: &[f64]) {
-    show::output(digested, a);
-    show::output(digested, b);
-    show::output(digested, c);
-    show::output(digested, d);
+fn print_outputs(
+    out: &mut impl Write,
+    digested: bool,
+    a: &[f64],
+    b: &[f64],
+    c: &[f64],
+    d: &[f64],
+) -> io::Result<()> {
+    show::output(out, digested, a)?;
+    show::output(out, digested, b)?;
+    show::output(out, digested, c)?;
+    show::output(out, digested, d)
 }
 
 // An output has room for a function of the most numbers.
-pub(crate) fn call(head: Head, numbers: &[f64], at: &Places) {
+pub(crate) fn call(
+    input: &mut impl Read,
+    out: &mut impl Write,
+    head: Head,
+    numbers: &[f64],
+    at: &Places,
+) -> io::Result<()> {
     let mut first = [0.0; 131072];
     let mut second = [0.0; 131072];
     let mut third = [0.0; 131072];
     let mut fourth = [0.0; 131072];
     let function = head.function;
-    let shape = shape(head);
-    let a = output_of(function, before(function, numbers, at, 0), &mut first);
-    let b = output_of(function, before(function, numbers, at, 1), &mut second);
-    let c = output_of(function, before(function, numbers, at, 2), &mut third);
-    let d = output_of(function, before(function, numbers, at, 3), &mut fourth);
-    with_outputs(head, shape, numbers, at, a, b, c, d);
-    print_outputs(head.made, a, b, c, d);
+    let shape = shape(input, head);
+    let a = output_of(
+        input,
+        function,
+        before(function, numbers, at, 0),
+        &mut first,
+    );
+    let b = output_of(
+        input,
+        function,
+        before(function, numbers, at, 1),
+        &mut second,
+    );
+    let c = output_of(
+        input,
+        function,
+        before(function, numbers, at, 2),
+        &mut third,
+    );
+    let d = output_of(
+        input,
+        function,
+        before(function, numbers, at, 3),
+        &mut fourth,
+    );
+    with_outputs(input, out, head, shape, numbers, at, a, b, c, d)?;
+    print_outputs(out, head.made, a, b, c, d)
 }

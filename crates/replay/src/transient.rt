@@ -3,6 +3,7 @@
 use crate::blocks::block;
 use crate::lent::{Head, Places, part};
 use crate::words;
+use std::io::Read;
 use transient_run::{
     Booked, Session, append_point, append_point_occupied, transient_run, transient_run_occupied,
 };
@@ -21,18 +22,18 @@ struct AtDesk {
 }
 
 // The session whose counters are the next eight words, desk 0's first.
-fn session() -> Session {
+fn session(input: &mut impl Read) -> Session {
     let mut totals = [0u64; 8];
     for i in 0..8 {
-        totals[i] = words::whole() as u64;
+        totals[i] = words::whole(input) as u64;
     }
     Session::open(totals)
 }
 
-fn at_desk(function: u64) -> AtDesk {
+fn at_desk(input: &mut impl Read, function: u64) -> AtDesk {
     if in_session(function) {
-        let desk = words::whole();
-        let session = session();
+        let desk = words::whole(input);
+        let session = session(input);
         return AtDesk { session, desk };
     }
     AtDesk {
@@ -43,6 +44,7 @@ fn at_desk(function: u64) -> AtDesk {
 
 // Free, both self-energies; G^R, G^<, K and X.
 fn run(
+    input: &mut impl Read,
     head: Head,
     shape: Shape,
     numbers: &[f64],
@@ -52,7 +54,7 @@ fn run(
     c: &mut [f64],
     d: &mut [f64],
 ) -> Booked {
-    let named = at_desk(head.function);
+    let named = at_desk(input, head.function);
     transient_run(
         named.session,
         named.desk,
@@ -71,6 +73,7 @@ fn run(
 
 // The same slices; the points are those before the append.
 fn append(
+    input: &mut impl Read,
     head: Head,
     shape: Shape,
     numbers: &[f64],
@@ -80,7 +83,7 @@ fn append(
     c: &mut [f64],
     d: &mut [f64],
 ) -> Booked {
-    let named = at_desk(head.function);
+    let named = at_desk(input, head.function);
     append_point(
         named.session,
         named.desk,
@@ -99,6 +102,7 @@ fn append(
 
 // With the numbers of the block after the lesser self-energy.
 fn run_occupied(
+    input: &mut impl Read,
     head: Head,
     shape: Shape,
     numbers: &[f64],
@@ -108,8 +112,8 @@ fn run_occupied(
     c: &mut [f64],
     d: &mut [f64],
 ) -> Booked {
-    let named = at_desk(head.function);
-    let g0 = block(part(numbers, at, 4));
+    let named = at_desk(input, head.function);
+    let g0 = block(input, part(numbers, at, 4));
     transient_run_occupied(
         named.session,
         named.desk,
@@ -129,6 +133,7 @@ fn run_occupied(
 
 // The same, of an append.
 fn append_occupied(
+    input: &mut impl Read,
     head: Head,
     shape: Shape,
     numbers: &[f64],
@@ -138,8 +143,8 @@ fn append_occupied(
     c: &mut [f64],
     d: &mut [f64],
 ) -> Booked {
-    let named = at_desk(head.function);
-    let g0 = block(part(numbers, at, 4));
+    let named = at_desk(input, head.function);
+    let g0 = block(input, part(numbers, at, 4));
     append_point_occupied(
         named.session,
         named.desk,
@@ -158,6 +163,7 @@ fn append_occupied(
 }
 
 pub(crate) fn call(
+    input: &mut impl Read,
     head: Head,
     shape: Shape,
     numbers: &[f64],
@@ -169,9 +175,9 @@ pub(crate) fn call(
 ) -> Booked {
     let function = head.function;
     match function {
-        37 | 43 => append(head, shape, numbers, at, a, b, c, d),
-        44 => run_occupied(head, shape, numbers, at, a, b, c, d),
-        45 => append_occupied(head, shape, numbers, at, a, b, c, d),
-        _ => run(head, shape, numbers, at, a, b, c, d),
+        37 | 43 => append(input, head, shape, numbers, at, a, b, c, d),
+        44 => run_occupied(input, head, shape, numbers, at, a, b, c, d),
+        45 => append_occupied(input, head, shape, numbers, at, a, b, c, d),
+        _ => run(input, head, shape, numbers, at, a, b, c, d),
     }
 }

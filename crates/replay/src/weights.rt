@@ -6,28 +6,50 @@ use grid::{
     check_grid, check_times, checked_interval_weight, full_weight, full_weights, half_step,
     interval_weight,
 };
+use std::io::{self, Read, Write};
 
-fn print_full(times: &[f64], points: usize, weights: &mut [f64]) {
-    show::verdict(full_weights(times, points, weights));
-    show::output(false, weights);
+fn print_full(
+    out: &mut impl Write,
+    times: &[f64],
+    points: usize,
+    weights: &mut [f64],
+) -> io::Result<()> {
+    show::verdict(out, full_weights(times, points, weights))?;
+    show::output(out, false, weights)
 }
 
 // The full weights: the output's length.
-pub(crate) fn full(head: Head, times: &[f64]) {
+pub(crate) fn full(
+    input: &mut impl Read,
+    out: &mut impl Write,
+    head: Head,
+    times: &[f64],
+) -> io::Result<()> {
     let mut weights = [0.0; 1024];
-    print_full(times, head.points, output(&mut weights));
+    print_full(out, times, head.points, output(input, &mut weights))
 }
 
 // 26 and 35 have a point, a start and an end, 33 a later point and an earlier one, 34 a point.
-pub(crate) fn call(head: Head, times: &[f64]) {
+pub(crate) fn call(
+    input: &mut impl Read,
+    out: &mut impl Write,
+    head: Head,
+    times: &[f64],
+) -> io::Result<()> {
     let function = head.function;
     let points = head.points;
     match function {
-        26 => show::measured(checked_interval_weight(times, points, whole(), whole(), whole())),
-        31 => show::verdict(check_times(times, points)),
-        32 => show::verdict(check_grid(times, points)),
-        33 => show::number(half_step(times, whole(), whole())),
-        34 => show::number(full_weight(times, points, whole())),
-        _ => show::number(interval_weight(times, whole(), whole(), whole())),
+        26 => show::measured(
+            out,
+            checked_interval_weight(times, points, whole(input), whole(input), whole(input)),
+        ),
+        31 => show::verdict(out, check_times(times, points)),
+        32 => show::verdict(out, check_grid(times, points)),
+        33 => show::number(out, half_step(times, whole(input), whole(input))),
+        34 => show::number(out, full_weight(times, points, whole(input))),
+        _ => show::number(
+            out,
+            interval_weight(times, whole(input), whole(input), whole(input)),
+        ),
     }
 }

@@ -1,8 +1,8 @@
-// Words of standard input: 16 hexadecimal digits each, and one byte after them, a space or a line feed.
+// Words of the input: 16 hexadecimal digits each, and one byte after them, a space or a line feed.
 ghost use Rattle.lists.specs.Prelude.{◌<◌};
 
 use complex::bits::from_bits;
-use libc::STDIN_FILENO;
+use std::io::Read;
 
 #[derive(Clone, Copy)]
 pub(crate) enum Word {
@@ -37,33 +37,32 @@ fn value(bytes: &[u8; 17]) -> u64 {
     n
 }
 
-// The next word, where one is left.
-pub(crate) fn next() -> Word {
+// The next word, where one is left. A read that fails ends the words, as the input's end does.
+pub(crate) fn next(input: &mut impl Read) -> Word {
     let mut bytes = [0u8; 17];
-    let n = io::read_full(STDIN_FILENO, &mut bytes);
-    if n < 17 {
-        return Word::End;
+    match input.read_exact(&mut bytes) {
+        Ok(()) => Word::Of(value(&bytes)),
+        Err(_) => Word::End,
     }
-    Word::Of(value(&bytes))
 }
 
 // The next word as a whole number, and 0 where none is left.
-pub(crate) fn whole() -> usize {
-    let Word::Of(n) = next() else {
+pub(crate) fn whole(input: &mut impl Read) -> usize {
+    let Word::Of(n) = next(input) else {
         return 0;
     };
     n as usize
 }
 
 // The number that has the next word's bits.
-pub(crate) fn number() -> f64 {
-    from_bits(whole() as u64)
+pub(crate) fn number(input: &mut impl Read) -> f64 {
+    from_bits(whole(input) as u64)
 }
 
 // Reads a slice, its length and then the bits of its numbers, to where it begins, and answers where it ends: where it begins, if there
 // is no room for it.
-pub(crate) fn slice(numbers: &mut [f64], begin: usize) -> usize {
-    let count = whole();
+pub(crate) fn slice(input: &mut impl Read, numbers: &mut [f64], begin: usize) -> usize {
+    let count = whole(input);
     if begin > numbers.len() {
         return begin;
     }
@@ -71,7 +70,7 @@ pub(crate) fn slice(numbers: &mut [f64], begin: usize) -> usize {
         return begin;
     }
     for i in begin..begin + count {
-        numbers[i] = number();
+        numbers[i] = number(input);
     }
     begin + count
 }

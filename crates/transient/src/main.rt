@@ -1,38 +1,51 @@
 // Reads a run file from standard input to its end and writes what document 01 says of it. A read or a write that fails is told on
-// standard error: a program of this language has no exit status.
-use libc::{STDERR_FILENO, STDIN_FILENO, STDOUT_FILENO};
+// standard error.
+#![tactic(auto)]
 
-// Whether standard input has ended; a read that fails is no end.
-fn at_end() -> bool {
+ghost use Rattle.std.specs.Prelude.{◌≤◌, length};
+
+use std::io::{self, Read};
+
+// Reads until `buf` is full, the input ends or a read fails, and answers how many bytes now stand at its start.
+fn read_full(input: &mut impl Read, buf: &mut [u8]) -> usize
+    ensures { result ≤ length buf.new }
+{
+    let mut done = 0;
+    while done < buf.len() {
+        match input.read(&mut buf[done..]) {
+            Ok(0) => break,
+            Ok(n) => done += n,
+            Err(_) => break,
+        }
+    }
+    done
+}
+
+// Whether the input has ended; a read that fails is no end.
+fn at_end(input: &mut impl Read) -> bool {
     let mut byte = [0u8; 1];
-    libc::read(STDIN_FILENO, &mut byte) == 0
+    matches!(input.read(&mut byte), Ok(0))
 }
 
 // Writes what the library prints for the bytes.
-fn answer(bytes: &[u8]) {
+fn answer(rt: &(impl Print + Eprint), bytes: &[u8]) -> io::Result<()> {
     let mut text = [0u8; 512];
     let length = run_file::print(bytes, &mut text);
-    if !io::write_all(STDOUT_FILENO, &text[..length]) {
-        io::write_all(
-            STDERR_FILENO,
-            b"transient: standard output was not written\n",
-        );
+    if rt.write_all(&text[..length]).is_err() {
+        eprintln!(rt; "transient: standard output was not written")?;
     }
+    Ok(())
 }
 
-fn main() {
+fn main(rt: HostRuntime) -> io::Result<()> {
     // The longest well-formed file has 40 + 8·16 + 24·512 = 12,456 bytes. One byte more is read, so that a longer input is
     // refused by its length.
     let mut bytes = [0u8; 12457];
-    let n = io::read_full(STDIN_FILENO, &mut bytes);
-    if n < 12457 {
-        if !at_end() {
-            io::write_all(
-                STDERR_FILENO,
-                b"transient: standard input was not read to its end\n",
-            );
-            return;
-        }
+    let mut input = rt.stdin();
+    let n = read_full(&mut input, &mut bytes);
+    if n < 12457 && !at_end(&mut input) {
+        eprintln!(rt; "transient: standard input was not read to its end")?;
+        return Ok(());
     }
-    answer(&bytes[..n]);
+    answer(&rt, &bytes[..n])
 }
