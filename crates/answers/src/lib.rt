@@ -1,6 +1,8 @@
 // How an answer leaves for a program in C or Rust: the refusal's number, 0 where the call is accepted. What a refusal carries is written to
 // `places` and `part`, which are part of the answer: an accepted call leaves them as they were, and so does any call if they have another
 // length. Numbers, a decision or a block are written to slices of their own, whose lengths check 3 asks.
+#![tactic(auto)]
+
 pub mod blocks;
 pub mod decision;
 pub mod numbers;

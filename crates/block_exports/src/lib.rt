@@ -1,4 +1,6 @@
 // The norm and the operations on blocks, for a program in C or Rust to link: `scripts/archive`. How an answer leaves is in `answers`.
+#![tactic(auto)]
+
 pub mod blocks;
 
 ghost use Rattle.lists.specs.Prelude.{◌≡◌};

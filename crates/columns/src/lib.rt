@@ -1,5 +1,7 @@
 // The sums at a group of neighbouring places, as crate `groups` has them. One place alone, at one orbital, has a loop of its own, whose total is one
 // number: the new column of an append is such places, one to a row. Sixteen lanes would hold one sum there.
+#![tactic(auto)]
+
 ghost use Rattle.lists.specs.Prelude.{◌≡◌, ℕ, cond, ◌+◌, ◌*◌, ◌<◌, ◌≤◌, length};
 ghost use Rattle.complex.specs.Arithmetic.{cfinite};
 ghost use Rattle.complex.specs.Numbers.{pair};

@@ -1,4 +1,6 @@
 // Complex numbers of two binary64 parts, by value (document 01, "Arithmetic under everything").
+#![tactic(auto)]
+
 pub mod bits;
 
 ghost use Rattle.lists.specs.Prelude.{◌≡◌};

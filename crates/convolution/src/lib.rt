@@ -1,4 +1,6 @@
 // Both convolutions over lent slices (document 01, convolutions): the meaning of each call is in specs/.
+#![tactic(auto)]
+
 ghost use Rattle.lists.specs.Prelude.{◌≡◌};
 ghost use Rattle.convolution.specs.Calls.{convolved_by, time_convolution, causal_convolution};
 

@@ -1,4 +1,6 @@
 // The retarded Dyson equation on a time grid (document 01, Dyson): the meaning of each call is in specs/.
+#![tactic(auto)]
+
 mod forward;
 
 ghost use Rattle.lists.specs.Prelude.{◌≡◌};

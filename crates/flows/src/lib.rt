@@ -1,4 +1,6 @@
 // Many bond flows in a call (document 02, L6): the checks of the lesser function are asked once, then each query is answered as by the single call.
+#![tactic(auto)]
+
 ghost use Rattle.lists.specs.Prelude.{◌≡◌, ◌*◌, ◌<◌, eqb, length};
 ghost use Rattle.lists.specs.Singles.{singles};
 ghost use Rattle.observables.specs.Calls.{observed_number};

@@ -1,5 +1,7 @@
 // A grid of rising times and its trapezoid weights (document 01, grid). All calls are total: a time past the end of a slice
 // is a NaN to them.
+#![tactic(auto)]
+
 ghost use Rattle.lists.specs.Prelude.{◌≡◌, [], ◌∷◌, ◌+◌, ◌-◌, min, max, length, get_or, nan};
 ghost use Rattle.lists.specs.Indexed.{join};
 ghost use Rattle.refusal.specs.Checks.{finite_weights};

@@ -1,5 +1,7 @@
 // The sums at a group of neighbouring places of a row, side by side: at most 16 columns, each summed by the same steps as an entry alone. Their
 // totals stand in lanes (crate `lanes`).
+#![tactic(auto)]
+
 mod adding;
 pub mod onto;
 mod packing;

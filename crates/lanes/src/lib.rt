@@ -1,6 +1,8 @@
 // Lanes of a group: the sums at neighbouring places of a row stand side by side. Lane p·n + b is column b of the group's place p; a row of lanes is 32
 // numbers, real parts first and imaginary parts 16 later, so that a loop over lanes works on more than one at a time; sixteen rows, one for each row of
 // a block, are 512 numbers. Here they are written out as blocks.
+#![tactic(auto)]
+
 ghost use Rattle.lists.specs.Prelude.{◌≡◌, true, not, ◌||◌, ◌+◌, ◌*◌, ◌<◌, ◌≤◌, length, set};
 ghost use Rattle.lists.specs.Indexed.{all_below, all_in};
 ghost use Rattle.complex.specs.Arithmetic.{cfinite};

@@ -1,4 +1,6 @@
 // The larger of a number and a norm, for a maximum over many numbers: most of them do not raise it, and their norm is not made.
+#![tactic(auto)]
+
 mod middle;
 
 ghost use Rattle.lists.specs.Prelude.{true, ◌≡◌};

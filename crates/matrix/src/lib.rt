@@ -1,4 +1,6 @@
 // Dense complex matrices of at most 16 by 16 entries, by value (document 01, matrix).
+#![tactic(auto)]
+
 mod checks;
 mod fill;
 mod measure;

@@ -1,4 +1,6 @@
 // The norm of a complex number, correctly rounded (document 01, "Arithmetic under everything"): the meaning is in specs/.
+#![tactic(auto)]
+
 mod exponent;
 mod guess;
 mod near_root;

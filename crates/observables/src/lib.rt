@@ -1,5 +1,7 @@
 // One-body observables of a lesser function (document 01, observables), in a slice laid out for a capacity of points (document 02, L1): the meaning of each
 // call is in specs/.
+#![tactic(auto)]
+
 mod answer;
 pub mod checks;
 mod density;

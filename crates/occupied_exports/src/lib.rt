@@ -1,5 +1,7 @@
 // The transient run and the append of a dot that starts occupied, for a program in C or Rust to link: `scripts/archive`. The block g0 comes in after the
 // lesser self-energy, as its rows, its columns and 512 numbers. How an answer leaves is in `answers`, how a session crosses in `counters`.
+#![tactic(auto)]
+
 ghost use Rattle.lists.specs.Prelude.{◌≡◌, List, Float, false};
 ghost use Rattle.refusal.specs.Verdict.{◌then◌};
 ghost use Rattle.refusal.specs.Checks.{desk_known};

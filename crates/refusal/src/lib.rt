@@ -1,4 +1,6 @@
 // Refusals by the numbers of document 01, "Questions in order", and the answers that carry them.
+#![tactic(auto)]
+
 ghost use Rattle.lists.specs.Prelude.{◌≡◌};
 ghost use Rattle.refusal.specs.Verdict.{by, ◌then◌};
 

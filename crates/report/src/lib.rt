@@ -1,4 +1,6 @@
 // The consistency report of the four components (document 01, report): the meaning of each call is in specs/.
+#![tactic(auto)]
+
 mod checks;
 mod identities;
 mod residuals;

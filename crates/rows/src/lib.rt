@@ -1,5 +1,7 @@
 // Rows of lanes: a row of products is made from a packed right factor, and goes to the totals by its weights. A row is 32 numbers, as crate `lanes`
 // says.
+#![tactic(auto)]
+
 ghost use Rattle.lists.specs.Prelude.{◌≡◌, ℕ, ◌+◌, ◌*◌, ◌<◌, ◌≤◌, length};
 ghost use Rattle.complex.specs.Arithmetic.{real, cadd, cmul};
 ghost use Rattle.complex.specs.Numbers.{entry_at};

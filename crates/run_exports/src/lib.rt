@@ -1,5 +1,7 @@
 // The transient run and the append, for a program in C or Rust to link: `scripts/archive`. How an answer leaves is in `answers`, how a session
 // crosses in `counters`.
+#![tactic(auto)]
+
 ghost use Rattle.lists.specs.Prelude.{◌≡◌, false};
 ghost use Rattle.refusal.specs.Verdict.{◌then◌};
 ghost use Rattle.refusal.specs.Checks.{desk_known};

@@ -1,5 +1,7 @@
 // Run files and the text of the program `transient` (document 01, run file): bytes in, text out, both as slices. The meaning of the
 // call is in specs/.
+#![tactic(auto)]
+
 mod bytes;
 mod decoding;
 mod text;

@@ -1,5 +1,7 @@
 // What G^< of a dot that starts occupied begins with at a group of places (document 02, L5), and its sums from there: G^R(t,0)·g0 is made once for a row,
 // its product with G^A(0,t') for each place, in the lanes of the group.
+#![tactic(auto)]
+
 ghost use Rattle.lists.specs.Prelude.{◌≡◌, ℕ, ◌+◌, ◌*◌, ◌<◌, ◌≤◌, length};
 ghost use Rattle.complex.specs.Numbers.{entry_at};
 ghost use Rattle.rows.specs.Numbers.{number_at};

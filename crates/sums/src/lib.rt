@@ -1,4 +1,6 @@
 // The sums at all places, row by row and group by group (document 01, convolutions), and Dyson's row.
+#![tactic(auto)]
+
 mod forward;
 
 ghost use Rattle.lists.specs.Prelude.{◌≡◌, true, [], ◌∷◌, ◌+◌, ◌*◌, ◌<◌, ◌≤◌, length};

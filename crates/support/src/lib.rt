@@ -1,5 +1,7 @@
 // The support of a retarded function (document 01, support): a place t < t' holds nothing above the tolerance. Slices are laid out for a capacity of
 // points (document 02, L1).
+#![tactic(auto)]
+
 ghost use Rattle.lists.specs.Prelude.{◌≡◌, ◌+◌, ◌*◌, ◌<◌, ◌≤◌, length};
 ghost use Rattle.complex.specs.Numbers.{entry_at};
 ghost use Rattle.complex.specs.Sum.{largest_from};

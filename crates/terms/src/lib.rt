@@ -1,5 +1,7 @@
 // For each kind of sums, the terms of a group of neighbouring places of a row: which s it has, to which of its lanes term s goes, and by what weight. Lane
 // p·n + b is column b of the group's place p.
+#![tactic(auto)]
+
 ghost use Rattle.lists.specs.Prelude.{◌≡◌, cond, ◌+◌, ◌-◌, ◌<◌, ◌≤◌, min, max, ltb};
 ghost use Rattle.complex.specs.Arithmetic.{plus_zero};
 ghost use Rattle.two_time.specs.Sums.{interval_count};

@@ -1,5 +1,7 @@
 // The transient run of a device that starts empty (document 01, transient) or occupied (document 02, L5), and an append of one time point (L1), each in a
 // session that counts their products (L3), a counter for each desk (L13): the meaning of the calls is in specs/.
+#![tactic(auto)]
+
 mod checking;
 mod counting;
 

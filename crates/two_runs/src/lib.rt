@@ -1,5 +1,7 @@
 // Demand 3 of the running code: what two calls of the solver leave, and what each observable answers of two runs, whatever data come later. And the law of
 // appends: what a run leaves with appends after it, and what they add to their desk's counter.
+#![tactic(auto)]
+
 ghost use Rattle.lists.specs.Prelude.{◌≡◌, true};
 ghost use Rattle.transient_run.specs.Calls.{run_of, booked, transient_run, append_point, is_accepted};
 ghost use Rattle.causality.specs.Statement.{DysonDemanded};

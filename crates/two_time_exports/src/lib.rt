@@ -1,4 +1,6 @@
 // The calls on two-time functions, for a program in C or Rust to link: `scripts/archive`. How an answer leaves is in `answers`.
+#![tactic(auto)]
+
 pub mod keldysh;
 pub mod observed;
 
