@@ -64,14 +64,14 @@ at_last zero = cone
 at_last (suc zero) = cone
 at_last (suc (suc k)) = z 0x4340_0000_0000_0000 0
 
-order_of-a-sum : map bits (sum 3 at_first ∷ sum 3 at_last ∷ []) ≡ (0x4340_0000_0000_0000 ∷ 0 ∷ []) ∷ (0x4340_0000_0000_0001 ∷ 0 ∷ []) ∷ []
+order_of_a_sum : map bits (sum 3 at_first ∷ sum 3 at_last ∷ []) ≡ (0x4340_0000_0000_0000 ∷ 0 ∷ []) ∷ (0x4340_0000_0000_0001 ∷ 0 ∷ []) ∷ []
 unfolding sum_from fold cadd Ieee.add Ieee.of_bits to_bits
-order_of-a-sum = refl
+order_of_a_sum = refl
 
 -- a sum from a value: 1 + (2 + 3) as (1 + 2) + 3, terms 2 and 3 at the indices 2 and 3
-from-a-value : bits (sum_from cone (λ k. record { re = Ieee.of_int binary64 (lib.IntN.pos k); im = plus_zero }) 2 2) ≡ 0x4018_0000_0000_0000 ∷ 0 ∷ []
+from_a_value : bits (sum_from cone (λ k. record { re = Ieee.of_int binary64 (lib.IntN.pos k); im = plus_zero }) 2 2) ≡ 0x4018_0000_0000_0000 ∷ 0 ∷ []
 unfolding sum_from fold cadd Ieee.add Ieee.of_bits Ieee.of_int to_bits
-from-a-value = refl
+from_a_value = refl
 
 finiteness : map finite (nan ∷ inf true ∷ inf false ∷ f most ∷ f -zero ∷ []) ≡ false ∷ false ∷ false ∷ true ∷ true ∷ []
 unfolding finite Ieee.of_bits

@@ -101,8 +101,8 @@ pub record Found (l a b r s t : ℕ) : Type 0 where
   pub looks : Looked (l / 2 ^ 52) down_a down_b
   pub first : down_a + a / 2 ^ 52 ≡ l / 2 ^ 52
   pub second : down_b + b / 2 ^ 52 ≡ l / 2 ^ 52
-  pub square-a : over a down_a * over a down_a < (r + 3) * 2 ^ 64
-  pub square-b : over b down_b * over b down_b < (s + 3) * 2 ^ 64
+  pub square_a : over a down_a * over a down_a < (r + 3) * 2 ^ 64
+  pub square_b : over b down_b * over b down_b < (s + 3) * 2 ^ 64
   pub middle-square : t * 2 ^ 64 ≤ (ten_more l + 512) * (ten_more l + 512)
   pub below : r + s + 6 ≤ t
 
@@ -114,7 +114,7 @@ root_below {l} {a} {b} {r} {s} {t} g = record {
   root =
       squares-within (units_of a) (units_of b) (over a g.down_a) (over b g.down_b) (ten_more l + 512) (2 ^ (l / 2 ^ 52)) ((2 * significand_of l + 1) * 2 ^ shift_of l) (pow_pos (l / 2 ^ 52))
       (below-over a g.down_a (l / 2 ^ 52) g.first) (below-over b g.down_b (l / 2 ^ 52) g.second)
-      (within _ _ _ g.square-a g.square-b g.middle-square g.below) (middle l (omega (arith, g.looks.normal)));
+      (within _ _ _ g.square_a g.square_b g.middle-square g.below) (middle l (omega (arith, g.looks.normal)));
 }
   where
     within : (x y z : ℕ) → x < (r + 3) * 2 ^ 64 → y < (s + 3) * 2 ^ 64 → t * 2 ^ 64 ≤ z → r + s + 6 ≤ t → x + y < z

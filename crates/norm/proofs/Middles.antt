@@ -5,7 +5,7 @@ use Rattle.lists.specs.Prelude.{lt_of_le_of_lt, lt_irrefl, not-le_of_lt, mul-pos
 use Rattle.lists.specs.Prelude.{lt_of_mul-lt-mul_right, div-one, div-mul-le_self, lt-div-mul-add, div-div-eq-div-mul, le-div_iff_mul-le, div-lt_iff_lt-mul, arith}
 use Rattle.lists.specs.Prelude.{pow-add, pow_pos, pow_mono}
 use Rattle.norm.specs.Parts.{Encodes}
-use Rattle.norm.specs.Squares.{power-of-four, four_pos}
+use Rattle.norm.specs.Squares.{power-of_four, four_pos}
 use Rattle.norm.specs.Checked.{Between, Covers, Ranked, Settles, squares, whole_squares}
 use Rattle.norm.proofs.Rounding.{certain}
 
@@ -39,7 +39,7 @@ covered : (low high t sum more : ℕ) → low * low < t * 2 ^ 44 → (t + 2) * 2
     → (low * 2 ^ more * (low * 2 ^ more) < sum) × (sum < high * 2 ^ more * (high * 2 ^ more))
 covered low high t sum more a b c =
     let P = 2 ^ more * 2 ^ more in
-    let k : (t * (2 ^ 44 * P) ≤ sum) × (sum < (t + 2) * (2 ^ 44 * P)) = rw (power-of-four more) at c in
+    let k : (t * (2 ^ 44 * P) ≤ sum) × (sum < (t + 2) * (2 ^ 44 * P)) = rw (power-of_four more) at c in
     (omega (arith, mul-lt-mul_of_pos_right {k = P} a (mul-pos (pow_pos more) (pow_pos more)), k.0), omega (arith, mul-le-mul_right P b, k.1))
 
 -- so the root lies between the middles beside the i-th significand
@@ -105,8 +105,8 @@ finer : (x y s N h j : ℕ) → s * 4 ^ j ≤ N → N < suc s * 4 ^ j → (x * h
 finer x y s N h j l g b =
     let P = 2 ^ j * 2 ^ j in
     let p : 0 < P = mul-pos (pow_pos j) (pow_pos j) in
-    let l' : s * P ≤ N = rw (power-of-four j) at l in
-    let g' : N < suc s * P = rw (power-of-four j) at g in
+    let l' : s * P ≤ N = rw (power-of_four j) at l in
+    let g' : N < suc s * P = rw (power-of_four j) at g in
     (omega (arith, mul-le-mul_right P b.0), omega (arith, mul-le-mul_right P b.1))
 
 module _ (qa qb g : ℕ) where

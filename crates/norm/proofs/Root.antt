@@ -2,7 +2,7 @@
 use Rattle.lists.specs.Prelude.{◌≡◌, sym, ap, ◌∙◌, ℕ, ◌+◌, ◌*◌, ◌/◌, ◌%◌, ◌^◌, ◌≤◌, ◌<◌, le_trans, le_of_eq, lt_of_le_of_lt, le-add_right, mul_assoc, mul-le-mul}
 use Rattle.lists.specs.Prelude.{mul-le-mul_left, le_of_mul-le-mul_right, mul-div_cancel, pow-suc, add-one, arith, digits_div, pow_pos, pow_mono}
 use Rattle.norm.specs.Words.{Leaves}
-use Rattle.norm.specs.Squares.{power-of-four, below-of-squares}
+use Rattle.norm.specs.Squares.{power-of_four, below-of-squares}
 
 -- Two digits d more, which make what is left w: the root's next digit is 1 where 4·x + 1 is at most w, and leaves y of it; else 0.
 module _ (x t d w : ℕ) (h : t ≤ 2 * x) (l : d < 4) (e : w ≡ 4 * t + d) where
@@ -30,7 +30,7 @@ root-small N R l i x t k e f h =
     (lt_of_le_of_lt (le_trans (le-add_right (x * x) t) (le_trans (le_of_eq f) read)) h)
   where
     four : 4 ^ i ≤ 2 ^ 64
-    four = rw power-of-four (mul-le-mul (pow_mono k) (pow_mono k))
+    four = rw power-of_four (mul-le-mul (pow_mono k) (pow_mono k))
 
     read : R ≤ N
     read = le_of_mul-le-mul_right (le_trans (le-add_right (R * 2 ^ 64) l) (le_trans (le_of_eq (sym e)) (mul-le-mul_left N four))) (pow_pos 64)

@@ -8,7 +8,7 @@ use Rattle.norm.specs.Norm.{rounded_root}
 use Rattle.norm.specs.Parts.{Significand, Rounded}
 use Rattle.norm.specs.Checked.{Between}
 use Rattle.norm.specs.Words.{Dropped, RoundsBy}
-use Rattle.norm.specs.Squares.{Compared, less, same, more, compared, square_le, square-lt, power-of-four}
+use Rattle.norm.specs.Squares.{Compared, less, same, more, compared, square_le, square-lt, power-of_four}
 use Rattle.norm.specs.Cell.{Within, ByMiddle, rounded-within}
 use Rattle.norm.proofs.Words.{upper_digits, lower-digits}
 
@@ -37,7 +37,7 @@ module _ (n x t s k : ℕ) (value : (x * x + t) * 4 ^ s ≡ 4 * n) (little : t �
   -- the root lies within the step
   within : Significand q (k + s) → Within n q (k + s)
   within d =
-      let e : (x * x + t) * (2 ^ s * 2 ^ s) ≡ 4 * n = rw (power-of-four s) at value in
+      let e : (x * x + t) * (2 ^ s * 2 ^ s) ≡ 4 * n = rw (power-of_four s) at value in
       let b = bounds q y (2 ^ k) (2 ^ s) e parts below_step (mul-pos (pow_pos s) (pow_pos s)) in
       record { digits = d; above = rw (pow-add 2 k s) b.0; below = rw (pow-add 2 k s) b.1 }
     where
@@ -54,7 +54,7 @@ module _ (n x t s k : ℕ) (value : (x * x + t) * 4 ^ s ≡ 4 * n) (little : t �
     where
       done : {o : Ordering} → Compared (x * x + t) (middle * middle) o → q + r ≡ nearest q o → rounded_root n ≡ units binary64 false (q + r) (k + s)
       done {o} c e =
-          let v : (x * x + t) * (2 ^ s * 2 ^ s) ≡ 4 * n = rw (power-of-four s) at value in
+          let v : (x * x + t) * (2 ^ s * 2 ^ s) ≡ 4 * n = rw (power-of_four s) at value in
           let m : ByMiddle n q (k + s) o = rw (pow-add 2 k s) (scaled n (x * x + t) (2 * q + 1) (2 ^ k) (2 ^ s) (mul-pos (pow_pos s) (pow_pos s)) v c) in
           rounded-within (within d) m ∙ ap (λ (m : ℕ). units binary64 false m (k + s)) (sym e)
 

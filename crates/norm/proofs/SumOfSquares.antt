@@ -6,7 +6,7 @@ use Rattle.lists.specs.Prelude.{pow-add, pow_pos, pow_mono, shl_lt, add-lt-pow, 
 use Rattle.norm.specs.Norm.{rounded_root}
 use Rattle.norm.specs.Parts.{significand_of, shift_of, units_of}
 use Rattle.norm.specs.Checked.{Ranked, squares}
-use Rattle.norm.specs.Squares.{square_le, square-power, mul-lt-pow, power-of-four, four_pos, below-of-squares, between-squares}
+use Rattle.norm.specs.Squares.{square_le, square-power, mul-lt-pow, power-of_four, four_pos, below-of-squares, between-squares}
 use Rattle.norm.specs.Cell.{step-alone}
 use Rattle.norm.specs.Sizes.{placed, by-step, shift_mono, significand_small}
 
@@ -45,7 +45,7 @@ unfolding units_of
 aligned a b g e = rw (← e) (product (significand_of a) (significand_of b) (shift_of b))
   where
     product : (q r j : ℕ) → squares q r g * 4 ^ j ≡ 4 * ((q * 2 ^ (g + j)) ^ 2 + (r * 2 ^ j) ^ 2)
-    product q r j = simp (square-power, pow-add 2 g j, power-of-four) (omega arith)
+    product q r j = simp (square-power, pow-add 2 g j, power-of_four) (omega arith)
 
 -- a unit that is not the definition's has a significand of 53 digits above it
 pub unit-or-full : (a b : ℕ) → b ≤ a → (shift_of b ≡ 0) ⊎ (2 ^ 52 ≤ significand_of a)
@@ -69,7 +69,7 @@ module _ (qa qb g : ℕ) (la : qa < 2 ^ 53) (lb : qb < 2 ^ 53) (lg : g < 27) whe
   raised-small = lt_of_le_of_lt (mul-le-mul_left (2 * qa * (2 * qa)) four) (shl_lt 108 52 (double qa la))
     where
       four : 4 ^ g ≤ 2 ^ 52
-      four = rw power-of-four (mul-le-mul (pow_mono (le_of_suc-le-suc lg)) (pow_mono (le_of_suc-le-suc lg)))
+      four = rw power-of_four (mul-le-mul (pow_mono (le_of_suc-le-suc lg)) (pow_mono (le_of_suc-le-suc lg)))
 
   pub sum-small : squares qa qb g < 2 ^ 162
   sum-small = lt_of_lt_of_le (add-lt-pow 160 raised-small (lt_of_lt_of_le (double qb lb) (lit≤ {m = 2 ^ 108} {n = 2 ^ 160} tt))) (lit≤ {m = 2 ^ 161} {n = 2 ^ 162} tt)

@@ -35,8 +35,8 @@ module _ (x y : Float) (a b : ℕ) (first : Size x a) (second : Size y b) where
   pub infinity : limit * limit ≤ a ^ 2 + b ^ 2 → norm x y ≡ inf false
   infinity h = of-sizes ∙ Order.infinite-from (a ^ 2 + b ^ 2) h
 
-  pub a-number : a ^ 2 + b ^ 2 < limit * limit → (w : ℕ) × HasValue (norm x y) false w (2 ^ 1074)
-  a-number h = (Nearest.rounded_size (a ^ 2 + b ^ 2), rw of-sizes (Order.number-below (a ^ 2 + b ^ 2) h))
+  pub a_number : a ^ 2 + b ^ 2 < limit * limit → (w : ℕ) × HasValue (norm x y) false w (2 ^ 1074)
+  a_number h = (Nearest.rounded_size (a ^ 2 + b ^ 2), rw of-sizes (Order.number-below (a ^ 2 + b ^ 2) h))
 
   -- "the binary64 nearest to u times the square root of a² + b²": where the norm is w·u, any other binary64, of size c·u, is as far from the
   -- root or farther, so that the root is not on its side of the middle of the two, (w + c)·u / 2
@@ -45,21 +45,21 @@ module _ (x y : Float) (a b : ℕ) (first : Size x a) (second : Size y b) where
     nearest = Value.nearest-size (a ^ 2 + b ^ 2) w c (rw of-sizes at result) (Nearest.every_size z c held other)
 
     -- "ties to the even significand": where the root is that middle, the last of the norm's own bits is 0
-    pub even-at-a-tie : (c ≢ w) → 4 * (a ^ 2 + b ^ 2) ≡ (w + c) * (w + c) → to_bits binary64 (norm x y) % 2 ≡ 0
-    even-at-a-tie d t = rw of-sizes (Value.last_bit (a ^ 2 + b ^ 2) w c (rw of-sizes at result) (Nearest.every_size z c held other) d t)
+    pub even-at_a_tie : (c ≢ w) → 4 * (a ^ 2 + b ^ 2) ≡ (w + c) * (w + c) → to_bits binary64 (norm x y) % 2 ≡ 0
+    even-at_a_tie d t = rw of-sizes (Value.last_bit (a ^ 2 + b ^ 2) w c (rw of-sizes at result) (Nearest.every_size z c held other) d t)
 
 -- a larger sum of squares never gives a smaller norm
 pub ordered : (x y x' y' : Float) (a b a' b' : ℕ) → Size x a → Size y b → Size x' a' → Size y' b' → a ^ 2 + b ^ 2 ≤ a' ^ 2 + b' ^ 2 → T (le (norm x y) (norm x' y'))
 ordered x y x' y' a b a' b' p q p' q' h = rw (of-sizes x y a b p q, of-sizes x' y' a' b' p' q') (Order.ordered (a ^ 2 + b ^ 2) (a' ^ 2 + b' ^ 2) h)
 
 -- neither a part's sign nor their order matters
-pub sign_of-a-part : (x y : Float) → norm (neg x) y ≡ norm x y
+pub sign_of_a_part : (x y : Float) → norm (neg x) y ≡ norm x y
 unfolding norm neg
-sign_of-a-part nan y = refl
-sign_of-a-part (inf s) y = refl
-sign_of-a-part (fin s m e) nan = refl
-sign_of-a-part (fin s m e) (inf t) = refl
-sign_of-a-part (fin s m e) (fin t n d) = refl
+sign_of_a_part nan y = refl
+sign_of_a_part (inf s) y = refl
+sign_of_a_part (fin s m e) nan = refl
+sign_of_a_part (fin s m e) (inf t) = refl
+sign_of_a_part (fin s m e) (fin t n d) = refl
 
 pub parts_swapped : (x y : Float) → norm x y ≡ norm y x
 unfolding norm

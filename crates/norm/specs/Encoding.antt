@@ -97,15 +97,15 @@ module _ {q k : ℕ} (r : Rounded q k) where
   unfolding is_nan
   bits-of-units h =
       ap (λ (x : Float). to_bits binary64 x) (sym (finite-bits small))
-      ∙ to_bits-of_bits binary64 bits (lt_of_lt_of_le small (lit≤ {m = 2047 * 2 ^ 52} {n = 2 ^ 64} tt)) (rw (odd_bits h) (a-number (odd 54 false q k 1074) (odd_sign 54 false q k 1074)))
+      ∙ to_bits-of_bits binary64 bits (lt_of_lt_of_le small (lit≤ {m = 2047 * 2 ^ 52} {n = 2 ^ 64} tt)) (rw (odd_bits h) (a_number (odd 54 false q k 1074) (odd_sign 54 false q k 1074)))
     where
       small : bits < 2047 * 2 ^ 52
       small = lt_of_not-le (λ (g : 2047 * 2 ^ 52 ≤ bits). not-le_of_lt h (over-top g))
 
-      a-number : (x : Float) → HasValue x false (q * 2 ^ k) (2 ^ 1074) → T (not (is_nan x))
-      a-number nan v = absurd v
-      a-number (inf s) v = absurd v
-      a-number (fin s m e) v = tt
+      a_number : (x : Float) → HasValue x false (q * 2 ^ k) (2 ^ 1074) → T (not (is_nan x))
+      a_number nan v = absurd v
+      a_number (inf s) v = absurd v
+      a_number (fin s m e) v = tt
 
   -- a step below 2^2046 units: the pattern, which a carry can make infinity's
   pub bits-of-step : k < 2046 → Encodes bits q k

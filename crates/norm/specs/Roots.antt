@@ -4,7 +4,7 @@ use Rattle.lists.specs.Prelude.{false, not, cond, T, leb, leb→le, nleb→lt, l
 use Rattle.std.specs.Float.Ieee as Ieee
 use Rattle.std.specs.Float.Ieee.Digits.{size-lt}
 use Rattle.norm.specs.Norm.{root, root_of}
-use Rattle.norm.specs.Squares.{power-of-four}
+use Rattle.norm.specs.Squares.{power-of_four}
 
 -- r is the whole part of the square root of n
 abbrev IsRoot : ℕ → ℕ → Type 0
@@ -26,4 +26,4 @@ root_of-is (suc d) n h =
 
 pub root_is : (n : ℕ) → IsRoot n (root n)
 unfolding root
-root_is n = let z = Ieee.size n in root_of-is z n (rw power-of-four (omega (arith, size-lt n, mul-le-mul_left (2 ^ z) (pow_pos z))))
+root_is n = let z = Ieee.size n in root_of-is z n (rw power-of_four (omega (arith, size-lt n, mul-le-mul_left (2 ^ z) (pow_pos z))))

@@ -32,16 +32,16 @@ pub between-squares : (a b n : ℕ) → a * a ≤ n → n < suc b * suc b → a 
 between-squares a b n h k = let l : a < suc b = below-of-squares a (suc b) (lt_of_le_of_lt h k) in omega arith
 
 -- 4^k is the square of 2^k
-pub power-of-four : (k : ℕ) → 4 ^ k ≡ 2 ^ k * 2 ^ k
-power-of-four zero = refl
-power-of-four (suc k) = rw (pow-suc 4 k, pow-suc 2 k, power-of-four k) (omega arith)
+pub power-of_four : (k : ℕ) → 4 ^ k ≡ 2 ^ k * 2 ^ k
+power-of_four zero = refl
+power-of_four (suc k) = rw (pow-suc 4 k, pow-suc 2 k, power-of_four k) (omega arith)
 
 pub four_pos : (k : ℕ) → 0 < 4 ^ k
-four_pos k = rw power-of-four (mul-pos (pow_pos k) (pow_pos k))
+four_pos k = rw power-of_four (mul-pos (pow_pos k) (pow_pos k))
 
 -- an even exponent
 pub even_power : (k : ℕ) → 2 ^ (2 * k) ≡ 4 ^ k
-even_power k = ap (λ (x : ℕ). 2 ^ x) (let e : 2 * k ≡ k + k = omega arith in e) ∙ pow-add 2 k k ∙ sym (power-of-four k)
+even_power k = ap (λ (x : ℕ). 2 ^ x) (let e : 2 * k ≡ k + k = omega arith in e) ∙ pow-add 2 k k ∙ sym (power-of_four k)
 
 -- ---- what `compare` says
 

@@ -137,9 +137,9 @@ unfolding computation is_new written every_new new_numbers new_finite new_retard
 three_made = (refl, refl, refl, refl)
 
 -- to 4 points, from 3 on
-four-made : (new_numbers Causal 4 1 3 4 times lower lower (floats three_kernel) ≡ floats four_kernel)
+four_made : (new_numbers Causal 4 1 3 4 times lower lower (floats three_kernel) ≡ floats four_kernel)
     × (new_retarded 4 1 3 4 times lower (floats four_kernel) (floats three_retarded) ≡ floats four_retarded)
     × (new_numbers LesserAdvanced 4 1 3 4 times imaginary (floats four_retarded) (floats three_lesser_advanced) ≡ floats four_lesser_advanced)
     × (new_numbers Lesser 4 1 3 4 times (floats four_retarded) (floats four_lesser_advanced) (floats three_lesser) ≡ floats four_lesser)
 unfolding computation is_new written every_new new_numbers new_finite new_retarded new_retarded_finite solve retarded_onward
-four-made = (refl, refl, refl, refl)
+four_made = (refl, refl, refl, refl)

@@ -24,12 +24,12 @@ term-finite (suc m) f h k l =
     ⊎_elim (λ e. ap (λ (i : ℕ). cfinite (f i)) (e ∙ sym (zero-add m)) ∙ s.1) (λ less. term-finite m f s.0 k less) (eq-or-lt_of_le (let w : k ≤ m = omega arith in w))
 
 module _ (n : ℕ) (x y : Entries) where
-  entry-factors : (a b k : ℕ) → k < n → cfinite (product n x y a b) ≡ true → (cfinite (x a k) ≡ true) × (cfinite (y k b) ≡ true)
+  entry_factors : (a b k : ℕ) → k < n → cfinite (product n x y a b) ≡ true → (cfinite (x a k) ≡ true) × (cfinite (y k b) ≡ true)
   unfolding product
-  entry-factors a b k hk h = cmul-finite (x a k) (y k b) (term-finite n (λ i. cmul (x a i) (y i b)) h k hk)
+  entry_factors a b k hk h = cmul-finite (x a k) (y k b) (term-finite n (λ i. cmul (x a i) (y i b)) h k hk)
 
-  pub factors-finite : FiniteBlock n (product n x y) → FiniteBlock n x × FiniteBlock n y
-  factors-finite h = (λ a k ha hk. (entry-factors a k k hk (h a k ha hk)).0, λ k b hk hb. (entry-factors k b k hk (h k b hk hb)).1)
+  pub factors_finite : FiniteBlock n (product n x y) → FiniteBlock n x × FiniteBlock n y
+  factors_finite h = (λ a k ha hk. (entry_factors a k k hk (h a k ha hk)).0, λ k b hk hb. (entry_factors k b k hk (h k b hk hb)).1)
 
 -- a sum over times that is finite on the way: both factors of each term, and its value where it has a term
 module _ (n : ℕ) (x : Terms) (h : (a b : ℕ) → a < n → b < n → finite_sum n x a b ≡ true) where
@@ -38,7 +38,7 @@ module _ (n : ℕ) (x : Terms) (h : (a b : ℕ) → a < n → b < n → finite_s
   terms-finite s lo hi =
       let k : ℕ = s - x.from in
       let at : x.from + k ≡ s = omega arith in
-      factors-finite n (x.left s) (x.right s)
+      factors_finite n (x.left s) (x.right s)
       (λ a b ha hb.
       ap (λ (i : ℕ). cfinite (product n (x.left i) (x.right i) a b)) (sym at)
       ∙ (both (cfinite (product_at n x (x.from + k) a b)) (cfinite (term_at n x (x.from + k) a b) && cfinite (partial_sum n x (suc k) a b)) (all-each x.count _ (h a b ha hb) k (omega arith))).0)

@@ -34,8 +34,8 @@ returns-2 c t =
       looks = p;
       first = no_wrap _ _ s.args.a (omega arith) w.before.wrapping_sub_u64-down_a.ensures p.near_a;
       second = no_wrap _ _ s.args.b (omega arith) w.wrapping_sub_u64-down_b.ensures p.near_b;
-      square-a = d.before.before.part_square.ensures.1;
-      square-b = d.before.part_square-2.ensures.1;
+      square_a = d.before.before.part_square.ensures.1;
+      square_b = d.before.part_square-2.ensures.1;
       middle-square = subst (λ (x : ℕ). c.high_square.result * 2 ^ 64 ≤ (x + 512) * (x + 512)) d.digits.ensures c.high_square.ensures.1;
       below = leb-true (d.before.before.part_square.result + d.before.part_square-2.result + 6) c.high_square.result t;
     })
