@@ -1,15 +1,14 @@
 -- The norm of finite parts is at most the rounded sum of two numbers whose exact sum, squared, is at least the sum of the parts' squares: its root
 -- rounds as that sum does, and both roundings keep order. So where that sum is at most l the larger of l and the norm is l. Assumes nothing.
-use Rattle.lists.specs.Prelude.{◌≡◌, refl, sym, ap, ◌∙◌, subst, Bool, true, false, ℕ, ◌+◌, ◌-◌, ◌*◌, ◌/◌, ◌%◌, ◌^◌, ◌≤◌, compare, Ordering, le_refl, le_antisymm}
-use Rattle.lists.specs.Prelude.{mul-div_cancel, mul_assoc, mul-le-mul_right, mul-pos, div-mul-le_self, div-add-mod', arith, ℤ, T, pow_pos, Float, nan, inf, fin}
+use Rattle.lists.specs.Prelude.{◌≡◌, refl, sym, ap, ◌∙◌, Bool, true, false, ℕ, ◌+◌, ◌-◌, ◌*◌, ◌/◌, ◌%◌, ◌^◌, ◌≤◌, compare, Ordering, le_refl, le_antisymm}
+use Rattle.lists.specs.Prelude.{mul-div_cancel, mul_assoc, mul-le-mul_right, mul-pos, div-mul-le_self, div-add-mod', arith, ℤ, T, pow_pos, Float}
 use Rattle.lists.specs.Prelude.{binary64, up, down, nearest, units, round, lt, le}
 use lib.Ieee as Ieee
 use lib.Ieee.Fits.{down_pos, round_is}
 use lib.Ieee.Nearest.{closest, closest_same}
 use lib.Ieee.Order.{round_mono}
-use Rattle.lists.specs.Agreement.{never}
-use Rattle.complex.specs.Arithmetic.{add, size, larger}
-use Rattle.norm.specs.Norm.{norm, root, rounded_root, in_units}
+use Rattle.complex.specs.Arithmetic.{size, larger}
+use Rattle.norm.specs.Norm.{root, rounded_root, in_units}
 use Rattle.norm.specs.Nearest.{rounded-is}
 use Rattle.norm.specs.Roots.{root_is}
 use Rattle.norm.specs.Order.{ordered}

@@ -1,5 +1,5 @@
 -- `counters::session_of` meets its contract: the eight numbers are the slice. Assumes nothing.
-use Rattle.lists.specs.Prelude.{◌≡◌, sym, ap, ◌∙◌, ne_eqb, rules}
+use Rattle.lists.specs.Prelude.{sym, ap, ◌∙◌, ne_eqb, rules}
 use Rattle.counters.specs.Counters.{session_of, session_in}
 use Rattle.counters.specs.Counting.{eight, session_in_lem}
 use Rattle.counters.proofs.session_of.Statement.{statement}

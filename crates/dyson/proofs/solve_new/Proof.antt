@@ -1,7 +1,7 @@
 -- `dyson::solve_new` meets its contract: unfit, finite, or not finite with the new places of both slices cleared. Assumes nothing.
 use Rattle.lists.specs.Prelude.{◌≡◌, sym, ap, ◌∙◌, Bool, true, false, cond, ◌&&◌, [], ◌∷◌, leb, leb-true, length, List, Float, rules, not-true, not-false}
 use Rattle.lists.specs.Agreement.{both}
-use Rattle.refusal.specs.declared.Verdict.TheVariants.{Pass, Refused}
+use Rattle.refusal.specs.declared.Verdict.TheVariants.{Pass}
 use Rattle.two_time.specs.declared.sums.Sums.TheVariants.{Causal}
 use Rattle.two_time.specs.Layout.{length_of}
 use Rattle.two_time.specs.New.{cleared_new, fits_new}
@@ -12,7 +12,7 @@ use Rattle.two_time.specs.SizeChecks.{SizesPassed, sizes_asked_lem, sizes-passed
 use Rattle.two_time.specs.Lengths.{lengths, none-asked, also_asked}
 use Rattle.two_time.specs.Cleared.{fits_new_lem, cleared-written}
 use Rattle.dyson.specs.Retarded.{new_retarded}
-use Rattle.dyson.specs.Calls.{solved_new_finite, solved_new, new_kernel}
+use Rattle.dyson.specs.Calls.{solved_new_finite, solved_new}
 use Rattle.dyson.specs.NewSolved.{kernel_lost, kernel-there}
 use Rattle.dyson.proofs.solve_new.Statement.{statement}
 use Rattle.dyson.proofs.solve_new.Tie as tie

@@ -1,12 +1,11 @@
 -- `lesser::fill` meets its contract: before step t the new places of the first t rows are finite and written. Assumes nothing.
 use Rattle.lists.specs.Prelude.{◌≡◌, refl, sym, ap, ap₂, ◌∙◌, Bool, true, false, not, ◌&&◌, ◌||◌, List, [], ◌∷◌, ℕ, ◌+◌, ◌-◌, ◌*◌, ◌≤◌, ◌<◌, le_antisymm, arith, length}
 use Rattle.lists.specs.Prelude.{length-take, length-drop, Float, rules, not-true, not-false, mid_of}
-use Rattle.lists.specs.Indexed.{all_below, all_in, join}
-use Rattle.lists.specs.Agreement.{all_agree, never}
-use Rattle.lists.specs.Steps.{all_more, all_none}
+use Rattle.lists.specs.Indexed.{all_below}
+use Rattle.lists.specs.Agreement.{never}
+use Rattle.lists.specs.Steps.{all_more}
 use Rattle.refusal.specs.Search.{all-no}
-use Rattle.block.specs.Block.{lay_out}
-use Rattle.two_time.specs.Layout.{TwoTime, length_of}
+use Rattle.two_time.specs.Layout.{TwoTime}
 use Rattle.two_time.specs.New.{is_new, every_new, cleared_new}
 use Rattle.two_time.specs.Start.{new_lesser_numbers, new_lesser_finite, occupied_by}
 use Rattle.two_time.specs.Places.{product-most}

@@ -4,7 +4,7 @@ use Rattle.refusal.specs.declared.Verdict.TheVariants.{Pass}
 use Rattle.two_time.specs.Calls.{size_checks}
 use Rattle.two_time.specs.Outcome.{flagged}
 use Rattle.two_time.specs.Places.{product-most}
-use Rattle.two_time.specs.SizeChecks.{SizesPassed, sizes-passed}
+use Rattle.two_time.specs.SizeChecks.{sizes-passed}
 use Rattle.two_time.specs.Start.{holds_block}
 use Rattle.lesser.specs.Rows.{first_part}
 use Rattle.lesser.proofs.first.Statement.{statement}

@@ -1,18 +1,12 @@
 -- `lesser::row` meets its contract: G^R(t,0)·g0 stands at the front of an array, and G^< is made from there. Assumes nothing.
-use Rattle.lists.specs.Prelude.{◌≡◌, sym, ap, ◌∙◌, Bool, true, false, ◌&&◌, List, [], ◌∷◌, ℕ, ◌+◌, ◌*◌, ◌≤◌, ◌<◌, arith, leb, le-leb, length, Float, rules, not-true, not-false}
-use Rattle.lists.specs.Indexed.{all_below, join}
+use Rattle.lists.specs.Prelude.{sym, ◌∙◌, Bool, true, false, List, [], ◌∷◌, ℕ, ◌+◌, ◌*◌, ◌≤◌, arith, le-leb, length, Float, rules, not-true, not-false}
 use Rattle.lists.specs.Agreement.{all_agree, join_agree}
-use Rattle.refusal.specs.declared.Verdict.TheVariants.{Pass}
-use Rattle.block.specs.Block.{entries_in, lay_out}
-use Rattle.block.specs.Operations.{all_finite}
+use Rattle.block.specs.Block.{lay_out}
 use Rattle.block.specs.Length.{length-block}
-use Rattle.block.specs.Agreement.{Agree}
-use Rattle.two_time.specs.Calls.{size_checks}
 use Rattle.two_time.specs.Places.{product-most}
 use Rattle.two_time.specs.SizeChecks.{SizesPassed, sizes-passed, sizes_pass, long-first, long_also, long-none}
 use Rattle.two_time.specs.Start.{holds_block}
 use Rattle.lanes.specs.Filled.{filled_none, filled-all, fails-one}
-use Rattle.starts.specs.Calls.{first_of}
 use Rattle.lesser.specs.Rows.{lesser_finite, lesser_block, finite-is, block-is, first-fails}
 use Rattle.lesser.proofs.row.Statement.{statement}
 use Rattle.lesser.proofs.row.Tie as tie

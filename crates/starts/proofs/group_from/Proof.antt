@@ -11,8 +11,8 @@ use Rattle.two_time.specs.Outcome.{SumsOutcome, flagged}
 use Rattle.two_time.specs.SizeChecks.{SizesPassed, sizes-passed, sizes_pass, sizes_asked_lem, fits_more, long-first}
 use Rattle.lanes.specs.Lanes.{lane_at}
 use Rattle.groups.specs.Forward.{Sizes, sizes-of}
-use Rattle.groups.specs.Groups.{is_group, Grouped, grouped, group_is}
-use Rattle.groups.specs.Onto.{group_outcome, onto_finite, onto_numbers, group_onto, outcome-unfit}
+use Rattle.groups.specs.Groups.{is_group, Grouped, grouped}
+use Rattle.groups.specs.Onto.{group_outcome, group_onto, outcome-unfit}
 use Rattle.starts.specs.Calls.{start_of, from_finite, from_block, group_from}
 use Rattle.starts.specs.Products.{block_held, start-product, adjoint-inside}
 use Rattle.starts.specs.Lanes.{from_finite_lem, from_numbers_lem}

@@ -1,20 +1,19 @@
 -- `sums::fill` meets its contract: before step t the new places of the first t rows are finite and written. Assumes nothing.
 use Rattle.lists.specs.Prelude.{◌≡◌, refl, sym, ap, ap₂, ◌∙◌, Bool, true, false, not, ◌&&◌, ◌||◌, List, [], ◌∷◌, ℕ, ◌+◌, ◌-◌, ◌*◌, ◌≤◌, ◌<◌, le_antisymm, arith, length}
 use Rattle.lists.specs.Prelude.{length-take, length-drop, Float, rules, not-true, not-false, mid_of}
-use Rattle.lists.specs.Indexed.{all_below, all_in, join}
-use Rattle.lists.specs.Agreement.{all_agree, never}
-use Rattle.lists.specs.Steps.{all_more, all_none}
+use Rattle.lists.specs.Indexed.{all_below}
+use Rattle.lists.specs.Agreement.{never}
+use Rattle.lists.specs.Steps.{all_more}
 use Rattle.refusal.specs.Search.{all-no}
-use Rattle.block.specs.Block.{lay_out}
 use Rattle.two_time.specs.declared.sums.Sums.{Sums}
-use Rattle.two_time.specs.Layout.{TwoTime, read_as, length_of}
+use Rattle.two_time.specs.Layout.{TwoTime, read_as}
 use Rattle.two_time.specs.New.{is_new, every_new, cleared_new}
 use Rattle.two_time.specs.Sums.{sums_of, new_numbers, new_finite}
 use Rattle.two_time.specs.Places.{product-most}
 use Rattle.two_time.specs.SizeChecks.{SizesPassed, sizes-passed}
 use Rattle.two_time.specs.Written.{first_new, first-most, row_asked_lem, written_to, written_none, row_step, written-rows, RowPart, row-part}
 use Rattle.two_time.specs.Cleared.{cleared_to, cleared-part}
-use Rattle.groups.specs.PlaceSums.{sum_at, block_finite}
+use Rattle.groups.specs.PlaceSums.{block_finite}
 use Rattle.sums.proofs.fill.Statement.{statement}
 use Rattle.sums.proofs.fill.Tie as tie
 

@@ -1,9 +1,9 @@
 -- `sums::new_sums` meets its contract: unfit, finite, or not finite with the new places cleared. Assumes nothing.
-use Rattle.lists.specs.Prelude.{◌≡◌, sym, ap, ◌∙◌, Bool, true, ◌&&◌, List, [], ◌∷◌, Float, leb, leb-true, le-leb, eq-eqb, length, rules}
+use Rattle.lists.specs.Prelude.{◌≡◌, sym, ◌∙◌, Bool, true, ◌&&◌, List, [], ◌∷◌, Float, leb, leb-true, rules}
 use Rattle.lists.specs.Agreement.{both}
 use Rattle.refusal.specs.declared.Verdict.{Verdict}
 use Rattle.refusal.specs.declared.Verdict.TheVariants.{Refused}
-use Rattle.two_time.specs.Calls.{all_fit, all_long, size_checks}
+use Rattle.two_time.specs.Calls.{size_checks}
 use Rattle.two_time.specs.Outcome.{new_sums, summed_answer, new_out}
 use Rattle.two_time.specs.SizeChecks.{SizesPassed, sizes-passed, sizes_pass, sizes_asked_lem, fits_more, long-first, long_also, long-none}
 use Rattle.two_time.specs.Cleared.{fits_new_lem}

@@ -1,7 +1,7 @@
 -- `transient_run::append` meets its contract: the points, cut at 256, and one more. Assumes nothing.
-use Rattle.lists.specs.Prelude.{◌≡◌, sym, ap, ◌∙◌, List, ℕ, ◌+◌, ◌≤◌, min-le_right, le-add_right, arith, Float, rules}
+use Rattle.lists.specs.Prelude.{ap, ◌∙◌, rules}
 use Rattle.transient_run.specs.Form.{form_of}
-use Rattle.transient_run.specs.Calls.{Run, run_of, booked}
+use Rattle.transient_run.specs.Calls.{run_of, booked}
 use Rattle.transient_run.specs.Ends.{answers, retardeds, lessers, kernels, lesser_advanceds}
 use Rattle.transient_run.specs.Past.{append-cut}
 use Rattle.transient_run.proofs.append.Statement.{statement}

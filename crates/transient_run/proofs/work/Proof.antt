@@ -1,5 +1,5 @@
 -- `transient_run::work` meets its contract: each step's answer says whether what it makes is finite. Assumes nothing.
-use Rattle.lists.specs.Prelude.{◌≡◌, refl, sym, ap, ap₂, ◌∙◌, Bool, true, false, cond, ◌&&◌, List, [], ◌∷◌, ℕ, leb, le-leb, arith, Float, rules, not-true, not-false}
+use Rattle.lists.specs.Prelude.{◌≡◌, refl, sym, ap, ap₂, ◌∙◌, Bool, true, false, cond, ◌&&◌, List, ℕ, leb, le-leb, Float, rules, not-true, not-false}
 use Rattle.lists.specs.Agreement.{never}
 use Rattle.refusal.specs.declared.Verdict.TheVariants.{Pass}
 use Rattle.two_time.specs.declared.sums.Sums.TheVariants.{Causal, LesserAdvanced}
@@ -9,7 +9,6 @@ use Rattle.two_time.specs.Calls.{size_checks}
 use Rattle.two_time.specs.Outcome.{flagged, new_sums_said}
 use Rattle.two_time.specs.SizeChecks.{SizesPassed, sizes_pass}
 use Rattle.two_time.specs.Lengths.{lengths, none-asked, also_asked}
-use Rattle.dyson.specs.Calls.{new_kernel, new_green}
 use Rattle.dyson.specs.NewSolved.{solved_new_said}
 use Rattle.transient_run.specs.declared.Session.{Session}
 use Rattle.two_time.specs.Start.{new_lesser_numbers}

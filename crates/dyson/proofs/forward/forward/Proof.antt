@@ -1,9 +1,8 @@
 -- `dyson::forward::forward` meets its contract: before step t the rows before t are finite and written. Assumes nothing.
-use Rattle.lists.specs.Prelude.{◌≡◌, refl, sym, ap, ap₂, ◌∙◌, true, false, ◌&&◌, List, [], ◌∷◌, ℕ, ◌+◌, ◌-◌, ◌*◌, ◌≤◌, ◌<◌, le_refl, le_antisymm, arith, leb, ltb, length, Float, rules}
-use Rattle.lists.specs.Prelude.{not-true, not-false, lt-ltb, le-ltb, le-leb, put_mid, mid_of}
-use Rattle.lists.specs.Indexed.{all_below, join}
+use Rattle.lists.specs.Prelude.{◌≡◌, refl, sym, ap, ap₂, ◌∙◌, true, false, ◌&&◌, List, [], ◌∷◌, ℕ, ◌+◌, ◌-◌, ◌*◌, ◌≤◌, ◌<◌, le_refl, le_antisymm, arith, ltb, length, Float, rules}
+use Rattle.lists.specs.Prelude.{not-true, not-false, lt-ltb, le-leb, put_mid, mid_of}
+use Rattle.lists.specs.Indexed.{all_below}
 use Rattle.lists.specs.Agreement.{never}
-use Rattle.lists.specs.Steps.{all_more}
 use Rattle.refusal.specs.declared.Verdict.TheVariants.{Pass}
 use Rattle.two_time.specs.Calls.{size_checks}
 use Rattle.two_time.specs.Layout.{read_as, length_of}
@@ -14,8 +13,7 @@ use Rattle.two_time.specs.Lengths.{lengths, none-asked, also_asked}
 use Rattle.two_time.specs.Cleared.{fits_new_lem, cleared-written}
 use Rattle.groups.specs.Forward.{row_at}
 use Rattle.sums.specs.Forward.{forward_row, row_hidden}
-use Rattle.dyson.specs.Retarded.{new_retarded, new_retarded_finite}
-use Rattle.dyson.specs.Rows.{Substitution, retarded, rows_to, row_finite, row_asked, rows_none, rows-read, row_finite-is, row_is, next_row, rows_all, asked-all, early-asked, one_lost}
+use Rattle.dyson.specs.Rows.{Substitution, retarded, rows_to, row_asked, rows_none, rows-read, row_finite-is, next_row, rows_all, asked-all, early-asked, one_lost}
 use Rattle.dyson.proofs.forward.forward.Statement.{statement}
 use Rattle.dyson.proofs.forward.forward.Tie as tie
 

@@ -3,7 +3,7 @@ use Rattle.lists.specs.Prelude.{◌≡◌, sym, ap₂, ◌∙◌, ◌&&◌, ◌-
 use Rattle.lists.specs.Indexed.{all_in}
 use Rattle.lists.specs.Steps.{all_more, all_none}
 use Rattle.complex.specs.Arithmetic.{cfinite}
-use Rattle.block.specs.Operations.{product, all_finite}
+use Rattle.block.specs.Operations.{all_finite}
 use Rattle.observables.specs.Density.{product_of}
 use Rattle.observables.proofs.product.is_finite.Statement.{statement}
 use Rattle.observables.proofs.product.is_finite.Tie as tie

@@ -3,7 +3,6 @@ use Rattle.lists.specs.Prelude.{◌≡◌, sym, ap, ap₂, ◌∙◌, ◌&&◌, 
 use Rattle.lists.specs.Indexed.{all_below}
 use Rattle.lists.specs.Steps.{all_more, all_none}
 use Rattle.complex.specs.Arithmetic.{cfinite}
-use Rattle.block.specs.Operations.{product}
 use Rattle.observables.specs.Density.{product_of}
 use Rattle.observables.proofs.product.row_is_finite.Statement.{statement}
 use Rattle.observables.proofs.product.row_is_finite.Tie as tie

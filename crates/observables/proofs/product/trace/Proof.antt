@@ -3,7 +3,7 @@ use Rattle.lists.specs.Prelude.{◌≡◌, sym, ◌∙◌, ◌-◌, ◌≤◌, l
 use Rattle.complex.specs.Arithmetic.{czero}
 use Rattle.complex.specs.Sum.{sum_from}
 use Rattle.complex.specs.Agreement.{sum_more, sum-none}
-use Rattle.block.specs.Operations.{product, trace}
+use Rattle.block.specs.Operations.{trace}
 use Rattle.observables.specs.Density.{product_of}
 use Rattle.observables.proofs.product.trace.Statement.{statement}
 use Rattle.observables.proofs.product.trace.Tie as tie

@@ -1,5 +1,5 @@
 -- `refusal::checks::entries_from` meets its contract: the search's end is the first position that is not finite. Assumes nothing.
-use Rattle.lists.specs.Prelude.{◌∙◌, arith, rules}
+use Rattle.lists.specs.Prelude.{◌∙◌, rules}
 use Rattle.refusal.specs.Search.{prefix-asked}
 use Rattle.refusal.proofs.checks.entries_from.Statement.{statement}
 use Rattle.refusal.proofs.checks.entries_from.Tie as tie

@@ -1,14 +1,13 @@
 -- `two_time::capacity::clear_rows` meets its contract: before step t the new places of the first t rows are +0. Assumes nothing.
-use Rattle.lists.specs.Prelude.{◌≡◌, refl, sym, ap, ◌∙◌, List, ℕ, ◌+◌, ◌*◌, ◌-◌, ◌≤◌, le_antisymm, arith, length, length-take, length-drop, replicate, Float, mid_of, put_mid, rules}
+use Rattle.lists.specs.Prelude.{◌≡◌, refl, sym, ap, ◌∙◌, List, ℕ, ◌+◌, ◌*◌, ◌-◌, ◌≤◌, le_antisymm, arith, length, length-take, length-drop, replicate, Float, mid_of, rules}
 use Rattle.lists.specs.Indexed.{join}
 use Rattle.lists.specs.Agreement.{join_agree}
 use Rattle.complex.specs.Arithmetic.{plus_zero}
 use Rattle.block.specs.Block.{lay_out}
 use Rattle.block.specs.Operations.{zeros}
 use Rattle.block.specs.Zero.{join-replicate, block-zero}
-use Rattle.two_time.specs.Layout.{length_of}
 use Rattle.two_time.specs.Places.{product-most}
-use Rattle.two_time.specs.Written.{first_new, first-most, written_to, written_none, row_step, written-rows, RowPart, row-part}
+use Rattle.two_time.specs.Written.{first-most, written_to, written_none, row_step, written-rows, RowPart, row-part}
 use Rattle.two_time.proofs.capacity.clear_rows.Statement.{statement}
 use Rattle.two_time.proofs.capacity.clear_rows.Tie as tie
 

@@ -1,5 +1,5 @@
 -- `two_time::capacity::first_new` meets its contract, by its test. Assumes nothing.
-use Rattle.lists.specs.Prelude.{refl, lt-ltb, le-ltb}
+use Rattle.lists.specs.Prelude.{lt-ltb, le-ltb}
 use Rattle.two_time.proofs.capacity.first_new.Statement.{statement}
 use Rattle.two_time.proofs.capacity.first_new.Tie as tie
 
