@@ -9,7 +9,7 @@ use Rattle.refusal.specs.Agreement.{ask_yes, then-pass, then-after}
 use Rattle.two_time.specs.Sums.{new_numbers}
 use Rattle.two_time.specs.Start.{new_lesser_numbers}
 use Rattle.two_time.specs.Started.{SameStart}
-use Rattle.two_time.specs.NewPlaces.{at_once}
+use Rattle.two_time.proofs.NewPlaces.{at_once}
 use Rattle.two_time.specs.SizeChecks.{SizesPassed}
 use Rattle.two_time.specs.Lengths.{lengths, none-asked, also_asked}
 use Rattle.dyson.specs.Retarded.{new_retarded}

@@ -16,7 +16,8 @@ use Rattle.two_time.specs.FiniteAgreement.{finite_agree}
 use Rattle.two_time.specs.Sums.{dyson_terms, terms_at, sums_of, new_numbers, new_finite}
 use Rattle.two_time.specs.Start.{started_at, lesser_at, new_lesser_numbers, new_lesser_finite}
 use Rattle.two_time.specs.Started.{SameStart}
-use Rattle.two_time.specs.NewPlaces.{read-new, read-old, new-each, each-new}
+use Rattle.two_time.specs.NewPlaces.{new-each, each-new}
+use Rattle.two_time.proofs.NewPlaces.{read-new, read-old}
 use Rattle.dyson.specs.Retarded.{onward_from, new_retarded, new_retarded_finite}
 use Rattle.dyson.specs.Calls.{solved_new_finite}
 use Rattle.transient_run.specs.Calls.{Run, run_of, kernel_made, retarded_made, lesser_advanced_made, lesser_start, lesser_made, made_finite}

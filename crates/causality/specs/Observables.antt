@@ -21,7 +21,7 @@ use Rattle.two_time.specs.Calls.{point_entries, point_checks}
 use Rattle.two_time.specs.SizeChecks.{SizesPassed}
 use Rattle.two_time.specs.Lengths.{lengths}
 use Rattle.two_time.specs.CapacityChecks.{capacity_pass}
-use Rattle.two_time.specs.PointsFinite.{points-finite}
+use Rattle.two_time.proofs.PointsFinite.{points-finite}
 use Rattle.observables.specs.Density.{density}
 use Rattle.observables.specs.Calls.{observed, lesser_checks, lesser_block_checks, particle_number, one_body_expectation, bond_flow_into}
 use Rattle.causality.specs.Statement.{SameBlock}

@@ -10,7 +10,7 @@ use Rattle.block.specs.Agreement.{Agree}
 use Rattle.two_time.specs.Layout.{TwoTime}
 use Rattle.two_time.specs.New.{written}
 use Rattle.two_time.specs.Written.{length-written}
-use Rattle.two_time.specs.NewPlaces.{read-new}
+use Rattle.two_time.proofs.NewPlaces.{read-new}
 use Rattle.two_time.specs.SizeChecks.{SizesPassed}
 use Rattle.two_time.specs.Lengths.{none-asked, also_asked}
 use Rattle.transient_run.specs.Products.{formed}

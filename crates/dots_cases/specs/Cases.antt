@@ -12,7 +12,7 @@ use Rattle.refusal.specs.Verdict.{zeroed}
 use Rattle.refusal.specs.Checks.{not_empty, within_block}
 use Rattle.block.specs.Block.{Entries}
 use Rattle.two_time.specs.Layout.{TwoTime, read_as, lay_out_all}
-use Rattle.two_time.specs.ReadBack.{read_back}
+use Rattle.two_time.proofs.ReadBack.{read_back}
 use Rattle.two_time.specs.Example.{bits}
 use Rattle.transient_run.specs.Form.{Form, g0_of}
 use Rattle.transient_run.specs.Form.Form.{occupied}

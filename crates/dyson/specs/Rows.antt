@@ -16,7 +16,8 @@ use Rattle.two_time.specs.New.{is_new, written, every_new, cleared_new}
 use Rattle.two_time.specs.WeightedSum.{Terms, weighted_sum, finite_sum}
 use Rattle.two_time.specs.Sums.{dyson_terms}
 use Rattle.two_time.specs.OneTest.{one_test}
-use Rattle.two_time.specs.Written.{laid_agree, put-blocks, read-written, new_is, old-is}
+use Rattle.two_time.specs.Written.{laid_agree, put-blocks, new_is, old-is}
+use Rattle.two_time.proofs.Written.{read-written}
 use Rattle.groups.specs.Forward.{forward_sum, forward_entry, forward_block, forward_finite, row_at}
 use Rattle.dyson.specs.Retarded.{onward_from, new_retarded, new_retarded_finite}
 use Rattle.dyson.specs.Recursion.{same-terms, recursion, held-is, above}

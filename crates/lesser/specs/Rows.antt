@@ -14,7 +14,7 @@ use Rattle.two_time.specs.declared.sums.Summed.{Summed}
 use Rattle.two_time.specs.Calls.{size_checks}
 use Rattle.two_time.specs.Outcome.{all_summed}
 use Rattle.two_time.specs.Layout.{place, read_as, lay_out_all}
-use Rattle.two_time.specs.ReadBack.{read_back}
+use Rattle.two_time.proofs.ReadBack.{read_back}
 use Rattle.two_time.specs.WeightedSum.{weighted_sum, finite_sum}
 use Rattle.two_time.specs.Sums.{terms_at}
 use Rattle.two_time.specs.Start.{occupied_first, occupied_block, lesser_at, occupied_by, holds_block}

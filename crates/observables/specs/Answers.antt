@@ -63,51 +63,20 @@ module _ (a b c w : Verdict) {v : Verdict} (asked : v ≡ (a then b then c)) whe
 -- the trace of the density
 module _ (capacity points orbitals : ℕ) (lesser : List Float) (time : ℕ) (tolerance : Float) where
   -- the questions in their order
-  number-order : (z : Complex) → trace orbitals (density_of capacity orbitals lesser time) ≡ z
+  pub number-order : (z : Complex) → trace orbitals (density_of capacity orbitals lesser time) ≡ z
       → observed (lesser_checks capacity points orbitals lesser then valid_tolerance tolerance then time_below time points then finite_work (cfinite z) then real_within tolerance z.im) z.re
       ≡ particle_number capacity points orbitals lesser time tolerance
   unfolding particle_number
   number-order z e = rw e
 
-  module _ {v : Verdict} (asked : v ≡ with_arguments tolerance time points (lesser_checks capacity points orbitals lesser)) where
-    pub number-refused : {r : Refusal} (x : Float) → v ≡ Refused r → observed (Refused r) x ≡ particle_number capacity points orbitals lesser time tolerance
-    number-refused x p = first-refused _ _ _ _ asked x _ p ∙ number-order _ refl
-
-    pub number_passed : {z : Complex} → v ≡ Pass → z ≡ trace orbitals (density_of capacity orbitals lesser time) → real_observed tolerance z ≡ particle_number capacity points orbitals lesser time tolerance
-    number_passed p e = first-passed _ _ _ _ asked _ p ∙ number-order _ (sym e)
-
 -- the trace of the product by a matrix
 module _ (capacity points orbitals : ℕ) (lesser : List Float) (time : ℕ) (x : DenseMatrix) (tolerance : Float) where
-  abbrev asks : Entries → Verdict
+  abbrev pub asks : Entries → Verdict
   asks f = finite_work (all_finite orbitals orbitals f) then finite_work (finite_trace orbitals f) then real_within tolerance (trace orbitals f).im
 
   -- the questions in their order
-  product-order : (o rho : Entries) → entries_of x ≡ o → density_of capacity orbitals lesser time ≡ rho
+  pub product-order : (o rho : Entries) → entries_of x ≡ o → density_of capacity orbitals lesser time ≡ rho
       → observed (lesser_block_checks capacity points orbitals lesser x then valid_tolerance tolerance then time_below time points then asks (product orbitals o rho)) (trace orbitals (product orbitals o rho)).re
       ≡ one_body_expectation capacity points orbitals lesser time x tolerance
   unfolding one_body_expectation
   product-order o rho e d = rw (e, d)
-
-  module _ {v : Verdict} (asked : v ≡ with_arguments tolerance time points (lesser_block_checks capacity points orbitals lesser x)) where
-    pub inputs-refused : {r : Refusal} (y : Float) → v ≡ Refused r → observed (Refused r) y ≡ one_body_expectation capacity points orbitals lesser time x tolerance
-    inputs-refused y p = first-refused _ _ _ _ asked y _ p ∙ product-order _ _ refl refl
-
-    -- past its checks the matrix has n columns
-    module _ (p : v ≡ Pass) where
-      abbrev made : Entries
-      made = product_of capacity orbitals x.values lesser time
-
-      n-columns : entries_of x ≡ entries_in orbitals x.values
-      n-columns =
-          let all = ends-passed _ _ _ (sym asked ∙ p) in
-          ap (λ (n : ℕ). entries_in n x.values) (block_at capacity points orbitals lesser x time all.0 all.1).1
-
-      product-asked : observed (asks made) (trace orbitals made).re ≡ one_body_expectation capacity points orbitals lesser time x tolerance
-      product-asked = first-passed _ _ _ _ asked _ p ∙ product-order _ _ n-columns refl
-
-      module _ {work : Verdict} (h : work ≡ finite_work (all_finite orbitals orbitals made)) where
-        pub product-refused : {r : Refusal} (y : Float) → work ≡ Refused r → observed (Refused r) y ≡ one_body_expectation capacity points orbitals lesser time x tolerance
-        product-refused y q = observed-no y _ (then-refused _ _ _ (sym h ∙ q)) ∙ product-asked
-
-        pub product-passed : work ≡ Pass → real_observed tolerance (trace orbitals made) ≡ one_body_expectation capacity points orbitals lesser time x tolerance
-        product-passed q = ap (λ (u : Verdict). observed u (trace orbitals made).re) (sym (then-after _ _ (sym h ∙ q))) ∙ product-asked

@@ -49,10 +49,14 @@ unfolding retarded_at real_within Ieee.lt Ieee.neg Ieee.of_bits ask size
 residuals = refl
 
 others : map number_of (fitting false ∷ finite_weights 2 (λ i. inf false) ∷ finite_work false ∷ time_below 2 2 ∷ time_below 1 2 ∷ orbital_below 1 1 ∷ finite_factors czero nan ∷ finite_factors (record { re = nan; im = plus_zero }) one ∷ finite_factors czero one ∷ well_formed false ∷ within_capacity 3 3 ∷ within_capacity 4 3 ∷ counter_holds 0xffff_ffff_ffff_fffe 1 ∷ counter_holds 0xffff_ffff_ffff_fffe 2
-    ∷ within_list 1024 ∷ within_list 1025 ∷ desk_known 7 ∷ desk_known 8 ∷ [])
-    ≡ 3 ∷ 6 ∷ 10 ∷ 11 ∷ 0 ∷ 12 ∷ 13 ∷ 13 ∷ 0 ∷ 15 ∷ 0 ∷ 16 ∷ 0 ∷ 17 ∷ 0 ∷ 18 ∷ 0 ∷ 22 ∷ []
-unfolding number_of fitting finite_weights finite_work time_below orbital_below finite_factors well_formed within_capacity counter_holds within_list desk_known Ieee.of_bits all_below ask cfinite finite
+    ∷ desk_known 7 ∷ desk_known 8 ∷ [])
+    ≡ 3 ∷ 6 ∷ 10 ∷ 11 ∷ 0 ∷ 12 ∷ 13 ∷ 13 ∷ 0 ∷ 15 ∷ 0 ∷ 16 ∷ 0 ∷ 17 ∷ 0 ∷ 22 ∷ []
+unfolding number_of fitting finite_weights finite_work time_below orbital_below finite_factors well_formed within_capacity counter_holds desk_known Ieee.of_bits all_below ask cfinite finite
 others = refl
+
+lists : map number_of (within_list 1024 ∷ within_list 1025 ∷ []) ≡ 0 ∷ 18 ∷ []
+unfolding number_of within_list ask
+lists = refl
 
 -- the first refusal is the answer
 in_order : (Pass then Refused (by 3) then Refused (by 7)) ∷ ask_all 3 (λ i. Pass) ∷ [] ≡ Refused (by 3) ∷ Pass ∷ []

@@ -23,7 +23,8 @@ use Rattle.two_time.specs.Outcome.{SumsOutcome, summed_answer, summed_out}
 use Rattle.two_time.specs.New.{cleared_new}
 use Rattle.two_time.specs.Parts.{part-within, whole_length}
 use Rattle.two_time.specs.Written.{new_is}
-use Rattle.two_time.specs.Cleared.{put_elsewhere, cleared-blocks}
+use Rattle.two_time.specs.Cleared.{put_elsewhere}
+use Rattle.two_time.proofs.Cleared.{cleared-blocks}
 use Rattle.groups.specs.Forward.{forward_sum, forward_entry, forward_block, forward_finite, row_at}
 use Rattle.groups.specs.Groups.{forward_numbers, forward_group}
 

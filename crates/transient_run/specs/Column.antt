@@ -10,7 +10,8 @@ use Rattle.two_time.specs.declared.sums.Sums.TheVariants.{Causal}
 use Rattle.two_time.specs.Calls.{point_entries}
 use Rattle.two_time.specs.WeightedSum.{finite_sum}
 use Rattle.two_time.specs.Sums.{dyson_terms, new_finite}
-use Rattle.two_time.specs.NewPlaces.{read-new, read-old, new-each}
+use Rattle.two_time.specs.NewPlaces.{new-each}
+use Rattle.two_time.proofs.NewPlaces.{read-new, read-old}
 use Rattle.two_time.specs.Factors.{FiniteBlock}
 use Rattle.two_time.specs.Column.{column-finite}
 use Rattle.dyson.specs.Retarded.{onward_from, new_retarded, new_retarded_finite}

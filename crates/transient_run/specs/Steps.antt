@@ -9,7 +9,7 @@ use Rattle.two_time.specs.declared.sums.Sums.TheVariants.{LesserAdvanced, Lesser
 use Rattle.two_time.specs.Layout.{TwoTime}
 use Rattle.two_time.specs.New.{written, cleared_new}
 use Rattle.two_time.specs.Sums.{new_numbers, new_finite}
-use Rattle.two_time.specs.Cleared.{cleared-written}
+use Rattle.two_time.proofs.Cleared.{cleared-written}
 use Rattle.two_time.specs.Calls.{size_checks}
 use Rattle.two_time.specs.Outcome.{SumsOutcome, all_summed, new_sums, new_sums_said, flagged}
 use Rattle.two_time.specs.Start.{Start, new_lesser_numbers, new_lesser_finite, new_lesser_from, holds_block}

@@ -19,7 +19,6 @@ pub mod NewPlaces
 pub mod SizeChecks
 pub mod Checks
 pub mod CapacityChecks
-pub mod PointsFinite
 pub mod Intervals
 pub mod OneTest
 pub mod Factors

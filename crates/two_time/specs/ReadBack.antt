@@ -1,4 +1,4 @@
--- A two-time function that is laid out is read back entry by entry, and has the document's length. Assumes nothing.
+-- A two-time function that is laid out is read back number by number, and has the document's length. Assumes nothing.
 use Rattle.lists.specs.Prelude.{◌≡◌, refl, sym, ap, ◌∙◌, List, ℕ, ◌+◌, ◌*◌, ◌<◌, add-mul, mul_assoc, mul_comm, mul_left_comm, add-zero, arith, lit<, digits_lt, length}
 use Rattle.lists.specs.Prelude.{get_or, Float, nan}
 use Rattle.lists.specs.Indexed.{join}
@@ -34,7 +34,7 @@ module _ (n : ℕ) where
     length-all = length-join points (points * (n * (n * 2))) row (λ t ht. length-row t) ∙ doubled
 
     module _ (t u a b : ℕ) (ht : t < points) (hu : u < points) (ha : a < n) (hb : b < n) where
-      number_at : (j : ℕ) → j < 2 → get_or (lay_out_all points n f) (place points n t u a b + j) nan ≡ get_or (pair (f t u a b)) j nan
+      pub number_at : (j : ℕ) → j < 2 → get_or (lay_out_all points n f) (place points n t u a b + j) nan ≡ get_or (pair (f t u a b)) j nan
       unfolding lay_out_all
       number_at j hj =
           ap (λ (i : ℕ). get_or (lay_out_all points n f) i nan) where_it_stands
@@ -49,9 +49,3 @@ module _ (n : ℕ) where
               let blocks : u * (n * (n * 2)) ≡ 2 * (u * n * n) = rw (mul_comm n 2, mul_left_comm n 2 n, mul_left_comm u 2 (n * n)) (simp mul_assoc) in
               let entries : a * (n * 2) ≡ 2 * (a * n) = rw (mul_comm n 2, mul_left_comm a 2 n) in
               simp add-mul (omega arith)
-
-      pub read_back : read_as points n (lay_out_all points n f) t u a b ≡ f t u a b
-      read_back = λ i. record { re = re_part i; im = number_at 1 (lit< tt) i }
-        where
-          re_part : get_or (lay_out_all points n f) (place points n t u a b) nan ≡ (f t u a b).re
-          re_part = ap (λ (k : ℕ). get_or (lay_out_all points n f) k nan) (sym (add-zero (place points n t u a b))) ∙ number_at 0 (lit< tt)

@@ -13,7 +13,7 @@ use Rattle.block.specs.Length.{length-block}
 use Rattle.block.specs.Agreement.{Agree}
 use Rattle.two_time.specs.Layout.{TwoTime, place, read_as, length_of, lay_out_all, everywhere}
 use Rattle.two_time.specs.New.{is_new, written, every_new}
-use Rattle.two_time.specs.ReadBack.{read_back, length-all}
+use Rattle.two_time.specs.ReadBack.{length-all}
 use Rattle.two_time.specs.Places.{product-most, sized}
 use Rattle.two_time.specs.Parts.{part-within, whole_length}
 
@@ -130,11 +130,6 @@ module _ (capacity n old points : ℕ) (f : TwoTime) (before : List Float) where
   unfolding written
   length-written = length-all n capacity _
 
-  pub read-written : (t u a b : ℕ) → t < capacity → u < capacity → a < n → b < n
-      → read_as capacity n (written capacity n old points f before) t u a b ≡ cond (is_new old points t u) (f t u) (read_as capacity n before t u) a b
-  unfolding written
-  read-written t u a b ht hu ha hb = read_back n capacity _ t u a b ht hu ha hb
-
 -- what is new, and what is not
 module _ (old points t u : ℕ) where
   pub new_is : old ≤ max t u → t < points → u < points → is_new old points t u ≡ true
@@ -210,10 +205,6 @@ module _ (capacity n old points : ℕ) (f : TwoTime) (before : List Float) where
 
   unfoldable pub written_to : ℕ → List Float
   written_to rows = lay_out_all capacity n (up_to rows)
-
-  pub written_none : length before ≡ length_of capacity n → before ≡ written_to 0
-  unfolding written_to
-  written_none long = sym (laid_read capacity n before long) ∙ laid_agree capacity n _ _ (λ t u ht hu a b ha hb. rw (le-ltb t 0 (omega arith)))
 
   pub length-written_to : (rows : ℕ) → length (written_to rows) ≡ length_of capacity n
   unfolding written_to

@@ -10,7 +10,8 @@ use Rattle.two_time.specs.Calls.{size_checks}
 use Rattle.two_time.specs.Outcome.{summed_answer, new_out, flagged, new_sums_said}
 use Rattle.two_time.specs.SizeChecks.{SizesPassed, sizes_asked_lem, sizes-passed, sizes_pass}
 use Rattle.two_time.specs.Lengths.{lengths, none-asked, also_asked}
-use Rattle.two_time.specs.Cleared.{fits_new_lem, cleared-written}
+use Rattle.two_time.specs.Cleared.{fits_new_lem}
+use Rattle.two_time.proofs.Cleared.{cleared-written}
 use Rattle.dyson.specs.Retarded.{new_retarded}
 use Rattle.dyson.specs.Calls.{solved_new_finite, solved_new}
 use Rattle.dyson.specs.NewSolved.{kernel_lost, kernel-there}

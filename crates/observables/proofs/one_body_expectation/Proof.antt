@@ -6,7 +6,8 @@ use Rattle.block.specs.Operations.{all_finite}
 use Rattle.observables.specs.Density.{product_of}
 use Rattle.observables.specs.Passed.{Passed, ends-passed}
 use Rattle.observables.specs.LesserChecks.{block_at}
-use Rattle.observables.specs.Answers.{real_observed, with_arguments, inputs-refused, product-refused, product-passed}
+use Rattle.observables.specs.Answers.{real_observed, with_arguments}
+use Rattle.observables.proofs.Answers.{inputs-refused, product-refused, product-passed}
 use Rattle.observables.proofs.one_body_expectation.Statement.{statement}
 use Rattle.observables.proofs.one_body_expectation.Tie as tie
 

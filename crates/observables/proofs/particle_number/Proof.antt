@@ -2,7 +2,8 @@
 use Rattle.lists.specs.Prelude.{◌≡◌, ap, ◌∙◌, rules}
 use Rattle.observables.specs.Calls.{lesser_checks}
 use Rattle.observables.specs.Passed.{arguments_passed}
-use Rattle.observables.specs.Answers.{with_arguments, number-refused, number_passed}
+use Rattle.observables.specs.Answers.{with_arguments}
+use Rattle.observables.proofs.Answers.{number-refused, number_passed}
 use Rattle.observables.proofs.particle_number.Statement.{statement}
 use Rattle.observables.proofs.particle_number.Tie as tie
 

@@ -11,8 +11,9 @@ use Rattle.two_time.specs.New.{is_new, every_new, cleared_new}
 use Rattle.two_time.specs.Sums.{sums_of, new_numbers, new_finite}
 use Rattle.two_time.specs.Places.{product-most}
 use Rattle.two_time.specs.SizeChecks.{SizesPassed, sizes-passed}
-use Rattle.two_time.specs.Written.{first_new, first-most, row_asked_lem, written_to, written_none, row_step, written-rows, RowPart, row-part}
-use Rattle.two_time.specs.Cleared.{cleared_to, cleared-part}
+use Rattle.two_time.specs.Written.{first_new, first-most, row_asked_lem, written_to, row_step, written-rows, RowPart, row-part}
+use Rattle.two_time.proofs.Written.{written_none}
+use Rattle.two_time.proofs.Cleared.{cleared_to, cleared-part}
 use Rattle.groups.specs.PlaceSums.{block_finite}
 use Rattle.sums.proofs.fill.Statement.{statement}
 use Rattle.sums.proofs.fill.Tie as tie

@@ -10,7 +10,8 @@ use Rattle.two_time.specs.New.{cleared_new}
 use Rattle.two_time.specs.Outcome.{by_flag}
 use Rattle.two_time.specs.SizeChecks.{SizesPassed, sizes_pass}
 use Rattle.two_time.specs.Lengths.{lengths, none-asked, also_asked}
-use Rattle.two_time.specs.Cleared.{fits_new_lem, cleared-written}
+use Rattle.two_time.specs.Cleared.{fits_new_lem}
+use Rattle.two_time.proofs.Cleared.{cleared-written}
 use Rattle.groups.specs.Forward.{row_at}
 use Rattle.sums.specs.Forward.{forward_row, row_hidden}
 use Rattle.dyson.specs.Rows.{Substitution, retarded, rows_to, row_asked, rows_none, rows-read, row_finite-is, next_row, rows_all, asked-all, early-asked, one_lost}

@@ -3,7 +3,8 @@ use Rattle.lists.specs.Prelude.{◌≡◌, refl, sym, ap, ◌∙◌, List, ℕ, 
 use Rattle.terms.specs.declared.Factor.{Factor}
 use Rattle.two_time.specs.Layout.{read_as}
 use Rattle.terms.specs.Kinds.{right_by}
-use Rattle.two_time.specs.Places.{Placed, block_inside}
+use Rattle.two_time.specs.Places.{Placed}
+use Rattle.two_time.proofs.Places.{block_inside}
 use Rattle.terms.specs.TermAt.{TermAt, term_at_lem}
 use Rattle.complex.specs.Numbers.{entry_at}
 use Rattle.lanes.specs.Lanes.{lane_at}

@@ -7,7 +7,8 @@ use Rattle.block.specs.Block.{lay_out}
 use Rattle.block.specs.Operations.{zeros}
 use Rattle.block.specs.Zero.{join-replicate, block-zero}
 use Rattle.two_time.specs.Places.{product-most}
-use Rattle.two_time.specs.Written.{first-most, written_to, written_none, row_step, written-rows, RowPart, row-part}
+use Rattle.two_time.specs.Written.{first-most, written_to, row_step, written-rows, RowPart, row-part}
+use Rattle.two_time.proofs.Written.{written_none}
 use Rattle.two_time.proofs.capacity.clear_rows.Statement.{statement}
 use Rattle.two_time.proofs.capacity.clear_rows.Tie as tie
 
