@@ -1,7 +1,8 @@
 -- Document 02, L8: "8 comes before 11 and before 10." Document 01 first asked the tolerance after the time index and after the product. Where the
 -- inputs pass, a call whose tolerance is valid, or which passes what was asked before it, has the answer that it had; any other is refused by 8 where
 -- it was refused by 11 or by 10. What L10 asks of the trace is left out of the comparison, and joined to it last. Assumes nothing.
-use Rattle.lists.specs.Prelude.{◌≡◌, refl, sym, ap, ◌∙◌, true, List, ◌⊎◌, inl, inr, ℕ, Float}
+use Rattle.std.specs.Prelude.{◌≡◌, ◌⊎◌}
+use Rattle.lists.specs.Prelude.{refl, sym, ap, ◌∙◌, true, List, inl, inr, ℕ, Float}
 use Rattle.refusal.specs.declared.Verdict.{Verdict}
 use Rattle.refusal.specs.declared.Verdict.TheVariants.{Pass, Refused}
 use Rattle.refusal.specs.Verdict.{by, ◌then◌}

@@ -1,7 +1,8 @@
 -- Document 02, L10: "The trace itself shall give 10 when a part of its sum is not finite; particle number and one-body expectation pass that on, after 11
 -- and before 14." Document 01 asked nothing of a trace. Where the questions before it pass, a call whose trace is finite has the answer that it had, and
 -- any other is refused by 10. Assumes nothing.
-use Rattle.lists.specs.Prelude.{◌≡◌, refl, ap, ◌∙◌, Bool, true, false, List, ℕ, Float}
+use Rattle.std.specs.Prelude.{◌≡◌}
+use Rattle.lists.specs.Prelude.{refl, ap, ◌∙◌, Bool, true, false, List, ℕ, Float}
 use Rattle.complex.specs.declared.Complex.{Complex}
 use Rattle.refusal.specs.declared.Verdict.{Verdict}
 use Rattle.refusal.specs.declared.Verdict.TheVariants.{Pass}

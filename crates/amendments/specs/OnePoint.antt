@@ -1,6 +1,7 @@
 -- Document 02, L2: "Runs that had an answer keep it." Document 01 first formed the term also where an interval has one point. Each call that was
 -- accepted then is accepted now and leaves the same bits; the transient run is in OnePointRun. Assumes nothing.
-use Rattle.lists.specs.Prelude.{◌≡◌, refl, sym, ap, ap₂, subst, ◌∙◌, Bool, true, ◌&&◌, List, [], ◌∷◌, ◌++◌, ◌⊎◌, inl, inr, ℕ, suc, ◌+◌, ◌-◌, ◌<◌, dec_lt, arith, Float, le-leb}
+use Rattle.std.specs.Prelude.{◌≡◌, ◌&&◌, ◌∷◌, ◌++◌, ◌⊎◌, ◌+◌, ◌-◌, ◌<◌}
+use Rattle.lists.specs.Prelude.{refl, sym, ap, ap₂, subst, ◌∙◌, Bool, true, List, [], inl, inr, ℕ, suc, dec_lt, arith, Float, le-leb}
 use Rattle.lists.specs.Indexed.{all_below}
 use Rattle.lists.specs.Agreement.{both, join_agree, each_all}
 use Rattle.complex.specs.declared.Complex.{Complex}

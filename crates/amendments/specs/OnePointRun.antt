@@ -1,6 +1,7 @@
 -- Document 02, L2: "Runs that had an answer keep it." A transient run in a capacity, as it was where the term was formed also at an interval of one
 -- point (OnePoint): accepted then, it is accepted now and leaves the same bits. Assumes nothing.
-use Rattle.lists.specs.Prelude.{◌≡◌, refl, sym, ap, ap₂, ◌∙◌, Bool, true, false, not, cond, ◌&&◌, ◌||◌, List, ℕ, max, ◌<◌, arith, leb, ltb-true, Float}
+use Rattle.std.specs.Prelude.{◌≡◌, ◌&&◌, ◌||◌, ◌<◌}
+use Rattle.lists.specs.Prelude.{refl, sym, ap, ap₂, ◌∙◌, Bool, true, false, not, cond, List, ℕ, max, arith, leb, ltb-true, Float}
 use Rattle.lists.specs.Indexed.{all_in}
 use Rattle.lists.specs.Agreement.{both, all-each, each_all}
 use Rattle.refusal.specs.declared.Verdict.TheVariants.{Pass}

@@ -1,6 +1,7 @@
 -- Document 02, L7: "The other six still equal the Rust's; the seventh is ours, and the question, line 8 passed, says yes exactly when the Rust does
 -- and the seventh is at most the tolerance." The question over six stands here alone. Assumes nothing.
-use Rattle.lists.specs.Prelude.{◌≡◌, refl, sym, ap, ap₂, ◌∙◌, Bool, true, false, ◌&&◌, and_assoc, arith, ℕ, Float, le}
+use Rattle.std.specs.Prelude.{◌≡◌, ◌&&◌}
+use Rattle.lists.specs.Prelude.{refl, sym, ap, ap₂, ◌∙◌, Bool, true, false, and_assoc, arith, ℕ, Float, le}
 use Rattle.lists.specs.Agreement.{both}
 use Rattle.refusal.specs.declared.Refusal.{Refusal}
 use Rattle.refusal.specs.declared.Verdict.{Verdict}

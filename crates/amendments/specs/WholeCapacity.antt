@@ -1,7 +1,8 @@
 -- Document 02, L1: "lines 2 and 3 read the capacity as N". In slices whose capacity is the points, the run and the checks of a lesser function are those
 -- of document 01: no room is left, 16 passes, and the places are all. L3 and L13: 22 stands before the run's 1 and 17 between its 9 and 10, and at a desk
 -- whose counter has room for the count they change nothing. Assumes nothing.
-use Rattle.lists.specs.Prelude.{◌≡◌, refl, sym, ap, ap₂, ◌∙◌, Bool, true, ◌&&◌, List, [], ◌∷◌, ℕ, zero, suc, ◌+◌, ◌*◌, le_refl, zero-add, suc-add, add_comm, suc-mul, zero-mul, eqb, length, le-leb, eqb-true, Float, ◌<◌, ◌≤◌, leb, ltb, lt-ltb}
+use Rattle.std.specs.Prelude.{◌≡◌, ◌&&◌, ◌∷◌, ◌+◌, ◌*◌, ◌<◌, ◌≤◌}
+use Rattle.lists.specs.Prelude.{refl, sym, ap, ap₂, ◌∙◌, Bool, true, List, [], ℕ, zero, suc, le_refl, zero-add, suc-add, add_comm, suc-mul, zero-mul, eqb, length, le-leb, eqb-true, Float, leb, ltb, lt-ltb}
 use Rattle.lists.specs.Agreement.{both}
 use Rattle.refusal.specs.declared.Verdict.{Verdict}
 use Rattle.refusal.specs.Verdict.{by, ◌then◌, ask_all, zeroed, afterwards}

@@ -1,7 +1,8 @@
 -- Document 02, L5: "With g0 at +0 the bits are those of the old form." A call with an n by n block of +0, and the same call of the empty form: where neither is
 -- refused by 17 their slices are the same and so are their answers, but for the count that an accepted call carries. Appends onto any contents too.
 -- Assumes nothing.
-use Rattle.lists.specs.Prelude.{◌≡◌, refl, sym, ap, ap₂, ◌∙◌, Bool, true, false, ◌&&◌, and-true, List, ◌∷◌, [], ℕ, suc, ◌+◌, ◌*◌, ◌≤◌, ◌<◌, arith, digits_lt, eq-eqb, le-leb, eqb, length, get_or, Float, nan}
+use Rattle.std.specs.Prelude.{◌≡◌, ◌&&◌, ◌∷◌, ◌+◌, ◌*◌, ◌≤◌, ◌<◌}
+use Rattle.lists.specs.Prelude.{refl, sym, ap, ap₂, ◌∙◌, Bool, true, false, and-true, List, [], ℕ, suc, arith, digits_lt, eq-eqb, le-leb, eqb, length, get_or, Float, nan}
 use Rattle.std.specs.Float.Ieee as Ieee
 use Rattle.lists.specs.Agreement.{both}
 use Rattle.complex.specs.Arithmetic.{plus_zero, finite}

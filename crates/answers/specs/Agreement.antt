@@ -1,6 +1,7 @@
 -- Where the slices passed for the rest have their lengths, the number that leaves is document 01's number of the answer, and after 10 a slice passed
 -- for numbers holds +0 throughout. Assumes nothing.
-use Rattle.lists.specs.Prelude.{◌≡◌, refl, ◌∙◌, Bool, true, false, cond, ◌||◌, ◌&&◌, List, ℕ, min, eqb, length, Float, eq-eqb}
+use Rattle.std.specs.Prelude.{◌≡◌, ◌||◌, ◌&&◌}
+use Rattle.lists.specs.Prelude.{refl, ◌∙◌, Bool, true, false, cond, List, ℕ, min, eqb, length, Float, eq-eqb}
 use Rattle.refusal.specs.declared.Verdict.{Verdict}
 use Rattle.refusal.specs.declared.Verdict.TheVariants.{Pass, Refused}
 use Rattle.refusal.specs.declared.Measured.{Measured}

@@ -1,6 +1,7 @@
 -- An answer as it leaves: its number, what a refusal carries, and numbers, a decision or a block, each in slices passed for it.
 use Rattle.std.specs.Borrow.{MutBor}
-use Rattle.lists.specs.Prelude.{ℕ, ◌-◌, min, Bool, cond, ◌||◌, ◌&&◌, List, [], ◌∷◌, ◌++◌, eqb, length, replicate, take, Float}
+use Rattle.std.specs.Prelude.{◌-◌, ◌||◌, ◌&&◌, ◌∷◌, ◌++◌}
+use Rattle.lists.specs.Prelude.{ℕ, min, Bool, cond, List, [], eqb, length, replicate, take, Float}
 use denote.Triple.Both.{Both}
 use Rattle.complex.specs.Arithmetic.{plus_zero}
 use Rattle.refusal.specs.declared.Verdict.{Verdict}

@@ -1,5 +1,6 @@
 -- What a slice holds after a store at each of its places, and after none. Assumes nothing.
-use Rattle.lists.specs.Prelude.{◌≡◌, refl, ℕ, ◌&&◌, List, [], ◌∷◌, arith, eqb, length, set, Float, eq-eqb, ne_eqb}
+use Rattle.std.specs.Prelude.{◌≡◌, ◌&&◌, ◌∷◌}
+use Rattle.lists.specs.Prelude.{refl, ℕ, List, [], arith, eqb, length, set, Float, eq-eqb, ne_eqb}
 use Rattle.refusal.specs.declared.Decision.{Decision}
 use Rattle.refusal.specs.declared.Decision.TheVariants.{Yes, No, Refused as Undecided}
 use Rattle.matrix.specs.declared.DenseMatrix.{DenseMatrix}

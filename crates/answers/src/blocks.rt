@@ -1,5 +1,5 @@
 // A block as it is passed, and one that is made, by its rows and columns and its 512 numbers, also beside a refusal: there it has no rows and is +0 throughout.
-ghost use Rattle.lists.specs.Prelude.{◌≡◌};
+ghost use Rattle.std.specs.Prelude.{◌≡◌};
 ghost use Rattle.answers.specs.Answer.{block, slices, block_written, after_block, answers_block};
 
 use crate::numbers::copy;

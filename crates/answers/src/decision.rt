@@ -1,5 +1,5 @@
 // A yes or no in one byte.
-ghost use Rattle.lists.specs.Prelude.{◌≡◌};
+ghost use Rattle.std.specs.Prelude.{◌≡◌};
 ghost use Rattle.answers.specs.Answer.{after_with, decision_verdict, decision_byte, answers_decision};
 
 use crate::{with_output, write_answer};

@@ -7,7 +7,8 @@ pub mod blocks;
 pub mod decision;
 pub mod numbers;
 
-ghost use Rattle.lists.specs.Prelude.{◌≡◌, [], ◌∷◌};
+ghost use Rattle.std.specs.Prelude.{◌≡◌, ◌∷◌};
+ghost use Rattle.lists.specs.Prelude.{[]};
 ghost use Rattle.answers.specs.Answer.{written, after, answers, with_output};
 
 use refusal::checks::fitting;

@@ -1,5 +1,6 @@
 // Answers in numbers: one for a measure, two for a complex number, seven for a report.
-ghost use Rattle.lists.specs.Prelude.{◌≡◌, min, length, replicate};
+ghost use Rattle.std.specs.Prelude.{◌≡◌};
+ghost use Rattle.lists.specs.Prelude.{min, length, replicate};
 ghost use Rattle.complex.specs.Arithmetic.{plus_zero};
 ghost use Rattle.refusal.specs.Verdict.{zeroed, afterwards};
 ghost use Rattle.answers.specs.Answer.{written, after_with, measured_numbers, complex_numbers, answers_numbers};

@@ -1,5 +1,6 @@
 -- Document 01, "Bench cases (P is proved)". Assumes nothing.
-use Rattle.lists.specs.Prelude.{◌≡◌, refl, false, List, [], ◌∷◌, suc, ◌+◌, ◌-◌, ◌*◌, ◌^◌, replicate, Float, inf, binary64, of_bits, to_bits}
+use Rattle.std.specs.Prelude.{◌≡◌, ◌∷◌, ◌+◌, ◌-◌, ◌*◌, ◌^◌}
+use Rattle.lists.specs.Prelude.{refl, false, List, [], suc, replicate, Float, inf, binary64, of_bits, to_bits}
 use Rattle.std.specs.Float.Ieee as Ieee
 use Rattle.complex.specs.declared.Complex.{Complex}
 use Rattle.complex.specs.Arithmetic.{plus_zero, one, real}

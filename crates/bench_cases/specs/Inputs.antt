@@ -1,5 +1,6 @@
 -- The inputs of the bench cases, in the words of document 01.
-use Rattle.lists.specs.Prelude.{ℕ, List, [], ◌∷◌, pos, Float, binary64, of_bits}
+use Rattle.std.specs.Prelude.{◌∷◌}
+use Rattle.lists.specs.Prelude.{ℕ, List, [], pos, Float, binary64, of_bits}
 use Rattle.std.specs.Float.Ieee as Ieee
 use Rattle.complex.specs.declared.Complex.{Complex}
 use Rattle.complex.specs.Arithmetic.{plus_zero, one}

@@ -1,6 +1,7 @@
 -- P12's run file makes the program print P12's text: the file passes, its run is P12's, and the text is that of the run's numbers. Assumes
 -- nothing.
-use Rattle.lists.specs.Prelude.{◌≡◌, refl, replicate}
+use Rattle.std.specs.Prelude.{◌≡◌}
+use Rattle.lists.specs.Prelude.{refl, replicate}
 use Rattle.complex.specs.Arithmetic.{plus_zero}
 use Rattle.refusal.specs.declared.Verdict.TheVariants.{Pass}
 use Rattle.refusal.specs.Checks.{within_program, well_formed, within_capacity}

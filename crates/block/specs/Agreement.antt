@@ -1,5 +1,6 @@
 -- Blocks whose entries agree, and what is made of them. Assumes nothing.
-use Rattle.lists.specs.Prelude.{◌≡◌, refl, ℕ, ◌<◌, zero-add}
+use Rattle.std.specs.Prelude.{◌≡◌, ◌<◌}
+use Rattle.lists.specs.Prelude.{refl, ℕ, zero-add}
 use Rattle.complex.specs.Arithmetic.{czero, cmul}
 use Rattle.complex.specs.Agreement.{sum_agree}
 use Rattle.block.specs.Block.{Entries}

@@ -1,5 +1,6 @@
 -- Document 01, matrix: "A matrix is one block by value, up to 256 complex entries", by rows, real part before imaginary.
-use Rattle.lists.specs.Prelude.{ℕ, ◌+◌, ◌*◌, List, Float}
+use Rattle.std.specs.Prelude.{◌+◌, ◌*◌}
+use Rattle.lists.specs.Prelude.{ℕ, List, Float}
 use Rattle.lists.specs.Indexed.{join}
 use Rattle.complex.specs.declared.Complex.{Complex}
 use Rattle.complex.specs.Numbers.{entry_at, pair}

@@ -1,5 +1,6 @@
 -- Closed cases of the question that check 10 asks of a trace.
-use Rattle.lists.specs.Prelude.{◌≡◌, refl, true, false, List, [], ◌∷◌, map, ℕ, binary64}
+use Rattle.std.specs.Prelude.{◌≡◌, ◌∷◌}
+use Rattle.lists.specs.Prelude.{refl, true, false, List, [], map, ℕ, binary64}
 use Rattle.std.specs.Float.Ieee as Ieee
 use Rattle.lists.specs.Indexed.{fold}
 use Rattle.complex.specs.declared.Complex.{Complex}

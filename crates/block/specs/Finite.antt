@@ -1,5 +1,6 @@
 -- Where a trace is finite, so is every sum on the way to it: check 10 may ask the last alone. Assumes nothing.
-use Rattle.lists.specs.Prelude.{◌≡◌, sym, ap, subst, ◌∙◌, true, ℕ, zero, suc, ◌+◌, arith}
+use Rattle.std.specs.Prelude.{◌≡◌, ◌+◌}
+use Rattle.lists.specs.Prelude.{sym, ap, subst, ◌∙◌, true, ℕ, zero, suc, arith}
 use Rattle.complex.specs.Arithmetic.{czero, cfinite}
 use Rattle.complex.specs.Finite.{cadd-finite}
 use Rattle.complex.specs.Agreement.{sum_more}

@@ -1,5 +1,6 @@
 -- How many numbers the entries of a block have. Assumes nothing.
-use Rattle.lists.specs.Prelude.{◌≡◌, ◌∙◌, ℕ, ◌*◌, mul_left_comm, length}
+use Rattle.std.specs.Prelude.{◌≡◌, ◌*◌}
+use Rattle.lists.specs.Prelude.{◌∙◌, ℕ, mul_left_comm, length}
 use Rattle.lists.specs.Reading.{length-join}
 use Rattle.complex.specs.Filling.{cells, length-cells}
 use Rattle.block.specs.Block.{Entries, lay_out}

@@ -1,5 +1,6 @@
 -- Document 01, matrix: the operations on entries. They go on through infinities; a call asks of its result what check 10 asks.
-use Rattle.lists.specs.Prelude.{ℕ, Bool, not, cond, ◌||◌, eqb, ltb, Float, lt}
+use Rattle.std.specs.Prelude.{◌||◌}
+use Rattle.lists.specs.Prelude.{ℕ, Bool, not, cond, eqb, ltb, Float, lt}
 use Rattle.lists.specs.Indexed.{all_in}
 use Rattle.complex.specs.declared.Complex.{Complex}
 use Rattle.complex.specs.Arithmetic.{mul, czero, cone, cadd, csub, cmul, conj, cfinite, size, larger}

@@ -1,5 +1,6 @@
 -- A list of +0 is blocks of +0. Assumes nothing.
-use Rattle.lists.specs.Prelude.{◌≡◌, sym, ap, ◌∙◌, List, ℕ, ◌*◌, ◌<◌, mul_assoc, mul_comm, arith, replicate, length-replicate, get_or-replicate, ext_get_or, Float}
+use Rattle.std.specs.Prelude.{◌≡◌, ◌*◌, ◌<◌}
+use Rattle.lists.specs.Prelude.{sym, ap, ◌∙◌, List, ℕ, mul_assoc, mul_comm, arith, replicate, length-replicate, get_or-replicate, ext_get_or, Float}
 use Rattle.lists.specs.Indexed.{join}
 use Rattle.lists.specs.Agreement.{join_agree}
 use Rattle.lists.specs.Reading.{length-join, each_in_join}

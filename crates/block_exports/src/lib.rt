@@ -3,7 +3,7 @@
 
 pub mod blocks;
 
-ghost use Rattle.lists.specs.Prelude.{◌≡◌};
+ghost use Rattle.std.specs.Prelude.{◌≡◌};
 ghost use Rattle.norm.specs.Norm.{norm};
 ghost use Rattle.block_exports.specs.Chain.{chained};
 

@@ -1,6 +1,7 @@
 -- P12's first two points in a capacity of 3, and its third appended: what the law of appends supposes can be met. The run's own inputs hold NaN past its
 -- points, and its tolerance, session and desk are others. Assumes nothing.
-use Rattle.lists.specs.Prelude.{◌≡◌, refl, sym, ◌∙◌, List, [], ◌∷◌, ℕ, ◌+◌, ◌<◌, arith, get_or, replicate, Float, nan}
+use Rattle.std.specs.Prelude.{◌≡◌, ◌∷◌, ◌+◌, ◌<◌}
+use Rattle.lists.specs.Prelude.{refl, sym, ◌∙◌, List, [], ℕ, arith, get_or, replicate, Float, nan}
 use Rattle.complex.specs.Arithmetic.{plus_zero, one}
 use Rattle.two_time.specs.Example.{floats}
 use Rattle.transient_run.specs.declared.Solved.TheVariants.{Accepted}

@@ -1,6 +1,7 @@
 -- The law of appends: calls leave what the run over all points leaves, and count like it. What an append reads at old places is what that run makes there,
 -- by the theorem on which demand 3 rests. Assumes nothing.
-use Rattle.lists.specs.Prelude.{◌≡◌, refl, sym, ap, subst, ◌∙◌, true, List, ℕ, suc, ◌-◌, ◌*◌, ◌≤◌, ◌<◌, zero-mul, eqb, length, max, le_refl, le-leb, lt-ltb, dec_lt, arith, get_or-replicate, Float}
+use Rattle.std.specs.Prelude.{◌≡◌, ◌-◌, ◌*◌, ◌≤◌, ◌<◌}
+use Rattle.lists.specs.Prelude.{refl, sym, ap, subst, ◌∙◌, true, List, ℕ, suc, zero-mul, eqb, length, max, le_refl, le-leb, lt-ltb, dec_lt, arith, get_or-replicate, Float}
 use Rattle.refusal.specs.declared.Verdict.{Verdict}
 use Rattle.refusal.specs.declared.Verdict.TheVariants.{Pass}
 use Rattle.refusal.specs.Verdict.{by, zeroed, ◌then◌}

@@ -1,6 +1,7 @@
 -- Whatever calls are made in a session: each desk's counter is the total that it was opened at and the counts of the accepted calls at that desk; the eight
 -- together are the opening totals and the counts of all accepted calls; and none passes 2^64 − 1. Assumes nothing.
-use Rattle.lists.specs.Prelude.{◌≡◌, refl, sym, ap, ap₂, ◌∙◌, Bool, true, false, cond, List, [], ◌∷◌, ℕ, zero, suc, ◌+◌, ◌≤◌, ◌<◌, add-zero, zero-add, add_assoc, arith, dec_lt, eqb-true, eqb-false, length, get_or, set, length-set, get_or-set_same, get_or-set_other}
+use Rattle.std.specs.Prelude.{◌≡◌, ◌∷◌, ◌+◌, ◌≤◌, ◌<◌}
+use Rattle.lists.specs.Prelude.{refl, sym, ap, ap₂, ◌∙◌, Bool, true, false, cond, List, [], ℕ, zero, suc, add-zero, zero-add, add_assoc, arith, dec_lt, eqb-true, eqb-false, length, get_or, set, length-set, get_or-set_same, get_or-set_other}
 use Rattle.refusal.specs.Agreement.{then-pass}
 use Rattle.transient_run.specs.declared.Solved.{Solved}
 use Rattle.transient_run.specs.declared.Solved.TheVariants.{Accepted, Refused as NotSolved}

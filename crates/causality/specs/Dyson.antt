@@ -1,5 +1,6 @@
 -- Demand 3 of Dyson calls: in slices laid out for its points, G is the G^R of a run that is given the same. Assumes nothing.
-use Rattle.lists.specs.Prelude.{◌≡◌, sym, subst, ◌∙◌, List, [], ℕ, le_refl, arith, replicate, Float}
+use Rattle.std.specs.Prelude.{◌≡◌}
+use Rattle.lists.specs.Prelude.{sym, subst, ◌∙◌, List, [], ℕ, le_refl, arith, replicate, Float}
 use Rattle.refusal.specs.declared.Verdict.TheVariants.{Pass}
 use Rattle.refusal.specs.Verdict.{zeroed}
 use Rattle.dyson.specs.Retarded.{new_retarded}

@@ -1,5 +1,6 @@
 -- Demand 3 excludes a solver that reads later data: the transient run but for G(0,0), which it takes from free at the last point. Assumes nothing.
-use Rattle.lists.specs.Prelude.{◌≡◌, refl, sym, ap, ◌∙◌, true, cond, ◌&&◌, ℕ, ◌-◌, ◌<◌, arith, eqb, get_or, nan, binary64, to_bits}
+use Rattle.std.specs.Prelude.{◌≡◌, ◌&&◌, ◌-◌, ◌<◌}
+use Rattle.lists.specs.Prelude.{refl, sym, ap, ◌∙◌, true, cond, ℕ, arith, eqb, get_or, nan, binary64, to_bits}
 use Rattle.std.specs.Float.Ieee as Ieee
 use Rattle.complex.specs.declared.Complex.{Complex}
 use Rattle.refusal.specs.declared.Verdict.TheVariants.{Pass}

@@ -1,6 +1,7 @@
 -- A desk's counter that is filled: "17 if the session counter would pass 2^64 − 1", which exactly 2^64 − 1 does not; "Number 17 then concerns that desk's
 -- counter"; "22 if the desk is above 7, before line 1". Assumes nothing.
-use Rattle.lists.specs.Prelude.{◌≡◌, refl, List, [], ◌∷◌, ℕ, ◌-◌, replicate, set}
+use Rattle.std.specs.Prelude.{◌≡◌, ◌∷◌, ◌-◌}
+use Rattle.lists.specs.Prelude.{refl, List, [], ℕ, replicate, set}
 use Rattle.complex.specs.Arithmetic.{one}
 use Rattle.refusal.specs.Verdict.{by}
 use Rattle.transient_run.specs.declared.Solved.TheVariants.{Accepted, Refused as NotSolved}

@@ -1,7 +1,8 @@
 -- Document 02, L1: "After an accepted run and any list of accepted appends, each told the n and capacity of the call before and the points it left, with
 -- inputs at old points, outputs and scratch untouched between calls, the buffers hold the run over all points, and demand 3 holds of them as of that run."
 -- L3: "A run and its appends count like the run over all points."
-use Rattle.lists.specs.Prelude.{◌≡◌, ℕ, suc, ◌+◌, ◌≤◌, ◌<◌}
+use Rattle.std.specs.Prelude.{◌≡◌, ◌+◌, ◌≤◌, ◌<◌}
+use Rattle.lists.specs.Prelude.{ℕ, suc}
 use Rattle.transient_run.specs.declared.Solved.TheVariants.{Accepted}
 use Rattle.transient_run.specs.declared.Session.{Session}
 use Rattle.transient_run.specs.Products.{count_of}

@@ -1,7 +1,8 @@
 -- Two calls that are related up to k, of which the second begins at 0: where the first's slices hold at old places what is related to what the second makes
 -- there, all that the two make is related up to k; and where they agree it is finite together. Demand 3 is the case of equality where nothing is old, the law
 -- of appends that of equality and one new point; two dots that do not couple (document 02, L12) are another relation. Assumes nothing.
-use Rattle.lists.specs.Prelude.{◌≡◌, refl, sym, ap₂, ◌∙◌, true, ◌&&◌, List, ℕ, ◌-◌, ◌≤◌, ◌<◌, max, le_trans, dec_lt, arith, Float}
+use Rattle.std.specs.Prelude.{◌≡◌, ◌&&◌, ◌-◌, ◌≤◌, ◌<◌}
+use Rattle.lists.specs.Prelude.{refl, sym, ap₂, ◌∙◌, true, List, ℕ, max, le_trans, dec_lt, arith, Float}
 use Rattle.lists.specs.Indexed.{all_below}
 use Rattle.lists.specs.Agreement.{both}
 use Rattle.block.specs.Block.{Entries}

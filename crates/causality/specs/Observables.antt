@@ -1,6 +1,7 @@
 -- Observables asked of the lesser functions that two runs left: where the functions agree at the index, the answers are the same.
 -- Assumes nothing.
-use Rattle.lists.specs.Prelude.{◌≡◌, refl, sym, ap, ap₂, ◌∙◌, true, ◌&&◌, List, [], ◌∷◌, ℕ, zero, suc, ◌+◌, ◌*◌, ◌/◌, ◌%◌, ◌≤◌, ◌<◌, div-add-mod', mod-lt, div-lt_iff_lt-mul, mul-zero}
+use Rattle.std.specs.Prelude.{◌≡◌, ◌&&◌, ◌∷◌, ◌+◌, ◌*◌, ◌/◌, ◌%◌, ◌≤◌, ◌<◌}
+use Rattle.lists.specs.Prelude.{refl, sym, ap, ap₂, ◌∙◌, true, List, [], ℕ, zero, suc, div-add-mod', mod-lt, div-lt_iff_lt-mul, mul-zero}
 use Rattle.lists.specs.Prelude.{dec_lt, arith, ltb, eqb, length, get_or, Float, nan, binary64, of_bits, lt-ltb, ltb-true, eq-eqb, eqb-true, le-leb}
 use Rattle.lists.specs.Agreement.{both, all_agree}
 use Rattle.complex.specs.declared.Complex.{Complex}

@@ -1,6 +1,7 @@
 -- P12's run and the run of its first two points: both are accepted and agree up to 1, so what demand 3 supposes can be met, by runs of different
 -- N, capacity, session and desk too, and of different forms. Assumes nothing.
-use Rattle.lists.specs.Prelude.{◌≡◌, refl, true, [], ◌∷◌, ℕ, zero, suc, ◌≤◌, arith, get_or, replicate, Float, nan, binary64}
+use Rattle.std.specs.Prelude.{◌≡◌, ◌∷◌, ◌≤◌}
+use Rattle.lists.specs.Prelude.{refl, true, [], ℕ, zero, suc, arith, get_or, replicate, Float, nan, binary64}
 use Rattle.std.specs.Float.Ieee as Ieee
 use Rattle.complex.specs.Arithmetic.{plus_zero, one}
 use Rattle.refusal.specs.declared.Verdict.TheVariants.{Pass}

@@ -2,7 +2,8 @@
 -- L13: "Keep eight counters, one for each desk numbered 0 to 7, in place of the session's one, each opened at the total its own desk carries over. A run or
 -- append names its desk; no other desk's counter changes, and over any list of calls from zero the eight sum to the counts of the accepted ones."
 -- Lists of calls in a session: runs and appends, accepted or refused, at any desks.
-use Rattle.lists.specs.Prelude.{List, [], ◌∷◌, ℕ, ◌+◌, ◌≤◌, ◌<◌, Bool, true, cond, eqb, replicate}
+use Rattle.std.specs.Prelude.{◌∷◌, ◌+◌, ◌≤◌, ◌<◌}
+use Rattle.lists.specs.Prelude.{List, [], ℕ, Bool, true, cond, eqb, replicate}
 use Rattle.transient_run.specs.declared.Solved.{Solved}
 use Rattle.transient_run.specs.declared.Solved.TheVariants.{Accepted, Refused as NotSolved}
 use Rattle.transient_run.specs.declared.Session.{Session}

@@ -1,6 +1,7 @@
 -- A solver that asks the run's questions and leaves two functions of places meets demand 3 where those functions read no later data.
 -- Assumes nothing.
-use Rattle.lists.specs.Prelude.{◌≡◌, refl, sym, ap, subst, ◌∙◌, true, List, ℕ, ◌≤◌, ◌<◌, arith, Float}
+use Rattle.std.specs.Prelude.{◌≡◌, ◌≤◌, ◌<◌}
+use Rattle.lists.specs.Prelude.{refl, sym, ap, subst, ◌∙◌, true, List, ℕ, arith, Float}
 use Rattle.complex.specs.Arithmetic.{czero, cfinite}
 use Rattle.refusal.specs.declared.Verdict.{Verdict}
 use Rattle.refusal.specs.declared.Verdict.TheVariants.{Pass}

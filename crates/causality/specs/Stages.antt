@@ -1,6 +1,7 @@
 -- Each stage of a run reads only what stands on and below the diagonal in rows to k, or with both indices to k: where two runs are related there, by a
 -- relation that every sum keeps (two_time, specs/Relation.antt), the terms of the four sums at a place are related. Assumes nothing.
-use Rattle.lists.specs.Prelude.{◌≡◌, refl, sym, subst, List, ℕ, zero, suc, ◌≤◌, ◌<◌, le_trans, dec_lt, arith, Float}
+use Rattle.std.specs.Prelude.{◌≡◌, ◌≤◌, ◌<◌}
+use Rattle.lists.specs.Prelude.{refl, sym, subst, List, ℕ, zero, suc, le_trans, dec_lt, arith, Float}
 use Rattle.complex.specs.declared.Complex.{Complex}
 use Rattle.block.specs.Block.{Entries}
 use Rattle.block.specs.Operations.{adjoint}

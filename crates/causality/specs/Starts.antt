@@ -1,6 +1,7 @@
 -- What G^< starts from: two starts agree where g0, G^R(t,0) and G^R(u,0) do, of one form, and of either form where G^R(t,0) and G^R(u,0) are finite;
 -- and a start that is finite on the way is finite. Assumes nothing.
-use Rattle.lists.specs.Prelude.{◌≡◌, refl, sym, ap, ◌∙◌, Bool, true, false, List, ℕ, ◌<◌, eqb, eqb-true, Float}
+use Rattle.std.specs.Prelude.{◌≡◌, ◌<◌}
+use Rattle.lists.specs.Prelude.{refl, sym, ap, ◌∙◌, Bool, true, false, List, ℕ, eqb, eqb-true, Float}
 use Rattle.std.specs.Float.Ieee as Ieee
 use Rattle.lists.specs.Agreement.{both, other}
 use Rattle.complex.specs.Arithmetic.{finite, cfinite}

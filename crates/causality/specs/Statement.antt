@@ -1,5 +1,6 @@
 -- Document 01, "Words of demand 3": no later data reaches an earlier row.
-use Rattle.lists.specs.Prelude.{◌≡◌, true, List, ℕ, ◌≤◌, ◌<◌, Float}
+use Rattle.std.specs.Prelude.{◌≡◌, ◌≤◌, ◌<◌}
+use Rattle.lists.specs.Prelude.{true, List, ℕ, Float}
 use Rattle.complex.specs.declared.Complex.{Complex}
 use Rattle.complex.specs.Arithmetic.{czero}
 use Rattle.refusal.specs.declared.Verdict.TheVariants.{Pass}

@@ -1,5 +1,6 @@
 -- Demand 3 of the transient run. Assumes nothing.
-use Rattle.lists.specs.Prelude.{◌≡◌, ◌∙◌, true, ℕ, ◌<◌, arith}
+use Rattle.std.specs.Prelude.{◌≡◌, ◌<◌}
+use Rattle.lists.specs.Prelude.{◌∙◌, true, ℕ, arith}
 use Rattle.lists.specs.Agreement.{both}
 use Rattle.complex.specs.Arithmetic.{cfinite}
 use Rattle.refusal.specs.declared.Verdict.TheVariants.{Pass}

@@ -1,6 +1,7 @@
 -- Demand 3 alone is weak: a solver that leaves +0 everywhere, and one that leaves the free function with +0 above the diagonal, meet the same
 -- statement, and P11 tells both from the definition. So the rows themselves are demand 2's. Assumes nothing.
-use Rattle.lists.specs.Prelude.{◌≡◌, refl, sym, ap, ◌∙◌, true, cond, ℕ, ◌<◌, arith, ltb, get_or, replicate, nan, binary64, to_bits, lt-ltb, ltb-false}
+use Rattle.std.specs.Prelude.{◌≡◌, ◌<◌}
+use Rattle.lists.specs.Prelude.{refl, sym, ap, ◌∙◌, true, cond, ℕ, arith, ltb, get_or, replicate, nan, binary64, to_bits, lt-ltb, ltb-false}
 use Rattle.std.specs.Float.Ieee as Ieee
 use Rattle.lists.specs.Indexed.{join}
 use Rattle.lists.specs.Agreement.{cond_agree}

@@ -1,5 +1,6 @@
 -- The sum at a place over an interval from the first point on, at one orbital: where its numbers stand, and what is added for each s.
-use Rattle.lists.specs.Prelude.{◌≡◌, refl, sym, ap, ◌∙◌, Bool, true, false, List, ℕ, ◌+◌, ◌*◌, ◌<◌, mul_left_comm, arith, Float}
+use Rattle.std.specs.Prelude.{◌≡◌, ◌+◌, ◌*◌, ◌<◌}
+use Rattle.lists.specs.Prelude.{refl, sym, ap, ◌∙◌, Bool, true, false, List, ℕ, mul_left_comm, arith, Float}
 use Rattle.lists.specs.Indexed.{fold}
 use Rattle.lists.specs.Agreement.{never}
 use Rattle.complex.specs.declared.Complex.{Complex}

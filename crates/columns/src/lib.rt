@@ -2,7 +2,8 @@
 // number: the new column of an append is such places, one to a row. Sixteen lanes would hold one sum there.
 #![tactic(auto)]
 
-ghost use Rattle.lists.specs.Prelude.{◌≡◌, ℕ, cond, ◌+◌, ◌*◌, ◌<◌, ◌≤◌, length};
+ghost use Rattle.std.specs.Prelude.{◌≡◌, ◌+◌, ◌*◌, ◌<◌, ◌≤◌};
+ghost use Rattle.lists.specs.Prelude.{ℕ, cond, length};
 ghost use Rattle.complex.specs.Arithmetic.{cfinite};
 ghost use Rattle.complex.specs.Numbers.{pair};
 ghost use Rattle.complex.specs.Sum.{sum_from};

@@ -1,5 +1,6 @@
 -- Two sums whose terms agree agree, and one more term of a sum. Assumes nothing.
-use Rattle.lists.specs.Prelude.{◌≡◌, refl, ◌∙◌, ℕ, ◌+◌, ◌<◌, zero-add}
+use Rattle.std.specs.Prelude.{◌≡◌, ◌+◌, ◌<◌}
+use Rattle.lists.specs.Prelude.{refl, ◌∙◌, ℕ, zero-add}
 use Rattle.lists.specs.Indexed.{fold}
 use Rattle.lists.specs.Agreement.{fold_agree}
 use Rattle.lists.specs.Steps.{fold_more}

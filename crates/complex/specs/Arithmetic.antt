@@ -1,6 +1,7 @@
 -- Document 01, "Arithmetic under everything". A complex number is one value of two binary64 parts, and every + − × is one
 -- binary64 operation, rounded once, ties to even. -0 and +0 differ and there is one NaN, so two equal values agree in bits.
-use Rattle.lists.specs.Prelude.{Bool, true, false, cond, ◌&&◌, ◌||◌, Float, nan, inf, fin, binary64}
+use Rattle.std.specs.Prelude.{◌&&◌, ◌||◌}
+use Rattle.lists.specs.Prelude.{Bool, true, false, cond, Float, nan, inf, fin, binary64}
 use Rattle.std.specs.Float.Ieee as Ieee
 use Rattle.complex.specs.declared.Complex.{Complex}
 

@@ -1,5 +1,6 @@
 -- Where the language's `to_bits` and `from_bits` are defined. Assumes nothing.
-use Rattle.lists.specs.Prelude.{◌≡◌, sym, ◌∙◌, subst, Bool, false, not, true≢false, ℕ, ◌*◌, ◌%◌, ◌^◌, ◌≤◌, T, le→nltb, Float, nan, inf, fin, binary64, ne, is_nan, nan_bits}
+use Rattle.std.specs.Prelude.{◌≡◌, ◌*◌, ◌%◌, ◌^◌, ◌≤◌}
+use Rattle.lists.specs.Prelude.{sym, ◌∙◌, subst, Bool, false, not, true≢false, ℕ, T, le→nltb, Float, nan, inf, fin, binary64, ne, is_nan, nan_bits}
 use Rattle.std.specs.Float.Ieee.Bits.{nan_bits_above}
 use Rattle.std.specs.Float.Ieee.Compare.{nan_differs}
 

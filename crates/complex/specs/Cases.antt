@@ -1,5 +1,6 @@
 -- Closed cases of the arithmetic: the expected bits are IEEE 754's, and reference/document01.py gives the same.
-use Rattle.lists.specs.Prelude.{◌≡◌, refl, true, false, List, [], ◌∷◌, map, ℕ, zero, suc, Float, nan, inf, binary64, to_bits}
+use Rattle.std.specs.Prelude.{◌≡◌, ◌∷◌}
+use Rattle.lists.specs.Prelude.{refl, true, false, List, [], map, ℕ, zero, suc, Float, nan, inf, binary64, to_bits}
 use Rattle.std.specs.Float.Ieee as Ieee
 use Rattle.lists.specs.Indexed.{fold}
 use Rattle.complex.specs.declared.Complex.{Complex}

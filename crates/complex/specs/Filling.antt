@@ -1,5 +1,6 @@
 -- A slice of numbers that a loop fills with complex numbers, one a step. Assumes nothing.
-use Rattle.lists.specs.Prelude.{◌≡◌, refl, ◌∙◌, List, ℕ, ◌+◌, ◌*◌, ◌<◌, mul_comm, length, set, Float}
+use Rattle.std.specs.Prelude.{◌≡◌, ◌+◌, ◌*◌, ◌<◌}
+use Rattle.lists.specs.Prelude.{refl, ◌∙◌, List, ℕ, mul_comm, length, set, Float}
 use Rattle.lists.specs.Indexed.{join}
 use Rattle.lists.specs.Reading.{length-join}
 use Rattle.lists.specs.Steps.{join_more}

@@ -1,6 +1,7 @@
 -- What is not finite stays so: a sum or a product is finite only where both sides are, so a test of the last result tests each step to it.
 -- Assumes nothing.
-use Rattle.lists.specs.Prelude.{◌≡◌, refl, sym, ◌∙◌, Bool, true, false, cond, beq, eqb, Float, nan, inf, fin}
+use Rattle.std.specs.Prelude.{◌≡◌}
+use Rattle.lists.specs.Prelude.{refl, sym, ◌∙◌, Bool, true, false, cond, beq, eqb, Float, nan, inf, fin}
 use Rattle.std.specs.Float.Ieee as Ieee
 use Rattle.lists.specs.Agreement.{never, both}
 use Rattle.complex.specs.declared.Complex.{Complex}

@@ -1,5 +1,6 @@
 -- The largest of numbers in the order of a list is that by rows and columns. Assumes nothing.
-use Rattle.lists.specs.Prelude.{◌≡◌, ap, ◌∙◌, refl, ℕ, zero, suc, ◌+◌, ◌*◌, add-zero, add-suc, suc-mul, zero-mul, Float}
+use Rattle.std.specs.Prelude.{◌≡◌, ◌+◌, ◌*◌}
+use Rattle.lists.specs.Prelude.{ap, ◌∙◌, refl, ℕ, zero, suc, add-zero, add-suc, suc-mul, zero-mul, Float}
 use Rattle.lists.specs.Indexed.{fold}
 use Rattle.complex.specs.Arithmetic.{plus_zero}
 use Rattle.complex.specs.Sum.{largest_from, largest_in}

@@ -1,12 +1,12 @@
 -- The lemma of document 02, L12: a sum that begins at +0 is never −0, so a zero of either sign leaves its bits. In round to nearest a sum of two numbers is −0
 -- only where both are. It holds of numbers that binary64 holds, and every product is one. Assumes nothing.
-use Rattle.lists.specs.Prelude.{◌≡◌, refl, sym, ap, ◌∙◌, Bool, true, false, cond, ◌&&◌, beq, ℕ, zero, suc, ◌+◌, ◌-◌, ◌*◌, ◌/◌, ◌%◌, ◌^◌, ◌≤◌, ◌<◌, zero-le, compare, le_refl, le_trans}
+use Rattle.lists.specs.Prelude.{refl, sym, ap, ◌∙◌, Bool, true, false, cond, beq, ℕ, zero, suc, zero-le, compare, le_refl, le_trans}
 use Rattle.lists.specs.Prelude.{le_of_suc-le-suc, lt_irrefl, lt_of_lt_of_le, lt_of_not-le, zero-mul, one-mul, mul-one, suc-mul, add-zero, sub-zero, mul_comm, mul_assoc, mul-pos, mul-le-mul_right}
 use Rattle.lists.specs.Prelude.{mul-lt-mul_of_pos_right, lt_of_mul-lt-mul_right, le-div_iff_mul-le, arith, T, ltb, leb, eqb, leb→le, ltb→lt, ℤ, pos, negsuc, pow-add, pow_pos, pow-lt, lt-ltb, le-ltb, ltb-true}
 use Rattle.std.proofs.Common.{mul_right_comm}
 use Rattle.std.proofs.Math.Nat.{mul-sub}
 use Rattle.std.specs.Float.Ieee as Ieee
-use Rattle.std.specs.Prelude.{Float}
+use Rattle.std.specs.Prelude.{Float, ◌≡◌, ◌&&◌, ◌+◌, ◌-◌, ◌*◌, ◌/◌, ◌%◌, ◌^◌, ◌≤◌, ◌<◌}
 use Rattle.std.specs.Float.{nan, inf, fin, binary64}
 use Rattle.std.specs.Float.Ieee.{prec, emax, low, up, down, size, odd, units, round, fits, to_bits, of_bits}
 use Rattle.std.specs.Float.Ieee.Digits.{size-lt, size_reaches, back}

@@ -1,5 +1,6 @@
 -- Complex numbers in a list of numbers, the real part before the imaginary (document 01, "Kept, renewed, left behind").
-use Rattle.lists.specs.Prelude.{ℕ, ◌+◌, List, [], ◌∷◌, get_or, Float, nan}
+use Rattle.std.specs.Prelude.{◌+◌, ◌∷◌}
+use Rattle.lists.specs.Prelude.{ℕ, List, [], get_or, Float, nan}
 use Rattle.complex.specs.declared.Complex.{Complex}
 
 -- the complex number whose real part stands at place i of xs

@@ -1,5 +1,6 @@
 -- Document 01, "Arithmetic under everything": "a sum starts at +0+0i and adds in index order". Every sum of the document is this one.
-use Rattle.lists.specs.Prelude.{ℕ, ◌+◌, Float}
+use Rattle.std.specs.Prelude.{◌+◌}
+use Rattle.lists.specs.Prelude.{ℕ, Float}
 use Rattle.lists.specs.Indexed.{fold}
 use Rattle.complex.specs.declared.Complex.{Complex}
 use Rattle.complex.specs.Arithmetic.{cadd, czero, larger, plus_zero}

@@ -1,5 +1,6 @@
 -- Zeros of either sign: what is made of them, what a finite number times one is, and that a sum from +0 of such a product is +0. Assumes nothing.
-use Rattle.lists.specs.Prelude.{◌≡◌, refl, sym, Bool, true, false, ℕ, ◌*◌, ◌<◌, mul-pos, zero-mul, mul-zero, pow_pos, Float, nan, inf, fin, pos, up, down, binary64, round}
+use Rattle.std.specs.Prelude.{◌≡◌, ◌*◌, ◌<◌}
+use Rattle.lists.specs.Prelude.{refl, sym, Bool, true, false, ℕ, mul-pos, zero-mul, mul-zero, pow_pos, Float, nan, inf, fin, pos, up, down, binary64, round}
 use Rattle.std.specs.Float.Ieee as Ieee
 use Rattle.std.specs.Float.Ieee.{unlike}
 use Rattle.std.specs.Float.Ieee.Fits.{down_pos}

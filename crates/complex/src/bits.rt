@@ -1,5 +1,6 @@
 // Numbers and their 64 bits, for all values: the language's own `from_bits` and `to_bits` are undefined at a NaN.
-ghost use Rattle.lists.specs.Prelude.{◌≡◌, binary64, of_bits, to_bits};
+ghost use Rattle.std.specs.Prelude.{◌≡◌};
+ghost use Rattle.lists.specs.Prelude.{binary64, of_bits, to_bits};
 
 // The number of a pattern; every NaN's pattern gives the one NaN.
 pub fn from_bits(bits: u64) -> f64

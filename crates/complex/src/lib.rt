@@ -3,7 +3,7 @@
 
 pub mod bits;
 
-ghost use Rattle.lists.specs.Prelude.{◌≡◌};
+ghost use Rattle.std.specs.Prelude.{◌≡◌};
 ghost use Rattle.complex.specs.Arithmetic.{real, finite, size, larger, cadd, csub, cmul, conj, cfinite};
 
 #[derive(Clone, Copy)]

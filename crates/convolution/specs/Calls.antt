@@ -1,5 +1,6 @@
 -- Document 01, convolutions: the outcome of each call.
-use Rattle.lists.specs.Prelude.{ℕ, List, [], ◌∷◌, Float}
+use Rattle.std.specs.Prelude.{◌∷◌}
+use Rattle.lists.specs.Prelude.{ℕ, List, [], Float}
 use Rattle.refusal.specs.declared.Verdict.{Verdict}
 use Rattle.refusal.specs.Verdict.{◌then◌, zeroed, afterwards}
 use Rattle.refusal.specs.Checks.{finite_work}

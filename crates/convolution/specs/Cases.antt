@@ -1,5 +1,6 @@
 -- Closed cases of both convolutions. Expected bits by reference/expected.py.
-use Rattle.lists.specs.Prelude.{◌≡◌, refl, List, [], ◌∷◌, map, ℕ, replicate, Float, nan, binary64, to_bits}
+use Rattle.std.specs.Prelude.{◌≡◌, ◌∷◌}
+use Rattle.lists.specs.Prelude.{refl, List, [], map, ℕ, replicate, Float, nan, binary64, to_bits}
 use Rattle.std.specs.Float.Ieee as Ieee
 use Rattle.complex.specs.Arithmetic.{plus_zero, one}
 use Rattle.refusal.specs.declared.Verdict.TheVariants.{Pass, Refused}

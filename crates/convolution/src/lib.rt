@@ -1,7 +1,7 @@
 // Both convolutions over lent slices (document 01, convolutions): the meaning of each call is in specs/.
 #![tactic(auto)]
 
-ghost use Rattle.lists.specs.Prelude.{◌≡◌};
+ghost use Rattle.std.specs.Prelude.{◌≡◌};
 ghost use Rattle.convolution.specs.Calls.{convolved_by, time_convolution, causal_convolution};
 
 use grid::check_grid;

@@ -1,5 +1,6 @@
 -- The verdict of a run has document 01's number of the answer. Assumes nothing.
-use Rattle.lists.specs.Prelude.{◌≡◌, refl}
+use Rattle.std.specs.Prelude.{◌≡◌}
+use Rattle.lists.specs.Prelude.{refl}
 use Rattle.refusal.specs.Verdict.{number_of}
 use Rattle.transient_run.specs.declared.Solved.{Solved}
 use Rattle.transient_run.specs.declared.Solved.TheVariants.{Accepted, Refused as NotSolved}

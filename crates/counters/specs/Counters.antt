@@ -1,6 +1,7 @@
 -- A run or an append at a desk of a session as it crosses: the session's counters (document 02, L3 and L13) are passed as a slice of eight numbers, desk
 -- 0's first, which afterwards holds those of the session that the call leaves (`booked`): an accepted call alone moves its desk's.
-use Rattle.lists.specs.Prelude.{ℕ, suc, false, cond, ◌&&◌, List, eqb, ltb, length, get_or, set, replicate}
+use Rattle.std.specs.Prelude.{◌&&◌}
+use Rattle.lists.specs.Prelude.{ℕ, suc, false, cond, List, eqb, ltb, length, get_or, set, replicate}
 use Rattle.refusal.specs.declared.Verdict.{Verdict}
 use Rattle.refusal.specs.declared.Verdict.TheVariants.{Pass, Refused}
 use Rattle.refusal.specs.Verdict.{◌then◌}

@@ -1,5 +1,6 @@
 -- A run or an append as its contract says it of its counters: a slice of eight numbers, and one of another length. Assumes nothing.
-use Rattle.lists.specs.Prelude.{◌≡◌, refl, sym, ap, ◌∙◌, true, false, List, [], ◌∷◌, ℕ, zero, suc, ◌+◌, ◌<◌, min, eqb, length, set, get_or, get_or-set_same, eq-eqb, ne_eqb, lt-ltb, arith, leb, leb-true, le-leb, Float}
+use Rattle.std.specs.Prelude.{◌≡◌, ◌∷◌, ◌+◌, ◌<◌}
+use Rattle.lists.specs.Prelude.{refl, sym, ap, ◌∙◌, true, false, List, [], ℕ, zero, suc, min, eqb, length, set, get_or, get_or-set_same, eq-eqb, ne_eqb, lt-ltb, arith, leb, leb-true, le-leb, Float}
 use Rattle.refusal.specs.declared.Verdict.{Verdict}
 use Rattle.refusal.specs.declared.Verdict.TheVariants.{Pass, Refused}
 use Rattle.refusal.specs.Verdict.{by, ask, ◌then◌}

@@ -1,7 +1,7 @@
 // How a session crosses to a program in C or Rust: as its counters, a slice of eight numbers, one for each desk.
 #![tactic(auto)]
 
-ghost use Rattle.lists.specs.Prelude.{◌≡◌};
+ghost use Rattle.std.specs.Prelude.{◌≡◌};
 ghost use Rattle.answers.specs.Answer.{after, answers};
 ghost use Rattle.counters.specs.Counters.{solved_verdict, session_in, counters_after};
 

@@ -1,7 +1,8 @@
 -- Closed cases of L12, of two points and two orbitals, one in each group: two accepted runs to which the theorem applies, with other second groups and zeros
 -- of the other sign; and an accepted run that agrees with the first in the first group, but whose groups couple, and that leaves another first group.
 -- Assumes nothing.
-use Rattle.lists.specs.Prelude.{◌≡◌, refl, sym, ap, subst, ◌∙◌, Bool, true, false, cond, List, [], ◌∷◌, ℕ, zero, suc, ◌<◌, arith, ltb, get_or, drop, replicate, Float, nan, binary64, to_bits}
+use Rattle.std.specs.Prelude.{◌≡◌, ◌∷◌, ◌<◌}
+use Rattle.lists.specs.Prelude.{refl, sym, ap, subst, ◌∙◌, Bool, true, false, cond, List, [], ℕ, zero, suc, arith, ltb, get_or, drop, replicate, Float, nan, binary64, to_bits}
 use Rattle.std.specs.Float.Ieee as Ieee
 use Rattle.lists.specs.Agreement.{never}
 use Rattle.complex.specs.declared.Complex.{Complex}

@@ -1,5 +1,6 @@
 -- Document 01, Dyson: the outcome of `solve_retarded`, `retarded_dyson_with_tolerance` and `retarded_dyson`.
-use Rattle.lists.specs.Prelude.{ℕ, Bool, true, ◌&&◌, List, [], ◌∷◌, leb, Float, binary64, of_bits}
+use Rattle.std.specs.Prelude.{◌&&◌, ◌∷◌}
+use Rattle.lists.specs.Prelude.{ℕ, Bool, true, List, [], leb, Float, binary64, of_bits}
 use Rattle.refusal.specs.declared.Verdict.{Verdict}
 use Rattle.refusal.specs.Verdict.{◌then◌, zeroed, afterwards}
 use Rattle.refusal.specs.Checks.{finite_work}

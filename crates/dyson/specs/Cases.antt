@@ -1,5 +1,6 @@
 -- Closed cases of the Dyson call: P11 of document 01, a run with two orbitals (reference/expected.py, case c), and each refusal of its own.
-use Rattle.lists.specs.Prelude.{◌≡◌, refl, List, [], ◌∷◌, ◌++◌, ℕ, replicate, take, Float, binary64}
+use Rattle.std.specs.Prelude.{◌≡◌, ◌∷◌, ◌++◌}
+use Rattle.lists.specs.Prelude.{refl, List, [], ℕ, replicate, take, Float, binary64}
 use Rattle.std.specs.Float.Ieee as Ieee
 use Rattle.complex.specs.Arithmetic.{plus_zero, one}
 use Rattle.refusal.specs.declared.Verdict.{Verdict}

@@ -1,5 +1,6 @@
 -- K and G at the new places: what the answers on the way say of them, and that those from 0 on are all. Assumes nothing.
-use Rattle.lists.specs.Prelude.{◌≡◌, refl, sym, ap, ap₂, ◌∙◌, Bool, true, false, cond, ◌&&◌, List, [], ◌∷◌, ℕ, zero, suc, le_refl, arith, leb, ltb, le-leb, le-ltb, length, Float}
+use Rattle.std.specs.Prelude.{◌≡◌, ◌&&◌, ◌∷◌}
+use Rattle.lists.specs.Prelude.{refl, sym, ap, ap₂, ◌∙◌, Bool, true, false, cond, List, [], ℕ, zero, suc, le_refl, arith, leb, ltb, le-leb, le-ltb, length, Float}
 use Rattle.complex.specs.declared.Complex.{Complex}
 use Rattle.complex.specs.Arithmetic.{czero}
 use Rattle.block.specs.Operations.{zeros}

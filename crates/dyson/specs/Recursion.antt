@@ -1,6 +1,7 @@
 -- The recursion as the document writes it: on and below the diagonal G(i,j) is the sum over G's own earlier rows, of which those before `old` are held.
 -- Assumes nothing.
-use Rattle.lists.specs.Prelude.{◌≡◌, refl, sym, ◌∙◌, Bool, List, ℕ, zero, suc, ◌-◌, ◌≤◌, ◌<◌, arith, ltb, Float, le-ltb, lt-ltb}
+use Rattle.std.specs.Prelude.{◌≡◌, ◌-◌, ◌≤◌, ◌<◌}
+use Rattle.lists.specs.Prelude.{refl, sym, ◌∙◌, Bool, List, ℕ, zero, suc, arith, ltb, Float, le-ltb, lt-ltb}
 use Rattle.lists.specs.Agreement.{cond_agree}
 use Rattle.complex.specs.Arithmetic.{czero}
 use Rattle.block.specs.Agreement.{Agree}

@@ -1,5 +1,6 @@
 -- Row t of G from the rows before it, as they stand in a slice laid out for a capacity: where these are G's, so is row t. Assumes nothing.
-use Rattle.lists.specs.Prelude.{◌≡◌, refl, sym, ap, ap₂, ◌∙◌, ◌⊎◌, inl, inr, ⊎_elim, Bool, true, false, not, cond, ◌&&◌, ◌||◌, and-true, List, ℕ, ◌+◌, ◌-◌, ◌*◌, ◌≤◌, ◌<◌, max, zero-mul, add-zero, zero-add, dec_lt, arith, ltb}
+use Rattle.std.specs.Prelude.{◌≡◌, ◌⊎◌, ◌&&◌, ◌||◌, ◌+◌, ◌-◌, ◌*◌, ◌≤◌, ◌<◌}
+use Rattle.lists.specs.Prelude.{refl, sym, ap, ap₂, ◌∙◌, inl, inr, ⊎_elim, Bool, true, false, not, cond, and-true, List, ℕ, max, zero-mul, add-zero, zero-add, dec_lt, arith, ltb}
 use Rattle.lists.specs.Prelude.{leb, eqb, length, Float, leb-true, ltb-true, ltb-false, lt-ltb, le-ltb, eq-eqb, put_mid}
 use Rattle.lists.specs.Indexed.{all_below, all_in, join}
 use Rattle.lists.specs.Agreement.{all_agree, join_agree, each_all, both}

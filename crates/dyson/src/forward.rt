@@ -1,5 +1,6 @@
 // Forward substitution: G row by row, each from K and the rows before it, which are read again from the output slice.
-ghost use Rattle.lists.specs.Prelude.{◌≡◌, ◌≤◌, true, [], ◌∷◌};
+ghost use Rattle.std.specs.Prelude.{◌≡◌, ◌≤◌, ◌∷◌};
+ghost use Rattle.lists.specs.Prelude.{true, []};
 ghost use Rattle.two_time.specs.New.{cleared_new};
 ghost use Rattle.two_time.specs.SizeChecks.{SizesPassed};
 ghost use Rattle.dyson.specs.Retarded.{new_retarded, new_retarded_finite};

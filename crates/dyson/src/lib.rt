@@ -3,7 +3,7 @@
 
 mod forward;
 
-ghost use Rattle.lists.specs.Prelude.{◌≡◌};
+ghost use Rattle.std.specs.Prelude.{◌≡◌};
 ghost use Rattle.dyson.specs.Calls.{dyson, dyson_with_tolerance, equation_of, solved_retarded, solved_new};
 
 use forward::forward;

@@ -1,5 +1,6 @@
 -- The checks of a list of queries as the code asks them, and what it says that they pass: each query is answered as by the single call. Assumes nothing.
-use Rattle.lists.specs.Prelude.{◌≡◌, refl, sym, ap, ◌∙◌, Bool, true, false, ◌&&◌, List, [], ◌∷◌, ℕ, ◌-◌, ◌*◌, ◌≤◌, arith, eqb, length, get_or, Float, nan, eqb-true, eq-eqb}
+use Rattle.std.specs.Prelude.{◌≡◌, ◌&&◌, ◌∷◌, ◌-◌, ◌*◌, ◌≤◌}
+use Rattle.lists.specs.Prelude.{refl, sym, ap, ◌∙◌, Bool, true, false, List, [], ℕ, arith, eqb, length, get_or, Float, nan, eqb-true, eq-eqb}
 use Rattle.lists.specs.Indexed.{join}
 use Rattle.lists.specs.Agreement.{both, join_agree}
 use Rattle.complex.specs.Numbers.{entry_at}

@@ -1,6 +1,7 @@
 -- Document 02, L6: "Take a list of queries (time, a, b, hopping, factor) as slices, and write each answer in list order into two lent slices of the
 -- list's length: the flow (+0 on a refusal) and the refusal's number (0 if none)."
-use Rattle.lists.specs.Prelude.{ℕ, ◌*◌, Bool, ◌&&◌, List, [], ◌∷◌, eqb, length, get_or, Float, nan}
+use Rattle.std.specs.Prelude.{◌*◌, ◌&&◌, ◌∷◌}
+use Rattle.lists.specs.Prelude.{ℕ, Bool, List, [], eqb, length, get_or, Float, nan}
 use Rattle.lists.specs.Indexed.{join}
 use Rattle.complex.specs.Arithmetic.{plus_zero}
 use Rattle.complex.specs.Numbers.{entry_at}

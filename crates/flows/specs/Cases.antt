@@ -1,5 +1,6 @@
 -- Closed cases of a list of bond flows: refused queries among others, lists that are refused whole, none and 1,025 of them, flows that are not finite.
-use Rattle.lists.specs.Prelude.{◌≡◌, refl, List, [], ◌∷◌, ℕ, ◌+◌, replicate, Float, nan, inf, true, false, binary64}
+use Rattle.std.specs.Prelude.{◌≡◌, ◌∷◌, ◌+◌}
+use Rattle.lists.specs.Prelude.{refl, List, [], ℕ, replicate, Float, nan, inf, true, false, binary64}
 use Rattle.std.specs.Float.Ieee as Ieee
 use Rattle.lists.specs.Indexed.{join}
 use Rattle.complex.specs.Arithmetic.{plus_zero, one, finite, cmul, cfinite}

@@ -1,7 +1,8 @@
 // Many bond flows in a call (document 02, L6): the checks of the lesser function are asked once, then each query is answered as by the single call.
 #![tactic(auto)]
 
-ghost use Rattle.lists.specs.Prelude.{◌≡◌, ◌*◌, ◌<◌, eqb, length};
+ghost use Rattle.std.specs.Prelude.{◌≡◌, ◌*◌, ◌<◌};
+ghost use Rattle.lists.specs.Prelude.{eqb, length};
 ghost use Rattle.lists.specs.Singles.{singles};
 ghost use Rattle.observables.specs.Calls.{observed_number};
 ghost use Rattle.flows.specs.Calls.{Queries, count, flow_of, list_checks, bond_flows_into};

@@ -1,5 +1,6 @@
 -- The weights of an interval read the times of the interval alone. Assumes nothing.
-use Rattle.lists.specs.Prelude.{◌≡◌, refl, ◌||◌, List, ℕ, ◌+◌, ◌-◌, ◌≤◌, arith, leb, ltb, eqb, get_or, Float, nan, eqb-false}
+use Rattle.std.specs.Prelude.{◌≡◌, ◌||◌, ◌+◌, ◌-◌, ◌≤◌}
+use Rattle.lists.specs.Prelude.{refl, List, ℕ, arith, leb, ltb, eqb, get_or, Float, nan, eqb-false}
 use Rattle.lists.specs.Agreement.{cond_agree}
 use Rattle.grid.specs.Weights.{half_step, interval_weight}
 use Rattle.grid.specs.Inside.{inside}

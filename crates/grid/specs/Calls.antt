@@ -1,5 +1,6 @@
 -- Document 01, grid: the outcome of each call. A call on the grid alone asks checks 1 and 2 of N alone.
-use Rattle.lists.specs.Prelude.{ℕ, Bool, true, ◌&&◌, List, [], ◌∷◌, eqb, length, Float}
+use Rattle.std.specs.Prelude.{◌&&◌, ◌∷◌}
+use Rattle.lists.specs.Prelude.{ℕ, Bool, true, List, [], eqb, length, Float}
 use Rattle.lists.specs.Indexed.{join}
 use Rattle.refusal.specs.declared.Verdict.{Verdict}
 use Rattle.refusal.specs.declared.Measured.{Measured}

@@ -1,5 +1,6 @@
 -- Closed cases of the grid: P6 and P7 of document 01, the weights of the times 0, 0.5, 2, 5, and each refusal.
-use Rattle.lists.specs.Prelude.{◌≡◌, refl, List, [], ◌∷◌, map, ℕ, Float, nan, binary64, to_bits}
+use Rattle.std.specs.Prelude.{◌≡◌, ◌∷◌}
+use Rattle.lists.specs.Prelude.{refl, List, [], map, ℕ, Float, nan, binary64, to_bits}
 use Rattle.std.specs.Float.Ieee as Ieee
 use Rattle.lists.specs.Indexed.{join, all_below}
 use Rattle.complex.specs.Arithmetic.{plus_zero, one, finite}

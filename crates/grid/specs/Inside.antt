@@ -1,5 +1,6 @@
 -- Inside an interval a weight is half one step: from the point before, at least the start, to the point after, at most the end. Assumes nothing.
-use Rattle.lists.specs.Prelude.{◌≡◌, refl, sym, Bool, true, false, cond, ◌||◌, List, ℕ, ◌+◌, ◌-◌, ◌≤◌, ◌<◌, min, max, arith, leb, ltb, eqb, Float, leb-false, ltb-false}
+use Rattle.std.specs.Prelude.{◌≡◌, ◌||◌, ◌+◌, ◌-◌, ◌≤◌, ◌<◌}
+use Rattle.lists.specs.Prelude.{refl, sym, Bool, true, false, cond, List, ℕ, min, max, arith, leb, ltb, eqb, Float, leb-false, ltb-false}
 use Rattle.lists.specs.Prelude.{eqb-true, eqb-false}
 use Rattle.lists.specs.Agreement.{never}
 use Rattle.grid.specs.Weights.{half_step, interval_weight}

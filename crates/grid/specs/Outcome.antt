@@ -1,5 +1,6 @@
 -- What an accepted call on a grid says of its lengths, and that a refused one leaves the lent slice as it was. Assumes nothing.
-use Rattle.lists.specs.Prelude.{◌≡◌, refl, sym, Bool, true, List, ℕ, eqb, length, Float, eqb-true}
+use Rattle.std.specs.Prelude.{◌≡◌}
+use Rattle.lists.specs.Prelude.{refl, sym, Bool, true, List, ℕ, eqb, length, Float, eqb-true}
 use Rattle.lists.specs.Agreement.{both}
 use Rattle.lists.specs.Singles.{singles}
 use Rattle.refusal.specs.declared.Refusal.{Refusal}

@@ -1,5 +1,6 @@
 -- A time past the end is a NaN, and so is a weight that reads it. Assumes nothing.
-use Rattle.lists.specs.Prelude.{◌≡◌, refl, false, List, ℕ, ◌+◌, ◌-◌, ◌≤◌, ◌<◌, arith, eqb, length, get_or-eq_default, Float, nan, eqb-true}
+use Rattle.std.specs.Prelude.{◌≡◌, ◌+◌, ◌-◌, ◌≤◌, ◌<◌}
+use Rattle.lists.specs.Prelude.{refl, false, List, ℕ, arith, eqb, length, get_or-eq_default, Float, nan, eqb-true}
 use Rattle.std.specs.Float.Ieee as Ieee
 use Rattle.lists.specs.Indexed.{all_below}
 use Rattle.complex.specs.Arithmetic.{finite, mul, sub, div, plus_zero}

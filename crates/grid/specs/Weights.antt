@@ -1,5 +1,6 @@
 -- Document 01, grid: the weights of the composite trapezoid rule.
-use Rattle.lists.specs.Prelude.{ℕ, ◌+◌, ◌-◌, cond, ◌||◌, List, leb, ltb, eqb, get_or, Float, nan, binary64, of_bits}
+use Rattle.std.specs.Prelude.{◌+◌, ◌-◌, ◌||◌}
+use Rattle.lists.specs.Prelude.{ℕ, cond, List, leb, ltb, eqb, get_or, Float, nan, binary64, of_bits}
 use Rattle.complex.specs.Arithmetic.{sub, mul, plus_zero}
 
 -- half the time from point j to point i: 0.5·(times[i] − times[j])

@@ -2,7 +2,8 @@
 // is a NaN to them.
 #![tactic(auto)]
 
-ghost use Rattle.lists.specs.Prelude.{◌≡◌, [], ◌∷◌, ◌+◌, ◌-◌, min, max, length, get_or, nan};
+ghost use Rattle.std.specs.Prelude.{◌≡◌, ◌∷◌, ◌+◌, ◌-◌};
+ghost use Rattle.lists.specs.Prelude.{[], min, max, length, get_or, nan};
 ghost use Rattle.lists.specs.Indexed.{join};
 ghost use Rattle.refusal.specs.Checks.{finite_weights};
 ghost use Rattle.grid.specs.Weights.{half_step, full_weight, interval_weight};

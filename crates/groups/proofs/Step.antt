@@ -1,5 +1,6 @@
 -- A term goes to the lanes of a group: each lane whose sum has it takes it by its own weight. Assumes nothing.
-use Rattle.lists.specs.Prelude.{◌≡◌, refl, sym, ap, ap₂, ◌∙◌, Bool, true, false, cond, List, ℕ, ◌+◌, ◌-◌, ◌*◌, ◌≤◌, ◌<◌, min, mul-le-mul_right, zero-mul, add-zero}
+use Rattle.std.specs.Prelude.{◌≡◌, ◌+◌, ◌-◌, ◌*◌, ◌≤◌, ◌<◌}
+use Rattle.lists.specs.Prelude.{refl, sym, ap, ap₂, ◌∙◌, Bool, true, false, cond, List, ℕ, min, mul-le-mul_right, zero-mul, add-zero}
 use Rattle.lists.specs.Prelude.{add-mul, mul_left_comm, dec_lt, arith, digits_lt, Float, inl, inr}
 use Rattle.complex.specs.declared.Complex.{Complex}
 use Rattle.complex.specs.Arithmetic.{czero, real, cadd, cmul}

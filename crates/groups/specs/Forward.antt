@@ -1,5 +1,6 @@
 -- Row t of G from K and the rows of G before it, as they stand in a list; what a loop over groups has written of it. Assumes nothing.
-use Rattle.lists.specs.Prelude.{◌≡◌, sym, ap, ap₂, ◌∙◌, Bool, false, cond, not, ◌||◌, List, ℕ, ◌+◌, ◌-◌, ◌*◌, ◌≤◌, ◌<◌, dec_lt, arith, ltb, eqb, Float, lt-ltb, le-ltb}
+use Rattle.std.specs.Prelude.{◌≡◌, ◌||◌, ◌+◌, ◌-◌, ◌*◌, ◌≤◌, ◌<◌}
+use Rattle.lists.specs.Prelude.{sym, ap, ap₂, ◌∙◌, Bool, false, cond, not, List, ℕ, dec_lt, arith, ltb, eqb, Float, lt-ltb, le-ltb}
 use Rattle.lists.specs.Prelude.{ne_eqb, eq-eqb}
 use Rattle.lists.specs.Indexed.{all_below, all_in, join}
 use Rattle.lists.specs.Agreement.{all_agree, join_agree}

@@ -1,5 +1,6 @@
 -- The sums at a group of neighbouring places of a row: the outcome of each call.
-use Rattle.lists.specs.Prelude.{◌≡◌, refl, sym, ap, ◌∙◌, Bool, true, false, cond, ◌&&◌, List, [], ◌∷◌, ℕ, ◌+◌, ◌*◌, ◌≤◌, ◌<◌, arith, leb, ltb, eqb, length, drop}
+use Rattle.std.specs.Prelude.{◌≡◌, ◌&&◌, ◌∷◌, ◌+◌, ◌*◌, ◌≤◌, ◌<◌}
+use Rattle.lists.specs.Prelude.{refl, sym, ap, ◌∙◌, Bool, true, false, cond, List, [], ℕ, arith, leb, ltb, eqb, length, drop}
 use Rattle.lists.specs.Prelude.{length-drop, length-take-le, Float, leb-true, ltb-true, le-leb, lt-ltb, eq-eqb, mid_of, put_mid, put_same}
 use Rattle.lists.specs.Indexed.{all_below, join}
 use Rattle.lists.specs.Agreement.{both}

@@ -1,5 +1,6 @@
 -- The sums at a group of places, each from a number that is given in its lane.
-use Rattle.lists.specs.Prelude.{◌≡◌, refl, sym, ap, ◌∙◌, Bool, true, false, cond, not, ◌&&◌, ◌||◌, List, [], ◌∷◌, ℕ, ◌+◌, ◌*◌, ◌<◌, ltb, eqb, eq-eqb, lt-ltb, length, Float}
+use Rattle.std.specs.Prelude.{◌≡◌, ◌&&◌, ◌||◌, ◌∷◌, ◌+◌, ◌*◌, ◌<◌}
+use Rattle.lists.specs.Prelude.{refl, sym, ap, ◌∙◌, Bool, true, false, cond, not, List, [], ℕ, ltb, eqb, eq-eqb, lt-ltb, length, Float}
 use Rattle.lists.specs.Indexed.{all_below, all_in, join}
 use Rattle.lists.specs.Agreement.{all_agree, join_agree}
 use Rattle.complex.specs.declared.Complex.{Complex}

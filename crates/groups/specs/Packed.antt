@@ -1,5 +1,6 @@
 -- A row of lanes that is written from one lane on, one a step. Assumes nothing.
-use Rattle.lists.specs.Prelude.{◌≡◌, refl, sym, subst, ◌∙◌, List, ⊎_elim, ℕ, ◌+◌, ◌≤◌, ◌<◌, eq-or-lt_of_le, le_antisymm, arith, length, length-set, Float}
+use Rattle.std.specs.Prelude.{◌≡◌, ◌+◌, ◌≤◌, ◌<◌}
+use Rattle.lists.specs.Prelude.{refl, sym, subst, ◌∙◌, List, ⊎_elim, ℕ, eq-or-lt_of_le, le_antisymm, arith, length, length-set, Float}
 use Rattle.complex.specs.declared.Complex.{Complex}
 use Rattle.rows.specs.Numbers.{number_at, with_number, number_same, number-other}
 

@@ -1,5 +1,6 @@
 -- A sum over times by the steps of a loop over s that serves many sums: each takes the steps that lie in its interval. Assumes nothing.
-use Rattle.lists.specs.Prelude.{◌≡◌, refl, sym, ap, ◌∙◌, Bool, true, false, cond, ◌&&◌, List, ℕ, ◌+◌, ◌-◌, ◌≤◌, ◌<◌, min, arith, leb, ltb, Float, leb-true, leb-false}
+use Rattle.std.specs.Prelude.{◌≡◌, ◌&&◌, ◌+◌, ◌-◌, ◌≤◌, ◌<◌}
+use Rattle.lists.specs.Prelude.{refl, sym, ap, ◌∙◌, Bool, true, false, cond, List, ℕ, min, arith, leb, ltb, Float, leb-true, leb-false}
 use Rattle.lists.specs.Prelude.{ltb-true, ltb-false}
 use Rattle.complex.specs.declared.Complex.{Complex}
 use Rattle.complex.specs.Arithmetic.{real, cadd, cmul}

@@ -1,5 +1,6 @@
 -- The sum at a place: its lanes hold it, it is tested by its last value, and Dyson's is the causal one up to the term before t. Assumes nothing.
-use Rattle.lists.specs.Prelude.{◌≡◌, refl, sym, ap, ◌∙◌, Bool, true, false, not, ◌||◌, List, ℕ, ◌+◌, ◌-◌, ◌*◌, ◌≤◌, ◌<◌, min, arith, eqb, Float, eqb-true}
+use Rattle.std.specs.Prelude.{◌≡◌, ◌||◌, ◌+◌, ◌-◌, ◌*◌, ◌≤◌, ◌<◌}
+use Rattle.lists.specs.Prelude.{refl, sym, ap, ◌∙◌, Bool, true, false, not, List, ℕ, min, arith, eqb, Float, eqb-true}
 use Rattle.lists.specs.Indexed.{all_in}
 use Rattle.lists.specs.Agreement.{all_agree, join_agree}
 use Rattle.complex.specs.declared.Complex.{Complex}

@@ -1,5 +1,6 @@
 -- Where the right factor of a term stands, as it is stored or as the adjoint of what is stored. Assumes nothing.
-use Rattle.lists.specs.Prelude.{◌≡◌, refl, ap, ◌∙◌, List, ℕ, ◌+◌, ◌*◌, ◌<◌, add-mul, add-zero, mul_left_comm, arith, Float}
+use Rattle.std.specs.Prelude.{◌≡◌, ◌+◌, ◌*◌, ◌<◌}
+use Rattle.lists.specs.Prelude.{refl, ap, ◌∙◌, List, ℕ, add-mul, add-zero, mul_left_comm, arith, Float}
 use Rattle.complex.specs.Numbers.{entry_at}
 use Rattle.block.specs.Operations.{adjoint}
 use Rattle.two_time.specs.Layout.{place, read_as, length_of}

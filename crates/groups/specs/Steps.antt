@@ -1,5 +1,6 @@
 -- A loop over the groups of a row: where the next group stands, and how many places it has. Assumes nothing.
-use Rattle.lists.specs.Prelude.{◌≡◌, ℕ, ◌+◌, ◌-◌, ◌*◌, ◌/◌, ◌≤◌, ◌<◌, min, mul-le-mul_right, add-mul, le-div_iff_mul-le, div-le_self, div-mul-le_self, arith}
+use Rattle.std.specs.Prelude.{◌≡◌, ◌+◌, ◌-◌, ◌*◌, ◌/◌, ◌≤◌, ◌<◌}
+use Rattle.lists.specs.Prelude.{ℕ, min, mul-le-mul_right, add-mul, le-div_iff_mul-le, div-le_self, div-mul-le_self, arith}
 use Rattle.two_time.specs.Places.{product-most}
 use Rattle.groups.specs.Groups.{Grouped}
 

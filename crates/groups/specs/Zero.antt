@@ -1,5 +1,6 @@
 -- Places that no term goes to hold +0. Assumes nothing.
-use Rattle.lists.specs.Prelude.{◌≡◌, sym, ap, ◌∙◌, true, List, ℕ, ◌+◌, ◌-◌, ◌*◌, ◌<◌, mul_assoc, mul_comm, arith, replicate, length-replicate, get_or-replicate, ext_get_or}
+use Rattle.std.specs.Prelude.{◌≡◌, ◌+◌, ◌-◌, ◌*◌, ◌<◌}
+use Rattle.lists.specs.Prelude.{sym, ap, ◌∙◌, true, List, ℕ, mul_assoc, mul_comm, arith, replicate, length-replicate, get_or-replicate, ext_get_or}
 use Rattle.lists.specs.Prelude.{Float, eq-eqb}
 use Rattle.lists.specs.Indexed.{join}
 use Rattle.lists.specs.Agreement.{join_agree, each_all}

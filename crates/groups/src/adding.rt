@@ -1,5 +1,6 @@
 // A term goes to all lanes of a group, and so do all terms, one after another.
-ghost use Rattle.lists.specs.Prelude.{◌≡◌, ℕ, ◌+◌, ◌*◌, ◌<◌, ◌≤◌, length};
+ghost use Rattle.std.specs.Prelude.{◌≡◌, ◌+◌, ◌*◌, ◌<◌, ◌≤◌};
+ghost use Rattle.lists.specs.Prelude.{ℕ, length};
 ghost use Rattle.complex.specs.Arithmetic.{czero, real, cadd, cmul};
 ghost use Rattle.two_time.specs.Layout.{read_as, length_of};
 ghost use Rattle.two_time.specs.Sums.{terms_at};

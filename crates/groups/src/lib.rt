@@ -6,7 +6,8 @@ mod adding;
 pub mod onto;
 mod packing;
 
-ghost use Rattle.lists.specs.Prelude.{◌≡◌, ℕ, ◌+◌, ◌*◌, ◌<◌, ◌≤◌, length};
+ghost use Rattle.std.specs.Prelude.{◌≡◌, ◌+◌, ◌*◌, ◌<◌, ◌≤◌};
+ghost use Rattle.lists.specs.Prelude.{ℕ, length};
 ghost use Rattle.two_time.specs.Layout.{read_as, length_of};
 ghost use Rattle.two_time.specs.Sums.{dyson_terms};
 ghost use Rattle.two_time.specs.WeightedSum.{weighted_sum};

@@ -1,5 +1,5 @@
 // The sums at a group of places, from numbers that are given.
-ghost use Rattle.lists.specs.Prelude.{◌≡◌};
+ghost use Rattle.std.specs.Prelude.{◌≡◌};
 ghost use Rattle.groups.specs.Onto.{group_onto};
 
 use crate::{group_totals, is_group};

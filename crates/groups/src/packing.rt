@@ -1,5 +1,6 @@
 // The right factor of a term, packed: the rows of the blocks of neighbouring places, each a row of lanes.
-ghost use Rattle.lists.specs.Prelude.{◌≡◌, ℕ, ◌+◌, ◌*◌, ◌<◌, ◌≤◌, length};
+ghost use Rattle.std.specs.Prelude.{◌≡◌, ◌+◌, ◌*◌, ◌<◌, ◌≤◌};
+ghost use Rattle.lists.specs.Prelude.{ℕ, length};
 ghost use Rattle.complex.specs.Numbers.{entry_at};
 ghost use Rattle.two_time.specs.Layout.{place, read_as, length_of};
 ghost use Rattle.two_time.specs.Places.{Placed};

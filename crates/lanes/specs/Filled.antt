@@ -1,5 +1,6 @@
 -- A loop that writes parts of one width, one after another, until one is not finite. Assumes nothing.
-use Rattle.lists.specs.Prelude.{◌≡◌, refl, sym, ap, ◌∙◌, Bool, true, false, ◌&&◌, List, ◌++◌, append_assoc, append-nil, ℕ, zero, suc, ◌+◌, ◌-◌, ◌*◌, ◌≤◌, ◌<◌}
+use Rattle.std.specs.Prelude.{◌≡◌, ◌&&◌, ◌++◌, ◌+◌, ◌-◌, ◌*◌, ◌≤◌, ◌<◌}
+use Rattle.lists.specs.Prelude.{refl, sym, ap, ◌∙◌, Bool, true, false, List, append_assoc, append-nil, ℕ, zero, suc}
 use Rattle.lists.specs.Prelude.{le_antisymm, add-zero, add-suc, arith, length, Float, put_mid}
 use Rattle.lists.specs.Indexed.{all_below, join}
 use Rattle.lists.specs.Agreement.{never}

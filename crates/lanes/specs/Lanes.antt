@@ -1,5 +1,6 @@
 -- Lanes of a group of neighbouring places: where each stands, and the blocks that they are written out as.
-use Rattle.lists.specs.Prelude.{ℕ, ◌+◌, ◌*◌, Bool, cond, not, ◌&&◌, ◌||◌, List, [], ◌∷◌, ◌++◌, leb, ltb, eqb, length, get_or, Float, nan}
+use Rattle.std.specs.Prelude.{◌+◌, ◌*◌, ◌&&◌, ◌||◌, ◌∷◌, ◌++◌}
+use Rattle.lists.specs.Prelude.{ℕ, Bool, cond, not, List, [], leb, ltb, eqb, length, get_or, Float, nan}
 use Rattle.lists.specs.Indexed.{all_below, all_in, join}
 use Rattle.complex.specs.declared.Complex.{Complex}
 use Rattle.complex.specs.Arithmetic.{cfinite}

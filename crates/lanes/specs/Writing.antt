@@ -1,5 +1,6 @@
 -- Entries that are checked and written. Assumes nothing.
-use Rattle.lists.specs.Prelude.{◌≡◌, refl, sym, ap, ◌∙◌, Bool, true, false, cond, not, ◌||◌, List, ℕ, ◌*◌, mul_left_comm, arith, length, Float}
+use Rattle.std.specs.Prelude.{◌≡◌, ◌||◌, ◌*◌}
+use Rattle.lists.specs.Prelude.{refl, sym, ap, ◌∙◌, Bool, true, false, cond, not, List, ℕ, mul_left_comm, arith, length, Float}
 use Rattle.lists.specs.Indexed.{join}
 use Rattle.lists.specs.Filling.{over}
 use Rattle.complex.specs.declared.Complex.{Complex}

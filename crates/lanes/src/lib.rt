@@ -3,7 +3,8 @@
 // a block, are 512 numbers. Here they are written out as blocks.
 #![tactic(auto)]
 
-ghost use Rattle.lists.specs.Prelude.{◌≡◌, true, not, ◌||◌, ◌+◌, ◌*◌, ◌<◌, ◌≤◌, length, set};
+ghost use Rattle.std.specs.Prelude.{◌≡◌, ◌||◌, ◌+◌, ◌*◌, ◌<◌, ◌≤◌};
+ghost use Rattle.lists.specs.Prelude.{true, not, length, set};
 ghost use Rattle.lists.specs.Indexed.{all_below, all_in};
 ghost use Rattle.complex.specs.Arithmetic.{cfinite};
 ghost use Rattle.complex.specs.Filling.{cells};

@@ -1,5 +1,6 @@
 -- Two functions added number by number, and whether every number of a list is finite. Assumes nothing.
-use Rattle.lists.specs.Prelude.{◌≡◌, refl, sym, ap, ap₂, ◌∙◌, Bool, true, ◌&&◌, and-true, and_assoc, List, [], ◌∷◌, ◌++◌, ℕ, zero, suc, ◌+◌, ◌*◌, ◌≤◌, ◌<◌, le_refl}
+use Rattle.std.specs.Prelude.{◌≡◌, ◌&&◌, ◌∷◌, ◌++◌, ◌+◌, ◌*◌, ◌≤◌, ◌<◌}
+use Rattle.lists.specs.Prelude.{refl, sym, ap, ap₂, ◌∙◌, Bool, true, and-true, and_assoc, List, [], ℕ, zero, suc, le_refl}
 use Rattle.lists.specs.Prelude.{le_of_suc-le-suc, not-suc-le-zero, add-zero, suc-ne-zero, suc_inj, add-one, arith, length, get_or, take, drop, set, take-suc, take_all}
 use Rattle.lists.specs.Prelude.{length-take-le, get_or-append-add, get_or-drop, Float, nan}
 use Rattle.lists.specs.Indexed.{join, all_below}

@@ -1,7 +1,8 @@
 -- Document 01, Langreth: the components of a product, and the outcome of `langreth_product`. "retarded causal, advanced sums s from t to t' with
 -- weights (s, t, t') where t ≤ t' and is +0 elsewhere" are sums of their own; "lesser is left retarded with right lesser plus left lesser with
 -- right advanced, greater alike, by `time_convolution`, in that order."
-use Rattle.lists.specs.Prelude.{ℕ, Bool, ◌&&◌, List, [], ◌∷◌, ◌++◌, Float}
+use Rattle.std.specs.Prelude.{◌&&◌, ◌∷◌, ◌++◌}
+use Rattle.lists.specs.Prelude.{ℕ, Bool, List, [], Float}
 use Rattle.complex.specs.Arithmetic.{cfinite}
 use Rattle.refusal.specs.declared.Verdict.{Verdict}
 use Rattle.refusal.specs.Verdict.{◌then◌, zeroed, afterwards}

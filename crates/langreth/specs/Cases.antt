@@ -1,5 +1,6 @@
 -- Closed cases of the Langreth product (reference/expected.py, case e), 10 and another refusal.
-use Rattle.lists.specs.Prelude.{◌≡◌, refl, List, [], ◌∷◌, map, ℕ, replicate, Float, nan}
+use Rattle.std.specs.Prelude.{◌≡◌, ◌∷◌}
+use Rattle.lists.specs.Prelude.{refl, List, [], map, ℕ, replicate, Float, nan}
 use Rattle.complex.specs.Arithmetic.{plus_zero, one}
 use Rattle.refusal.specs.declared.Verdict.TheVariants.{Pass, Refused}
 use Rattle.refusal.specs.Verdict.{by}

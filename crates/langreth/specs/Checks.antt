@@ -1,5 +1,6 @@
 -- Checks 1 to 7 of two groups of slices, one after the other. Assumes nothing.
-use Rattle.lists.specs.Prelude.{◌≡◌, refl, ap, ap₂, ◌∙◌, Bool, true, false, ◌&&◌, and_assoc, List, [], ◌∷◌, ◌++◌, ℕ, suc, ◌+◌, zero-add, suc-add, add-suc, leb, eqb, length, Float}
+use Rattle.std.specs.Prelude.{◌≡◌, ◌&&◌, ◌∷◌, ◌++◌, ◌+◌}
+use Rattle.lists.specs.Prelude.{refl, ap, ap₂, ◌∙◌, Bool, true, false, and_assoc, List, [], ℕ, suc, zero-add, suc-add, add-suc, leb, eqb, length, Float}
 use Rattle.refusal.specs.declared.Verdict.{Verdict}
 use Rattle.refusal.specs.Verdict.{◌then◌}
 use Rattle.refusal.specs.Checks.{finite_entries}

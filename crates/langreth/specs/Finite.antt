@@ -1,5 +1,6 @@
 -- Whether all that a Langreth product makes is finite, component by component. Assumes nothing.
-use Rattle.lists.specs.Prelude.{◌≡◌, sym, ap, ap₂, ◌∙◌, Bool, true, false, and-true, and-false, List, ℕ, Float}
+use Rattle.std.specs.Prelude.{◌≡◌}
+use Rattle.lists.specs.Prelude.{sym, ap, ap₂, ◌∙◌, Bool, true, false, and-true, and-false, List, ℕ, Float}
 use Rattle.two_time.specs.declared.sums.Sums.TheVariants.{Full, Causal, AntiCausal}
 use Rattle.two_time.specs.Layout.{read_as}
 use Rattle.two_time.specs.Sums.{sums_of, sums_numbers, sums_finite}

@@ -1,5 +1,6 @@
 // Checks 1 to 7 of a Langreth product (document 01, "Questions in order"): operands 0 to 3 are the left components, 4 to 7 the right.
-ghost use Rattle.lists.specs.Prelude.{◌≡◌, List, [], ◌∷◌, ◌++◌, ◌≤◌, Float};
+ghost use Rattle.std.specs.Prelude.{◌≡◌, ◌∷◌, ◌++◌, ◌≤◌};
+ghost use Rattle.lists.specs.Prelude.{List, [], Float};
 ghost use Rattle.two_time.specs.Calls.{all_fit, operand_checks, input_checks};
 ghost use Rattle.langreth.specs.Calls.{components_of, listed};
 

@@ -1,5 +1,6 @@
 // The four components of a Langreth product, each by the sums at all places (document 01, Langreth).
-ghost use Rattle.lists.specs.Prelude.{◌≡◌, true, [], ◌∷◌, ◌++◌, length};
+ghost use Rattle.std.specs.Prelude.{◌≡◌, ◌∷◌, ◌++◌};
+ghost use Rattle.lists.specs.Prelude.{true, [], length};
 ghost use Rattle.two_time.specs.Sums.{sums_numbers, sums_finite};
 ghost use Rattle.two_time.specs.SizeChecks.{SizesPassed};
 ghost use Rattle.langreth.specs.Calls.{correlation_numbers, correlation_finite, components_of, listed, product_of, product_finite};

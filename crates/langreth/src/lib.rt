@@ -4,7 +4,7 @@
 mod checks;
 mod components;
 
-ghost use Rattle.lists.specs.Prelude.{◌≡◌};
+ghost use Rattle.std.specs.Prelude.{◌≡◌};
 ghost use Rattle.langreth.specs.Calls.{components_of, langreth_product};
 
 use refusal::{Refusal, Verdict};

@@ -1,6 +1,7 @@
 -- The norm of finite parts is at most the rounded sum of two numbers whose exact sum, squared, is at least the sum of the parts' squares: its root
 -- rounds as that sum does, and both roundings keep order. So where that sum is at most l the larger of l and the norm is l. Assumes nothing.
-use Rattle.lists.specs.Prelude.{◌≡◌, refl, sym, ap, ◌∙◌, Bool, true, false, ℕ, ◌+◌, ◌-◌, ◌*◌, ◌/◌, ◌%◌, ◌^◌, ◌≤◌, compare, Ordering, le_refl, le_antisymm}
+use Rattle.std.specs.Prelude.{◌≡◌, ◌+◌, ◌-◌, ◌*◌, ◌/◌, ◌%◌, ◌^◌, ◌≤◌}
+use Rattle.lists.specs.Prelude.{refl, sym, ap, ◌∙◌, Bool, true, false, ℕ, compare, Ordering, le_refl, le_antisymm}
 use Rattle.lists.specs.Prelude.{mul-div_cancel, mul_assoc, mul-le-mul_right, mul-pos, div-mul-le_self, div-add-mod', arith, ℤ, T, pow_pos, Float}
 use Rattle.lists.specs.Prelude.{binary64, up, down, nearest, units, round, lt, le}
 use lib.Ieee as Ieee

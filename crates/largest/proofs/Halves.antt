@@ -1,6 +1,7 @@
 -- The norm of two parts is at most the larger part and half the smaller one, rounded: where A is at least B and 2·U at least B, A² + B² is at most
 -- (A + U)². So where both sums of a part and half the other are at most l, the larger of l and the norm is l. Assumes nothing.
-use Rattle.lists.specs.Prelude.{◌≡◌, refl, sym, ap, ◌∙◌, subst, Bool, true, false, not, cond, ℕ, suc, ◌+◌, ◌-◌, ◌*◌, ◌%◌, ◌^◌, ◌≤◌, ◌<◌, le_of_eq, le_of_lt}
+use Rattle.std.specs.Prelude.{◌≡◌, ◌+◌, ◌-◌, ◌*◌, ◌%◌, ◌^◌, ◌≤◌, ◌<◌}
+use Rattle.lists.specs.Prelude.{refl, sym, ap, ◌∙◌, subst, Bool, true, false, not, cond, ℕ, suc, le_of_eq, le_of_lt}
 use Rattle.lists.specs.Prelude.{le_trans, lt_of_not-le, lt_of_le_of_lt, mod-le, add-mul, mul-add, mul_assoc, pow-suc, mul_comm, mul_left_comm, mul-le-mul, mod-eq_of_lt}
 use Rattle.lists.specs.Prelude.{dec_le, arith, T, ltb, nltb→le, ℤ, Float, nan, inf, fin, binary64, le, ne, fits, nan_bits, of_bits, to_bits}
 use lib.Ieee as Ieee

@@ -1,6 +1,7 @@
 -- From the digits to the larger: squares in steps of 2^64 show that a root is below the middle of the step above l, and such a root rounds to at
 -- most l, so that the larger of l and the norm is l. Assumes nothing.
-use Rattle.lists.specs.Prelude.{◌≡◌, sym, ap, ◌∙◌, false, ◌||◌, ℕ, suc, ◌+◌, ◌*◌, ◌/◌, ◌%◌, ◌^◌, ◌≤◌, ◌<◌, le_refl, le_of_lt, lt_of_le_of_lt, lt_of_not-le, mod-lt}
+use Rattle.std.specs.Prelude.{◌≡◌, ◌||◌, ◌+◌, ◌*◌, ◌/◌, ◌%◌, ◌^◌, ◌≤◌, ◌<◌}
+use Rattle.lists.specs.Prelude.{sym, ap, ◌∙◌, false, ℕ, suc, le_refl, le_of_lt, lt_of_le_of_lt, lt_of_not-le, mod-lt}
 use Rattle.lists.specs.Prelude.{div-le_self, div-lt_iff_lt-mul, mul-pos, mul-lt-mul_of_pos_right, pow-suc, dec_le, arith, T, eqb, ltb, pow-add, pow_pos, Float, binary64}
 use Rattle.lists.specs.Prelude.{units, le, fits, to_bits, ltb-false, eqb-false}
 use lib.Ieee.Bits.{of_bits-to_bits}

@@ -1,5 +1,6 @@
 -- A number from its bits without the sign: its size, and no NaN. Assumes nothing.
-use Rattle.lists.specs.Prelude.{◌≡◌, refl, sym, ap, ◌∙◌, Bool, true, false, not, ℕ, zero, suc, ◌*◌, ◌^◌, ◌≤◌, le_trans, lt_of_not-le, mod-le, dec_le, ℤ, T, Float, nan}
+use Rattle.std.specs.Prelude.{◌≡◌, ◌*◌, ◌^◌, ◌≤◌}
+use Rattle.lists.specs.Prelude.{refl, sym, ap, ◌∙◌, Bool, true, false, not, ℕ, zero, suc, le_trans, lt_of_not-le, mod-le, dec_le, ℤ, T, Float, nan}
 use Rattle.lists.specs.Prelude.{inf, fin, binary64, ne, fits, nan_bits, of_bits, to_bits}
 use lib.Ieee.Bits.{of_bits-to_bits}
 use lib.Ieee.Compare.{nan_differs}

@@ -1,5 +1,6 @@
 -- What the code cites: the digits of parts shifted to one exponent, a root below a middle and half a number, by the bits.
-use Rattle.lists.specs.Prelude.{ℕ, ◌+◌, ◌-◌, ◌*◌, ◌/◌, ◌%◌, ◌^◌, ◌<◌, cond, ltb}
+use Rattle.std.specs.Prelude.{◌+◌, ◌-◌, ◌*◌, ◌/◌, ◌%◌, ◌^◌, ◌<◌}
+use Rattle.lists.specs.Prelude.{ℕ, cond, ltb}
 use Rattle.norm.specs.Parts.{significand_of, shift_of, units_of}
 
 -- the significand of the bits a and ten digits behind it, with a leading digit whatever the exponent's field

@@ -1,6 +1,7 @@
 -- The larger of two values (`f64::max`) does not depend on how three are grouped, and of a NaN and another it is the other. So a maximum
 -- may begin at what was the largest before. Assumes nothing.
-use Rattle.lists.specs.Prelude.{◌≡◌, refl, sym, ap, ◌∙◌, subst, ⊎_elim, Bool, true, false, cond, ◌||◌, ℕ, zero, suc, T, Float, nan, lt, ne, of_bits}
+use Rattle.std.specs.Prelude.{◌≡◌, ◌||◌}
+use Rattle.lists.specs.Prelude.{refl, sym, ap, ◌∙◌, subst, ⊎_elim, Bool, true, false, cond, ℕ, zero, suc, T, Float, nan, lt, ne, of_bits}
 use Rattle.std.specs.Float.Ieee.Compare.{differs_from_itself}
 use Rattle.lists.specs.Agreement.{never}
 use Rattle.lists.specs.Indexed.{fold}

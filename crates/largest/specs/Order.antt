@@ -1,6 +1,7 @@
 -- The order of all binary64 values: none is both below another and at least it, and where one is below another any number is above the
 -- first or below the second. Assumes nothing.
-use Rattle.lists.specs.Prelude.{◌≡◌, refl, sym, ap, ◌∙◌, subst, ◌⊎◌, inl, inr, ⊎_elim, ⊎_map, Bool, true, false, ◌||◌, ℕ, ◌+◌, ◌*◌, ◌≤◌, ◌<◌, zero-le, lt_of_le_of_lt, ◌≢◌}
+use Rattle.std.specs.Prelude.{◌≡◌, ◌⊎◌, ◌||◌, ◌+◌, ◌*◌, ◌≤◌, ◌<◌, ◌≢◌}
+use Rattle.lists.specs.Prelude.{refl, sym, ap, ◌∙◌, subst, inl, inr, ⊎_elim, ⊎_map, Bool, true, false, ℕ, zero-le, lt_of_le_of_lt}
 use Rattle.lists.specs.Prelude.{lt_of_not-le, not-le_of_lt, eq-zero-or-pos, mul-pos, zero-mul, dec_le, arith, T, eqb, ltb→lt, eqb→eq, Float, nan, inf, fin, up, down, lt}
 use Rattle.lists.specs.Prelude.{le, eq, ne, below, level, ltb-true, lt-ltb}
 use Rattle.std.specs.Float.Ieee.Compare.{differs_from_itself}

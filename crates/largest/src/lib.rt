@@ -3,7 +3,8 @@
 
 mod middle;
 
-ghost use Rattle.lists.specs.Prelude.{true, ◌≡◌};
+ghost use Rattle.std.specs.Prelude.{◌≡◌};
+ghost use Rattle.lists.specs.Prelude.{true};
 ghost use Rattle.complex.specs.Arithmetic.{larger};
 ghost use Rattle.norm.specs.Norm.{norm};
 ghost use Rattle.largest.specs.Digits.{half_bits};

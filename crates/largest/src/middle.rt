@@ -1,5 +1,6 @@
 // Whether the middle of a step is above a root, by the bits of the numbers.
-ghost use Rattle.lists.specs.Prelude.{true, ◌≡◌, ◌+◌, ◌*◌, ◌^◌, ◌≤◌, ◌<◌};
+ghost use Rattle.std.specs.Prelude.{◌≡◌, ◌+◌, ◌*◌, ◌^◌, ◌≤◌, ◌<◌};
+ghost use Rattle.lists.specs.Prelude.{true};
 ghost use Rattle.largest.specs.Digits.{ten_more, over, BelowMiddle};
 
 // The significand of the bits a, and ten digits behind it. A subnormal number is given a leading digit too, which makes it too large.

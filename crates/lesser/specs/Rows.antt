@@ -1,5 +1,6 @@
 -- G^< from an occupied start at one place, and what the first product of its row says of it. Assumes nothing.
-use Rattle.lists.specs.Prelude.{◌≡◌, refl, sym, subst, ap, ap₂, ◌∙◌, Bool, true, false, ◌&&◌, List, [], ◌∷◌, ◌++◌, ℕ, ◌+◌, ◌*◌, ◌≤◌, ◌<◌, arith, digits_lt, get_or, length, length-take, length-drop, ltb, take, drop, get_or-append, Float, nan, mid_of, post_of, put_mid}
+use Rattle.std.specs.Prelude.{◌≡◌, ◌&&◌, ◌∷◌, ◌++◌, ◌+◌, ◌*◌, ◌≤◌, ◌<◌}
+use Rattle.lists.specs.Prelude.{refl, sym, subst, ap, ap₂, ◌∙◌, Bool, true, false, List, [], ℕ, arith, digits_lt, get_or, length, length-take, length-drop, ltb, take, drop, get_or-append, Float, nan, mid_of, post_of, put_mid}
 use Rattle.lists.specs.Indexed.{join, all_in}
 use Rattle.lists.specs.Agreement.{both, never, all_agree, join_agree, all-each, each_all}
 use Rattle.complex.specs.Arithmetic.{cfinite}

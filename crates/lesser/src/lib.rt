@@ -1,7 +1,8 @@
 // G^< of a dot that starts occupied (document 02, L5), row by row and group by group.
 #![tactic(auto)]
 
-ghost use Rattle.lists.specs.Prelude.{◌≡◌, true, [], ◌∷◌, ◌+◌, ◌*◌, ◌<◌, ◌≤◌, length};
+ghost use Rattle.std.specs.Prelude.{◌≡◌, ◌∷◌, ◌+◌, ◌*◌, ◌<◌, ◌≤◌};
+ghost use Rattle.lists.specs.Prelude.{true, [], length};
 ghost use Rattle.lists.specs.Indexed.{all_below, join};
 ghost use Rattle.block.specs.Block.{entries_in, lay_out};
 ghost use Rattle.block.specs.Operations.{all_finite};

@@ -1,5 +1,6 @@
 -- Two values, lists or tests that are built by steps which agree below n are equal, and a test of all is a test of each. Assumes nothing.
-use Rattle.lists.specs.Prelude.{◌≡◌, refl, sym, Bool, true, false, cond, ◌&&◌, ◌||◌, List, ℕ, zero, suc, ◌<◌, ⊎_elim, le_refl, le_of_suc-le-suc, eq-or-lt_of_le, arith}
+use Rattle.std.specs.Prelude.{◌≡◌, ◌&&◌, ◌||◌, ◌<◌}
+use Rattle.lists.specs.Prelude.{refl, sym, Bool, true, false, cond, List, ℕ, zero, suc, ⊎_elim, le_refl, le_of_suc-le-suc, eq-or-lt_of_le, arith}
 use Rattle.lists.specs.Indexed.{fold, join, all_below}
 
 pub never : {P : Type 0} → false ≡ true → P

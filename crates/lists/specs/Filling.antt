@@ -1,5 +1,6 @@
 -- A slice that a loop writes over from its start: what it holds after k steps, and at the end. Assumes nothing.
-use Rattle.lists.specs.Prelude.{◌≡◌, refl, sym, ap, ◌∙◌, List, [], ◌∷◌, ◌++◌, append_assoc, append-nil, ℕ, zero, suc, ◌+◌, ◌-◌, ◌<◌, le_refl, not-suc-le-zero}
+use Rattle.std.specs.Prelude.{◌≡◌, ◌∷◌, ◌++◌, ◌+◌, ◌-◌, ◌<◌}
+use Rattle.lists.specs.Prelude.{refl, sym, ap, ◌∙◌, List, [], append_assoc, append-nil, ℕ, zero, suc, le_refl, not-suc-le-zero}
 use Rattle.lists.specs.Prelude.{le_of_suc-le-suc, sub-zero, suc-sub-suc, zero-sub, le_of_lt, min-eq_left, arith, add-one, length, get_or, take, drop, set, replicate}
 use Rattle.lists.specs.Prelude.{length-append, length-take, drop_of_length-le, take-suc, take_at, drop_at, drop-drop, put_mid}
 

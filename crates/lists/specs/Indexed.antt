@@ -1,5 +1,6 @@
 -- Values, lists and tests that are built by an index which goes up from 0. Each adds its last step last, as a loop does.
-use Rattle.lists.specs.Prelude.{ℕ, zero, suc, Bool, true, ◌&&◌, List, [], ◌++◌}
+use Rattle.std.specs.Prelude.{◌&&◌, ◌++◌}
+use Rattle.lists.specs.Prelude.{ℕ, zero, suc, Bool, true, List, []}
 
 module _ {A : Type 0} where
   -- the value after the steps f 0, f 1, .., f (n - 1) from x

@@ -1,5 +1,6 @@
 -- A list that is joined of parts of one width, read by the part and the place in it. Assumes nothing.
-use Rattle.lists.specs.Prelude.{◌≡◌, sym, ap, subst, ◌∙◌, ⊎_elim, List, ◌++◌, ℕ, zero, suc, ◌+◌, ◌-◌, ◌*◌, ◌≤◌, ◌<◌, le_refl, le_of_suc-le-suc, eq-or-lt_of_le}
+use Rattle.std.specs.Prelude.{◌≡◌, ◌++◌, ◌+◌, ◌-◌, ◌*◌, ◌≤◌, ◌<◌}
+use Rattle.lists.specs.Prelude.{sym, ap, subst, ◌∙◌, ⊎_elim, List, ℕ, zero, suc, le_refl, le_of_suc-le-suc, eq-or-lt_of_le}
 use Rattle.lists.specs.Prelude.{zero-mul, suc-mul, dec_lt, arith, digits_lt, length, get_or, length-append, get_or-append, get_or-append-add}
 use Rattle.lists.specs.Indexed.{join}
 

@@ -1,5 +1,6 @@
 -- A slice that a loop writes over with one element a step. Assumes nothing.
-use Rattle.lists.specs.Prelude.{◌≡◌, refl, sym, ◌∙◌, List, [], ◌∷◌, ℕ, zero, suc, ◌+◌, ◌≤◌, ◌<◌, mul-one, le_antisymm, add-one, length, set, replicate}
+use Rattle.std.specs.Prelude.{◌≡◌, ◌∷◌, ◌+◌, ◌≤◌, ◌<◌}
+use Rattle.lists.specs.Prelude.{refl, sym, ◌∙◌, List, [], ℕ, zero, suc, mul-one, le_antisymm, add-one, length, set, replicate}
 use Rattle.lists.specs.Prelude.{replicate-append-replicate}
 use Rattle.lists.specs.Indexed.{join}
 use Rattle.lists.specs.Reading.{length-join}

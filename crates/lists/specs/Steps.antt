@@ -1,5 +1,6 @@
 -- One more step of each recursion of specs/Indexed, at the code's `k + 1`, and one loop in place of two, one in the other. Assumes nothing.
-use Rattle.lists.specs.Prelude.{◌≡◌, refl, Bool, true, false, ◌&&◌, List, [], ◌++◌, append_assoc, append-nil, ℕ, zero, suc, ◌+◌, ◌*◌, ◌/◌, ◌%◌, add-one, add-zero}
+use Rattle.std.specs.Prelude.{◌≡◌, ◌&&◌, ◌++◌, ◌+◌, ◌*◌, ◌/◌, ◌%◌}
+use Rattle.lists.specs.Prelude.{refl, Bool, true, false, List, [], append_assoc, append-nil, ℕ, zero, suc, add-one, add-zero}
 use Rattle.lists.specs.Prelude.{add-suc, zero-mul, suc-mul, digits_div, digits_mod}
 use Rattle.lists.specs.Indexed.{fold, join, all_below}
 use Rattle.lists.specs.Agreement.{join_agree, all_agree}

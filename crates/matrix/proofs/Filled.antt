@@ -1,5 +1,6 @@
 -- A block that is written row by row: one more row, and the end. Assumes nothing.
-use Rattle.lists.specs.Prelude.{◌≡◌, sym, ap, ◌∙◌, ◌&&◌, List, ℕ, ◌+◌, ◌-◌, ◌*◌, mul_left_comm, arith, replicate, Float, put_mid}
+use Rattle.std.specs.Prelude.{◌≡◌, ◌&&◌, ◌+◌, ◌-◌, ◌*◌}
+use Rattle.lists.specs.Prelude.{sym, ap, ◌∙◌, List, ℕ, mul_left_comm, arith, replicate, Float, put_mid}
 use Rattle.lists.specs.Indexed.{all_below}
 use Rattle.lists.specs.Steps.{all_more, join_more}
 use Rattle.lists.specs.Filling.{over, over-part, over-replicate}

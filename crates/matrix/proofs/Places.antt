@@ -1,5 +1,6 @@
 -- Where an entry of a block of at most 16 by 16 stands: within 512 numbers. Assumes nothing.
-use Rattle.lists.specs.Prelude.{ℕ, ◌+◌, ◌*◌, ◌≤◌, ◌<◌, le_trans, mul-le-mul_left, mul-le-mul_right, mul_left_comm, le_of_suc-le-suc, arith}
+use Rattle.std.specs.Prelude.{◌+◌, ◌*◌, ◌≤◌, ◌<◌}
+use Rattle.lists.specs.Prelude.{ℕ, le_trans, mul-le-mul_left, mul-le-mul_right, mul_left_comm, le_of_suc-le-suc, arith}
 
 -- the rows before row i
 pub rows_before : (i columns : ℕ) → i < 16 → columns ≤ 16 → i * columns ≤ 240

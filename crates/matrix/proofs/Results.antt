@@ -1,5 +1,6 @@
 -- How a call's answer follows from the verdict on what it was given, and the block that was made. Assumes nothing.
-use Rattle.lists.specs.Prelude.{◌≡◌, refl, sym, ap, Bool, true, false, not, ◌||◌, ℕ, Float}
+use Rattle.std.specs.Prelude.{◌≡◌, ◌||◌}
+use Rattle.lists.specs.Prelude.{refl, sym, ap, Bool, true, false, not, ℕ, Float}
 use Rattle.complex.specs.declared.Complex.{Complex}
 use Rattle.refusal.specs.declared.Refusal.{Refusal}
 use Rattle.refusal.specs.declared.Measured.TheVariants.{Of as Measure}

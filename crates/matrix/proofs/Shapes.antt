@@ -1,5 +1,6 @@
 -- Checks 1 to 3 of blocks: what it says of the shapes that they pass. Assumes nothing.
-use Rattle.lists.specs.Prelude.{◌≡◌, refl, Bool, true, ℕ, ◌*◌, ◌≤◌, min, min-eq_left, leb, eqb, leb-true, eqb-true}
+use Rattle.std.specs.Prelude.{◌≡◌, ◌*◌, ◌≤◌}
+use Rattle.lists.specs.Prelude.{refl, Bool, true, ℕ, min, min-eq_left, leb, eqb, leb-true, eqb-true}
 use Rattle.lists.specs.Agreement.{both}
 use Rattle.refusal.specs.declared.Verdict.TheVariants.{Pass}
 use Rattle.refusal.specs.Verdict.{by, ◌then◌}

@@ -1,5 +1,6 @@
 -- Document 01, matrix: the outcome of each call. Checks 1, 2, 3 and 7 of what it is given come first, then what the module names.
-use Rattle.lists.specs.Prelude.{ℕ, ◌-◌, ◌*◌, Bool, true, ◌&&◌, List, ◌++◌, eqb, length, replicate, Float}
+use Rattle.std.specs.Prelude.{◌-◌, ◌*◌, ◌&&◌, ◌++◌}
+use Rattle.lists.specs.Prelude.{ℕ, Bool, true, List, eqb, length, replicate, Float}
 use Rattle.complex.specs.declared.Complex.{Complex}
 use Rattle.complex.specs.Arithmetic.{plus_zero}
 use Rattle.complex.specs.Numbers.{pair}

@@ -1,5 +1,6 @@
 -- Closed cases of the matrix calls. Expected bits by reference/document01.py.
-use Rattle.lists.specs.Prelude.{◌≡◌, refl, true, false, List, [], ◌∷◌, map, ℕ, take, replicate, nan, inf, binary64, to_bits}
+use Rattle.std.specs.Prelude.{◌≡◌, ◌∷◌}
+use Rattle.lists.specs.Prelude.{refl, true, false, List, [], map, ℕ, take, replicate, nan, inf, binary64, to_bits}
 use Rattle.std.specs.Float.Ieee as Ieee
 use Rattle.lists.specs.Indexed.{fold, join, all_below}
 use Rattle.complex.specs.Arithmetic.{plus_zero, one, real, finite, size, larger, cadd, csub, cmul, conj, cfinite}

@@ -1,5 +1,6 @@
 -- Document 01, matrix: what a call's block holds, and the block beside a refusal.
-use Rattle.lists.specs.Prelude.{ℕ, ◌-◌, ◌*◌, ◌++◌, replicate}
+use Rattle.std.specs.Prelude.{◌-◌, ◌*◌, ◌++◌}
+use Rattle.lists.specs.Prelude.{ℕ, replicate}
 use Rattle.complex.specs.Arithmetic.{plus_zero}
 use Rattle.refusal.specs.declared.Verdict.{Verdict}
 use Rattle.refusal.specs.declared.Verdict.TheVariants.{Pass, Refused}

@@ -1,5 +1,6 @@
 -- What each operation makes of its operands' entries; the code goes by these cases, and the calls of specs/Calls by their own names.
-use Rattle.lists.specs.Prelude.{ℕ, Bool, true, not, ◌||◌, List, Float}
+use Rattle.std.specs.Prelude.{◌||◌}
+use Rattle.lists.specs.Prelude.{ℕ, Bool, true, not, List, Float}
 use Rattle.refusal.specs.declared.Verdict.{Verdict}
 use Rattle.refusal.specs.Verdict.{◌then◌}
 use Rattle.refusal.specs.Checks.{finite_work}

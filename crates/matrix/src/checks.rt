@@ -1,5 +1,6 @@
 // Checks 1, 2, 3 and 7 of the blocks that a call is given (document 01, matrix), check by check and not block by block.
-ghost use Rattle.lists.specs.Prelude.{◌≡◌, ◌*◌, min};
+ghost use Rattle.std.specs.Prelude.{◌≡◌, ◌*◌};
+ghost use Rattle.lists.specs.Prelude.{min};
 ghost use Rattle.matrix.specs.Calls.{shape_of, pair_shape, block_checks, pair_checks};
 
 use refusal::Verdict;

@@ -1,5 +1,6 @@
 // The entries of a block that an operation makes, over the numbers of its operands: one loop serves every operation.
-ghost use Rattle.lists.specs.Prelude.{◌≡◌, ◌+◌, ◌*◌, ◌≤◌, ◌<◌, length};
+ghost use Rattle.std.specs.Prelude.{◌≡◌, ◌+◌, ◌*◌, ◌≤◌, ◌<◌};
+ghost use Rattle.lists.specs.Prelude.{length};
 ghost use Rattle.lists.specs.Indexed.{all_below};
 ghost use Rattle.lists.specs.Filling.{over};
 ghost use Rattle.complex.specs.Arithmetic.{cfinite};

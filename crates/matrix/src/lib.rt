@@ -5,7 +5,8 @@ mod checks;
 mod fill;
 mod measure;
 
-ghost use Rattle.lists.specs.Prelude.{◌≡◌, true, false, ◌++◌, ◌-◌, ◌≤◌, length, replicate};
+ghost use Rattle.std.specs.Prelude.{◌≡◌, ◌++◌, ◌-◌, ◌≤◌};
+ghost use Rattle.lists.specs.Prelude.{true, false, length, replicate};
 ghost use Rattle.complex.specs.Arithmetic.{plus_zero, cfinite};
 ghost use Rattle.refusal.specs.Verdict.{decide};
 ghost use Rattle.refusal.specs.Checks.{finite_work};

@@ -1,5 +1,6 @@
 // What is measured of blocks: the diagonal's sum, the largest difference, the largest part, Hermiticity.
-ghost use Rattle.lists.specs.Prelude.{◌≡◌, ◌*◌, ◌≤◌, ◌<◌, length};
+ghost use Rattle.std.specs.Prelude.{◌≡◌, ◌*◌, ◌≤◌, ◌<◌};
+ghost use Rattle.lists.specs.Prelude.{length};
 ghost use Rattle.lists.specs.Indexed.{all_below};
 ghost use Rattle.complex.specs.Arithmetic.{plus_zero, csub};
 ghost use Rattle.complex.specs.Numbers.{entry_at};

@@ -1,5 +1,6 @@
 -- ByBits: the definition's cases by the parts' bits without their signs. Assumes nothing.
-use Rattle.lists.specs.Prelude.{◌≡◌, refl, ap, ap₂, ◌∙◌, true, false, ℕ, ◌+◌, ◌*◌, ◌^◌, ◌≤◌, ◌<◌, max, min, add_comm, dec_le, arith, T, Float, nan, inf, fin, binary64, fits, to_bits}
+use Rattle.std.specs.Prelude.{◌≡◌, ◌+◌, ◌*◌, ◌^◌, ◌≤◌, ◌<◌}
+use Rattle.lists.specs.Prelude.{refl, ap, ap₂, ◌∙◌, true, false, ℕ, max, min, add_comm, dec_le, arith, T, Float, nan, inf, fin, binary64, fits, to_bits}
 use Rattle.norm.specs.Norm.{norm, rounded_root}
 use Rattle.norm.specs.Parts.{unsigned, units_of}
 use Rattle.norm.specs.Sizes.{size-by_bits, infinite-by_bits, nan-by_bits}

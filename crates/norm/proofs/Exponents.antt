@@ -1,6 +1,7 @@
 -- Exponents: what leading zeros say of a number's digits, of a significand's bits at its step, and of how many digits of a root are dropped.
 -- Assumes nothing.
-use Rattle.lists.specs.Prelude.{◌≡◌, refl, ap, ◌∙◌, ◌⊎◌, inl, inr, ℕ, suc, ◌+◌, ◌-◌, ◌*◌, ◌/◌, ◌%◌, ◌^◌, ◌≤◌, ◌<◌, le_of_eq, le_of_lt, lt_of_lt_of_le, lt_of_le_of_lt}
+use Rattle.std.specs.Prelude.{◌≡◌, ◌⊎◌, ◌+◌, ◌-◌, ◌*◌, ◌/◌, ◌%◌, ◌^◌, ◌≤◌, ◌<◌}
+use Rattle.lists.specs.Prelude.{refl, ap, ◌∙◌, inl, inr, ℕ, suc, le_of_eq, le_of_lt, lt_of_lt_of_le, lt_of_le_of_lt}
 use Rattle.lists.specs.Prelude.{lt_of_not-le, le_of_suc-le-suc, eq-or-lt_of_le, pow-suc, arith, lit<, lit≤, pow-add, pow_mono, shl_lt}
 use lib.Count.{count_leading_zeros, leading_length, leading_top}
 use Rattle.norm.specs.Words.{Long, Dropped}

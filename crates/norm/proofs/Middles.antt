@@ -1,6 +1,7 @@
 -- Middles: the sum of the squares in steps of 2^44; that a significand passes the check only where the root lies between the middles beside it; and
 -- what that settles. Assumes nothing.
-use Rattle.lists.specs.Prelude.{◌≡◌, refl, sym, ap, ◌∙◌, inl, inr, ℕ, zero, suc, ◌+◌, ◌-◌, ◌*◌, ◌/◌, ◌^◌, ◌≤◌, ◌<◌, zero-le, lt-suc_self, le_of_eq, lt_of_lt_of_le}
+use Rattle.std.specs.Prelude.{◌≡◌, ◌+◌, ◌-◌, ◌*◌, ◌/◌, ◌^◌, ◌≤◌, ◌<◌}
+use Rattle.lists.specs.Prelude.{refl, sym, ap, ◌∙◌, inl, inr, ℕ, zero, suc, zero-le, lt-suc_self, le_of_eq, lt_of_lt_of_le}
 use Rattle.lists.specs.Prelude.{lt_of_le_of_lt, lt_irrefl, not-le_of_lt, mul-pos, mul_comm, mul_assoc, mul-le-mul_left, mul-le-mul_right, mul-lt-mul_of_pos_right}
 use Rattle.lists.specs.Prelude.{lt_of_mul-lt-mul_right, div-one, div-mul-le_self, lt-div-mul-add, div-div-eq-div-mul, le-div_iff_mul-le, div-lt_iff_lt-mul, arith}
 use Rattle.lists.specs.Prelude.{pow-add, pow_pos, pow_mono}

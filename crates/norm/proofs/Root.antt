@@ -1,5 +1,6 @@
 -- Root: one digit of the root, and one word of the number, over natural numbers. Assumes nothing.
-use Rattle.lists.specs.Prelude.{◌≡◌, sym, ap, ◌∙◌, ℕ, ◌+◌, ◌*◌, ◌/◌, ◌%◌, ◌^◌, ◌≤◌, ◌<◌, le_trans, le_of_eq, lt_of_le_of_lt, le-add_right, mul_assoc, mul-le-mul}
+use Rattle.std.specs.Prelude.{◌≡◌, ◌+◌, ◌*◌, ◌/◌, ◌%◌, ◌^◌, ◌≤◌, ◌<◌}
+use Rattle.lists.specs.Prelude.{sym, ap, ◌∙◌, ℕ, le_trans, le_of_eq, lt_of_le_of_lt, le-add_right, mul_assoc, mul-le-mul}
 use Rattle.lists.specs.Prelude.{mul-le-mul_left, le_of_mul-le-mul_right, mul-div_cancel, pow-suc, add-one, arith, digits_div, pow_pos, pow_mono}
 use Rattle.norm.specs.Words.{Leaves}
 use Rattle.norm.specs.Squares.{power-of_four, below-of-squares}

@@ -1,7 +1,8 @@
 -- Rounding: what the norm is, from the doubled root x, what it leaves t, and the digits of x that are dropped; and from two middles between which
 -- the root lies. x² + t is N, and 4·n is N·4^s: x counts halves of 2^s units. suc k digits are dropped, the highest of them worth half a step.
 -- Assumes nothing.
-use Rattle.lists.specs.Prelude.{◌≡◌, sym, ap, ◌∙◌, ◌⊎◌, inl, inr, ⊎_map, false, ℕ, zero, suc, ◌+◌, ◌-◌, ◌*◌, ◌/◌, ◌%◌, ◌^◌, ◌≤◌, ◌<◌, Ordering, dec_le, le_of_lt}
+use Rattle.std.specs.Prelude.{◌≡◌, ◌⊎◌, ◌+◌, ◌-◌, ◌*◌, ◌/◌, ◌%◌, ◌^◌, ◌≤◌, ◌<◌}
+use Rattle.lists.specs.Prelude.{sym, ap, ◌∙◌, inl, inr, ⊎_map, false, ℕ, zero, suc, Ordering, dec_le, le_of_lt}
 use Rattle.lists.specs.Prelude.{le_of_suc-le-suc, lt_of_not-le, lt_irrefl, le_trans, le-add_right, eq-zero-or-pos, mul-pos, mul-le-mul_right, mul-lt-mul_of_pos_right}
 use Rattle.lists.specs.Prelude.{pow-suc, div-add-mod', mod-lt, div-lt_iff_lt-mul, le-div_iff_mul-le, add-one, arith, pow-add, pow_pos, binary64, nearest, units}
 use Rattle.norm.specs.Norm.{rounded_root}

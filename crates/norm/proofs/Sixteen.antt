@@ -1,6 +1,7 @@
 -- An exponent is an `i16` that stands for a natural number below 2^15. The code holds it by its bits; its sums, differences and tests are those of the
 -- natural numbers. Assumes nothing.
-use Rattle.lists.specs.Prelude.{◌≡◌, sym, ap, ◌∙◌, ℕ, zero, suc, ◌+◌, ◌-◌, ◌^◌, ◌≤◌, ◌<◌, le_trans, lt_of_le_of_lt, arith, T, lt-ltb, le-ltb, ℤ, pos}
+use Rattle.std.specs.Prelude.{◌≡◌, ◌+◌, ◌-◌, ◌^◌, ◌≤◌, ◌<◌}
+use Rattle.lists.specs.Prelude.{sym, ap, ◌∙◌, ℕ, zero, suc, le_trans, lt_of_le_of_lt, arith, T, lt-ltb, le-ltb, ℤ, pos}
 use Rattle.std.proofs.Common.{◌+ℤ◌, ◌-ℤ◌, nat_abs, w16, w64, Fits, SFits, to_z, of_z}
 use lib.Signed.{mag, non_neg}
 use Rattle.norm.specs.Parts.{UpTo}

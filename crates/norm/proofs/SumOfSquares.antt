@@ -1,6 +1,7 @@
 -- SumOfSquares: the parts' bits to the sum of their squares, in the units of the smaller part; and where the smaller is too small to count.
 -- Assumes nothing.
-use Rattle.lists.specs.Prelude.{◌≡◌, sym, ap, ◌∙◌, ◌⊎◌, inl, inr, ⊎_map, ℕ, suc, ◌+◌, ◌*◌, ◌^◌, ◌≤◌, ◌<◌, le-add_right, le_trans, le_of_eq, le_of_suc-le-suc}
+use Rattle.std.specs.Prelude.{◌≡◌, ◌⊎◌, ◌+◌, ◌*◌, ◌^◌, ◌≤◌, ◌<◌}
+use Rattle.lists.specs.Prelude.{sym, ap, ◌∙◌, inl, inr, ⊎_map, ℕ, suc, le-add_right, le_trans, le_of_eq, le_of_suc-le-suc}
 use Rattle.lists.specs.Prelude.{lt_of_lt_of_le, lt_of_le_of_lt, mul-pos, mul-le-mul, mul-le-mul_left, mul-le-mul_right, mul-lt-mul_of_pos_right, arith, lit<, lit≤}
 use Rattle.lists.specs.Prelude.{pow-add, pow_pos, pow_mono, shl_lt, add-lt-pow, binary64, of_bits}
 use Rattle.norm.specs.Norm.{rounded_root}

@@ -1,5 +1,6 @@
 -- Words: what is left of the word arithmetic, over natural numbers. Assumes nothing.
-use Rattle.lists.specs.Prelude.{◌≡◌, sym, ap, ◌∙◌, ℕ, suc, ◌+◌, ◌-◌, ◌*◌, ◌/◌, ◌%◌, ◌^◌, ◌≤◌, ◌<◌, le_trans, le_of_eq, lt_of_le_of_lt, lt_of_lt_of_le, lt_of_not-le}
+use Rattle.std.specs.Prelude.{◌≡◌, ◌+◌, ◌-◌, ◌*◌, ◌/◌, ◌%◌, ◌^◌, ◌≤◌, ◌<◌}
+use Rattle.lists.specs.Prelude.{sym, ap, ◌∙◌, ℕ, suc, le_trans, le_of_eq, lt_of_le_of_lt, lt_of_lt_of_le, lt_of_not-le}
 use Rattle.lists.specs.Prelude.{lt_of_mul-lt-mul_right, le-add_right, add_comm, mod-lt, mod-eq_of_lt, mul-mod_left, add-mul-div_right, mul-add-mod_self_right}
 use Rattle.lists.specs.Prelude.{div-add-mod', dec_le, arith, le-leb, lt-leb, leb, ltb, lit≤, lt_of_le-ne, digits_lt, mod-mul, pow-add, pow_pos, shl-shr, shr_lt}
 

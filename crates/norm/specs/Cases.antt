@@ -1,5 +1,6 @@
 -- Closed cases of the norm, P1 to P5 of document 01 among them. Expected bits by exact integer arithmetic (reference/document01.py).
-use Rattle.lists.specs.Prelude.{◌≡◌, refl, true, false, [], ◌∷◌, map, ℕ, ◌^◌, nan, inf, binary64, to_bits}
+use Rattle.std.specs.Prelude.{◌≡◌, ◌∷◌, ◌^◌}
+use Rattle.lists.specs.Prelude.{refl, true, false, [], map, ℕ, nan, inf, binary64, to_bits}
 use Rattle.std.specs.Float.Ieee as Ieee
 use Rattle.norm.specs.Norm.{norm, root}
 

@@ -1,5 +1,6 @@
 -- What the rounded root is, from the two neighbouring multiples of 2^k between which the root lies. Assumes nothing.
-use Rattle.lists.specs.Prelude.{◌≡◌, ap, ◌∙◌, ◌⊎◌, inl, inr, false, ℕ, suc, ◌+◌, ◌-◌, ◌*◌, ◌/◌, ◌^◌, ◌≤◌, ◌<◌, compare, Ordering, le_of_suc-le-suc, lt_of_le_of_lt}
+use Rattle.std.specs.Prelude.{◌≡◌, ◌⊎◌, ◌+◌, ◌-◌, ◌*◌, ◌/◌, ◌^◌, ◌≤◌, ◌<◌}
+use Rattle.lists.specs.Prelude.{ap, ◌∙◌, inl, inr, false, ℕ, suc, compare, Ordering, le_of_suc-le-suc, lt_of_le_of_lt}
 use Rattle.lists.specs.Prelude.{lt_of_not-le, le_antisymm, mul-le-mul_right, le-div_iff_mul-le, div-lt_iff_lt-mul, arith, pow-add, pow_pos, pow_mono, Float, binary64}
 use Rattle.lists.specs.Prelude.{nearest, units, size}
 use Rattle.std.specs.Float.Ieee.Digits.{size-lt, size-le}

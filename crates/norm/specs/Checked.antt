@@ -1,5 +1,6 @@
 -- What the integers' check of a guess says, and what it settles: the rounded root, and the norm's bits.
-use Rattle.lists.specs.Prelude.{◌⊎◌, ◌≡◌, ℕ, ◌+◌, ◌-◌, ◌*◌, ◌/◌, ◌^◌, ◌≤◌, ◌<◌, binary64, of_bits}
+use Rattle.std.specs.Prelude.{◌⊎◌, ◌≡◌, ◌+◌, ◌-◌, ◌*◌, ◌/◌, ◌^◌, ◌≤◌, ◌<◌}
+use Rattle.lists.specs.Prelude.{ℕ, binary64, of_bits}
 use Rattle.norm.specs.Norm.{rounded_root}
 
 -- the root of sum lies strictly between the middles of the steps below and above m, where h is half a step

@@ -1,7 +1,8 @@
 -- What the norm's definition is claimed to be, said in the library's words for IEEE 754 alone (lib.Ieee): a reader of this file needs no other
 -- of this crate. Sizes are counted in units of u = 2^-1074, roots are compared by their squares. Each theorem cites the law that has it.
 -- Assumes nothing.
-use Rattle.lists.specs.Prelude.{◌≡◌, refl, ap, ◌∙◌, Bool, false, ℕ, ◌+◌, ◌-◌, ◌*◌, ◌%◌, ◌^◌, ◌≤◌, ◌<◌, add_comm, ℤ, T, Float, nan, inf, fin, binary64, fits, le, neg, to_bits, ◌≢◌}
+use Rattle.std.specs.Prelude.{◌≡◌, ◌+◌, ◌-◌, ◌*◌, ◌%◌, ◌^◌, ◌≤◌, ◌<◌, ◌≢◌}
+use Rattle.lists.specs.Prelude.{refl, ap, ◌∙◌, Bool, false, ℕ, add_comm, ℤ, T, Float, nan, inf, fin, binary64, fits, le, neg, to_bits}
 use Rattle.std.specs.Float.Ieee.Digits.{Equals}
 use Rattle.std.specs.Float.Ieee.Exact.{HasValue}
 use Rattle.norm.specs.Norm.{norm, rounded_root, in_units}

@@ -1,6 +1,7 @@
 -- Encoding: q·2^k units as bits. The step's exponent in the exponent's field, and q added: its leading digit, and one that rounding
 -- carries, raise the field. From 2^1024 on it is infinity's pattern. Assumes nothing.
-use Rattle.lists.specs.Prelude.{◌≡◌, refl, sym, ap, ◌∙◌, ◌⊎◌, inl, inr, true, false, not, true≢false, ℕ, suc, ◌+◌, ◌-◌, ◌*◌, ◌/◌, ◌^◌, ◌≤◌, ◌<◌, le_of_lt}
+use Rattle.std.specs.Prelude.{◌≡◌, ◌⊎◌, ◌+◌, ◌-◌, ◌*◌, ◌/◌, ◌^◌, ◌≤◌, ◌<◌}
+use Rattle.lists.specs.Prelude.{refl, sym, ap, ◌∙◌, inl, inr, true, false, not, true≢false, ℕ, suc, le_of_lt}
 use Rattle.lists.specs.Prelude.{lt_of_lt_of_le, lt_of_le_of_lt, lt_of_not-le, not-le_of_lt, eq-or-lt_of_le, mul-div_cancel, mul-le-mul, mul-le-mul_left}
 use Rattle.lists.specs.Prelude.{mul-lt-mul_of_pos_right, lt-suc_self, le_refl, pow-suc, dec_le, arith, ℤ, T, lit<, lit≤, pow_pos, pow_mono, Float, nan, inf, fin}
 use Rattle.lists.specs.Prelude.{binary64, units, odd, up, down, fits, is_nan, of_bits, to_bits, size, lt-ltb, le-ltb}

@@ -1,6 +1,7 @@
 -- The rounded root is the binary64 nearest to the root: none is nearer, and where two are as near it has the even significand.
 -- Said with both sides squared: the root of n is not below the middle of w and c where 4·n is not below (w + c)². Assumes nothing.
-use Rattle.lists.specs.Prelude.{◌≡◌, refl, ap, ap₂, ◌∙◌, subst, ◌⊎◌, inl, inr, ⊎_map, false, ℕ, zero, suc, ◌+◌, ◌-◌, ◌*◌, ◌/◌, ◌%◌, ◌^◌, ◌≤◌, ◌<◌, compare, Ordering, ◌≢◌}
+use Rattle.std.specs.Prelude.{◌≡◌, ◌⊎◌, ◌+◌, ◌-◌, ◌*◌, ◌/◌, ◌%◌, ◌^◌, ◌≤◌, ◌<◌, ◌≢◌}
+use Rattle.lists.specs.Prelude.{refl, ap, ap₂, ◌∙◌, subst, inl, inr, ⊎_map, false, ℕ, zero, suc, compare, Ordering}
 use Rattle.lists.specs.Prelude.{ordering_eq, le_trans, le_of_eq, le_of_lt, lt_of_lt_of_le, lt_of_not-le, mul_assoc, mul-le-mul_right, mul-le-mul, eq-zero-or-pos}
 use Rattle.lists.specs.Prelude.{pow-succ', le-div_iff_mul-le, div-mul-le_self, div-add-mod', mod-lt, dec_le, arith, pow-add, pow_pos, pow_mono, T, Float, nan, inf, fin}
 use Rattle.lists.specs.Prelude.{binary64, nearest, units, size, fits}

@@ -1,6 +1,7 @@
 -- Document 01, "Arithmetic under everything", the norm: "For finite parts of size a·u and b·u, a and b whole, u = 2^-1074, the norm is the
 -- binary64 nearest to u times the square root of a² + b², ties to the even significand, and +infinity from (2^54 − 1)·2^970 upward."
-use Rattle.lists.specs.Prelude.{ℕ, zero, suc, ◌+◌, ◌-◌, ◌*◌, ◌/◌, ◌^◌, compare, false, cond, leb, ℤ, Float, nan, inf, fin, binary64, low, prec, up, down, nearest, units}
+use Rattle.std.specs.Prelude.{◌+◌, ◌-◌, ◌*◌, ◌/◌, ◌^◌}
+use Rattle.lists.specs.Prelude.{ℕ, zero, suc, compare, false, cond, leb, ℤ, Float, nan, inf, fin, binary64, low, prec, up, down, nearest, units}
 use Rattle.std.specs.Float.Ieee as Ieee
 
 -- the size of m·2^e in units of u = 2^-1074

@@ -1,6 +1,7 @@
 -- The order of norms: a larger sum of squares never gives a smaller norm, and from (2^54 − 1)·2^970 on, which is (2^54 − 1)·2^2044 units,
 -- it gives +infinity, below that a number. Both follow from nearness alone. Assumes nothing.
-use Rattle.lists.specs.Prelude.{◌≡◌, refl, sym, ap, false, ℕ, ◌+◌, ◌-◌, ◌*◌, ◌^◌, ◌≤◌, ◌<◌, le_refl, le_trans, le_of_eq, lt_of_lt_of_le, lt_of_not-le, not-le_of_lt}
+use Rattle.std.specs.Prelude.{◌≡◌, ◌+◌, ◌-◌, ◌*◌, ◌^◌, ◌≤◌, ◌<◌}
+use Rattle.lists.specs.Prelude.{refl, sym, ap, false, ℕ, le_refl, le_trans, le_of_eq, lt_of_lt_of_le, lt_of_not-le, not-le_of_lt}
 use Rattle.lists.specs.Prelude.{add-le-add, le_of_mul-le-mul_left, mul-le-mul_right, dec_le, arith, T, lit<, lit≤, pow_pos, Float, nan, inf, fin, le}
 use Rattle.std.specs.Float.Ieee as Ieee
 use Rattle.std.specs.Float.Ieee.Exact.{HasValue}

@@ -1,5 +1,6 @@
 -- A part's size from its bits without the sign: the significand times a power of two, in units of 2^-1074. And the bits of such a size.
-use Rattle.lists.specs.Prelude.{◌⊎◌, ◌≡◌, ℕ, ◌+◌, ◌-◌, ◌*◌, ◌/◌, ◌%◌, ◌^◌, ◌≤◌, ◌<◌, false, cond, ltb, Float, binary64, units, of_bits, to_bits, pos, ℤ}
+use Rattle.std.specs.Prelude.{◌⊎◌, ◌≡◌, ◌+◌, ◌-◌, ◌*◌, ◌/◌, ◌%◌, ◌^◌, ◌≤◌, ◌<◌}
+use Rattle.lists.specs.Prelude.{ℕ, false, cond, ltb, Float, binary64, units, of_bits, to_bits, pos, ℤ}
 use Rattle.std.specs.Int.Signed.{mag}
 
 -- an exponent as code holds it, an `i16`: a natural number, at most `most`

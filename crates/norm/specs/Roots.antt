@@ -1,5 +1,6 @@
 -- `root n` is the whole part of the square root: its square is at most n, and the next number's is above n. Assumes nothing.
-use Rattle.lists.specs.Prelude.{ℕ, zero, suc, ◌+◌, ◌*◌, ◌/◌, ◌^◌, ◌≤◌, ◌<◌, lt_of_lt_of_le, le_of_eq, mul-le-mul_left, pow-suc, div-lt_iff_lt-mul, arith, Bool, true}
+use Rattle.std.specs.Prelude.{◌+◌, ◌*◌, ◌/◌, ◌^◌, ◌≤◌, ◌<◌}
+use Rattle.lists.specs.Prelude.{ℕ, zero, suc, lt_of_lt_of_le, le_of_eq, mul-le-mul_left, pow-suc, div-lt_iff_lt-mul, arith, Bool, true}
 use Rattle.lists.specs.Prelude.{false, not, cond, T, leb, leb→le, nleb→lt, lit<, pow_pos}
 use Rattle.std.specs.Float.Ieee as Ieee
 use Rattle.std.specs.Float.Ieee.Digits.{size-lt}

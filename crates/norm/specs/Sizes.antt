@@ -1,6 +1,7 @@
 -- Sizes: what a part's bits without the sign say of it. Infinity's pattern is the border: a NaN's are above it, and below it
 -- stand the finite numbers, whose size is the significand times a power of two. Assumes nothing.
-use Rattle.lists.specs.Prelude.{◌≡◌, refl, sym, ap, ap₂, ◌∙◌, subst, inl, inr, Bool, true, false, cond, ℕ, zero, suc, ◌+◌, ◌*◌, ◌/◌, ◌%◌, ◌^◌, ◌≤◌, ◌<◌, lt_of_not-le, ◌≢◌}
+use Rattle.std.specs.Prelude.{◌≡◌, ◌+◌, ◌*◌, ◌/◌, ◌%◌, ◌^◌, ◌≤◌, ◌<◌, ◌≢◌}
+use Rattle.lists.specs.Prelude.{refl, sym, ap, ap₂, ◌∙◌, subst, inl, inr, Bool, true, false, cond, ℕ, zero, suc, lt_of_not-le}
 use Rattle.lists.specs.Prelude.{mod-lt, dec_le, arith, ℤ, T, leb, eqb, pow_pos, Float, nan, inf, fin, binary64, odd, up, down, fits, of_fields, of_bits, to_bits, lt-ltb}
 use Rattle.lists.specs.Prelude.{le-ltb}
 use Rattle.std.specs.Float.Ieee as Ieee

@@ -1,6 +1,7 @@
 -- Squares, powers of four, and what `compare` says, as the laws of the root and of its rounding need them. What multiplying out alone shows
 -- is left to `omega`. Assumes nothing.
-use Rattle.lists.specs.Prelude.{◌≡◌, refl, sym, ap, ◌∙◌, subst, ℕ, zero, suc, ◌+◌, ◌*◌, ◌/◌, ◌%◌, ◌^◌, ◌≤◌, ◌<◌, compare, Ordering, ordering_lt, ordering_eq}
+use Rattle.std.specs.Prelude.{◌≡◌, ◌+◌, ◌*◌, ◌/◌, ◌%◌, ◌^◌, ◌≤◌, ◌<◌}
+use Rattle.lists.specs.Prelude.{refl, sym, ap, ◌∙◌, subst, ℕ, zero, suc, compare, Ordering, ordering_lt, ordering_eq}
 use Rattle.lists.specs.Prelude.{ordering_gt, le_of_lt, lt_of_not-le, lt_of_le_of_lt, not-le_of_lt, mul-le-mul, mul-le-mul_left, mul-pos, one-mul, pow-suc, pow-zero}
 use Rattle.lists.specs.Prelude.{arith, not, lt_of_le-ne, T, is_le, compare_is_eq, eqb, leb→le, nleb→lt, eqb→eq, eqb_refl, pow-add, pow_pos, shl_lt, split}
 

@@ -1,5 +1,6 @@
 -- The rounded root as a binary64: it is one, its value, its size where it is finite, and its last bit at a tie. Assumes nothing.
-use Rattle.lists.specs.Prelude.{◌≡◌, refl, sym, ap, ◌∙◌, subst, ◌⊎◌, inl, inr, ⊎_map, false, ℕ, suc, ◌+◌, ◌*◌, ◌%◌, ◌^◌, ◌≤◌, ◌<◌, le_trans, lt_of_not-le, ◌≢◌}
+use Rattle.std.specs.Prelude.{◌≡◌, ◌⊎◌, ◌+◌, ◌*◌, ◌%◌, ◌^◌, ◌≤◌, ◌<◌, ◌≢◌}
+use Rattle.lists.specs.Prelude.{refl, sym, ap, ◌∙◌, subst, inl, inr, ⊎_map, false, ℕ, suc, le_trans, lt_of_not-le}
 use Rattle.lists.specs.Prelude.{eq-or-lt_of_le, dec_le, arith, T, lit<, Float, nan, inf, fin, binary64, units, fits, of_bits, to_bits, le-ltb}
 use Rattle.std.specs.Float.Ieee.Bits.{of_bits-fits}
 use Rattle.std.specs.Float.Ieee.Digits.{Equals}

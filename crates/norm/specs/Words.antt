@@ -1,6 +1,7 @@
 -- What the code's words stand for: a number of two or three words, what has been read of a number whose root is taken, and how many of the
 -- root's digits are dropped and which way it is rounded.
-use Rattle.lists.specs.Prelude.{◌⊎◌, ◌≡◌, ℕ, ◌+◌, ◌*◌, ◌%◌, ◌^◌, ◌≤◌, ◌<◌}
+use Rattle.std.specs.Prelude.{◌⊎◌, ◌≡◌, ◌+◌, ◌*◌, ◌%◌, ◌^◌, ◌≤◌, ◌<◌}
+use Rattle.lists.specs.Prelude.{ℕ}
 use Rattle.norm.specs.declared.wide.Wide.{Wide}
 use Rattle.norm.specs.declared.wide.Three.{Three}
 use Rattle.norm.specs.declared.square_root.Root.{Root}

@@ -1,6 +1,7 @@
 // The exponents: how far a part is shifted, how far apart two are, what the leading zeros of a sum or a root say, and the bits of a
 // significand at its step. Each is an `i16` that stands for a natural number, and its range is in its comment; the largest is 2072.
-ghost use Rattle.lists.specs.Prelude.{◌≡◌, ◌+◌, ◌-◌, ◌*◌, ◌/◌, ◌^◌, ◌≤◌, ◌<◌, leb, pos};
+ghost use Rattle.std.specs.Prelude.{◌≡◌, ◌+◌, ◌-◌, ◌*◌, ◌/◌, ◌^◌, ◌≤◌, ◌<◌};
+ghost use Rattle.lists.specs.Prelude.{leb, pos};
 ghost use Rattle.std.specs.Int.Count.{count_leading_zeros};
 ghost use Rattle.std.specs.Int.Signed.{mag};
 ghost use Rattle.norm.specs.Parts.{UpTo, shift_of, Rounded, Encodes};

@@ -1,5 +1,6 @@
 // A guess at the rounded root, and its check. Where the check fails the digits decide.
-ghost use Rattle.lists.specs.Prelude.{◌≡◌, ℕ, ◌+◌, ◌*◌, ◌/◌, ◌^◌, ◌≤◌, ◌<◌};
+ghost use Rattle.std.specs.Prelude.{◌≡◌, ◌+◌, ◌*◌, ◌/◌, ◌^◌, ◌≤◌, ◌<◌};
+ghost use Rattle.lists.specs.Prelude.{ℕ};
 ghost use Rattle.std.specs.Int.Signed.{mag};
 ghost use Rattle.norm.specs.Parts.{UpTo};
 ghost use Rattle.norm.specs.Checked.{Between, Covers, Ranked, Settles, whole_squares};

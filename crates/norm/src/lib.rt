@@ -9,7 +9,8 @@ mod parts;
 mod square_root;
 mod wide;
 
-ghost use Rattle.lists.specs.Prelude.{◌≡◌, max, min};
+ghost use Rattle.std.specs.Prelude.{◌≡◌};
+ghost use Rattle.lists.specs.Prelude.{max, min};
 ghost use Rattle.norm.specs.Norm.{norm};
 ghost use Rattle.norm.specs.Parts.{unsigned};
 

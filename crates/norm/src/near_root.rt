@@ -1,5 +1,5 @@
 // A whole number near a root, from a table of the inverse root and integer steps. It decides nothing: what it makes is checked.
-ghost use Rattle.lists.specs.Prelude.{◌^◌, ◌≤◌, ◌<◌};
+ghost use Rattle.std.specs.Prelude.{◌^◌, ◌≤◌, ◌<◌};
 
 // 2^15 / √y at y = 1/4, at each further 1/32, and at 1, each a little lower: the lines between are as far below the curve at their ends as
 // above it within, at most 8 parts in 10^4.

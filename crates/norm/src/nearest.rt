@@ -1,5 +1,6 @@
 // The root rounded to 53 digits or at whole units, ties to the even significand.
-ghost use Rattle.lists.specs.Prelude.{◌⊎◌, ◌≡◌, ℕ, ◌+◌, ◌*◌, ◌^◌, ◌≤◌, ◌<◌, binary64, of_bits};
+ghost use Rattle.std.specs.Prelude.{◌⊎◌, ◌≡◌, ◌+◌, ◌*◌, ◌^◌, ◌≤◌, ◌<◌};
+ghost use Rattle.lists.specs.Prelude.{ℕ, binary64, of_bits};
 ghost use Rattle.std.specs.Int.Signed.{mag};
 ghost use Rattle.norm.specs.Parts.{UpTo};
 ghost use Rattle.norm.specs.Norm.{rounded_root};

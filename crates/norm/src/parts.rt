@@ -1,5 +1,6 @@
 // The norm of two finite parts by their bits without the signs.
-ghost use Rattle.lists.specs.Prelude.{◌⊎◌, ◌≡◌, ◌+◌, ◌*◌, ◌^◌, ◌≤◌, ◌<◌, binary64, of_bits};
+ghost use Rattle.std.specs.Prelude.{◌⊎◌, ◌≡◌, ◌+◌, ◌*◌, ◌^◌, ◌≤◌, ◌<◌};
+ghost use Rattle.lists.specs.Prelude.{binary64, of_bits};
 ghost use Rattle.std.specs.Int.Signed.{mag};
 ghost use Rattle.norm.specs.Checked.{Settles};
 ghost use Rattle.norm.specs.Norm.{rounded_root};

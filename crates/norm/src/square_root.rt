@@ -1,5 +1,5 @@
 // The square root digit by digit. What has been read of the number is root² + rest, with rest at most 2·root.
-ghost use Rattle.lists.specs.Prelude.{◌+◌, ◌*◌, ◌^◌, ◌≤◌, ◌<◌};
+ghost use Rattle.std.specs.Prelude.{◌+◌, ◌*◌, ◌^◌, ◌≤◌, ◌<◌};
 ghost use Rattle.norm.specs.Words.{two, three, read, Reads};
 
 use super::wide::{Three, Wide, at_most, minus, with_digit, with_two_digits};

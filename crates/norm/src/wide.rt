@@ -1,5 +1,6 @@
 // Numbers of two and of three words: what the root needs of them, each contract in natural numbers.
-ghost use Rattle.lists.specs.Prelude.{◌≡◌, ◌+◌, ◌-◌, ◌*◌, ◌^◌, ◌≤◌, ◌<◌, leb};
+ghost use Rattle.std.specs.Prelude.{◌≡◌, ◌+◌, ◌-◌, ◌*◌, ◌^◌, ◌≤◌, ◌<◌};
+ghost use Rattle.lists.specs.Prelude.{leb};
 ghost use Rattle.std.specs.Int.Signed.{mag};
 ghost use Rattle.norm.specs.Parts.{UpTo};
 ghost use Rattle.norm.specs.Words.{two, three};

@@ -1,5 +1,6 @@
 -- What the trace of the density and the trace of a product answer where a question refuses, and where all pass. Assumes nothing.
-use Rattle.lists.specs.Prelude.{◌≡◌, refl, sym, ap, ◌∙◌, List, ℕ, Float}
+use Rattle.std.specs.Prelude.{◌≡◌}
+use Rattle.lists.specs.Prelude.{refl, sym, ap, ◌∙◌, List, ℕ, Float}
 use Rattle.complex.specs.declared.Complex.{Complex}
 use Rattle.complex.specs.Arithmetic.{cfinite}
 use Rattle.refusal.specs.declared.Refusal.{Refusal}

@@ -1,6 +1,7 @@
 -- Document 01, observables: the outcome of each call. Checks 1, 2, 3, 16 and 7 of the lesser function (operand 0) and of the observable's block
 -- (operand 1) come before the order that the module names. Document 02, L1: "observables read the same layout over the points".
-use Rattle.lists.specs.Prelude.{ℕ, cond, ◌&&◌, List, eqb, length, Float, binary64, of_bits}
+use Rattle.std.specs.Prelude.{◌&&◌}
+use Rattle.lists.specs.Prelude.{ℕ, cond, List, eqb, length, Float, binary64, of_bits}
 use Rattle.complex.specs.declared.Complex.{Complex}
 use Rattle.complex.specs.Arithmetic.{mul, cmul}
 use Rattle.refusal.specs.declared.Verdict.{Verdict}

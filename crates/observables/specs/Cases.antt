@@ -1,6 +1,7 @@
 -- Closed cases of the observables: P10 of document 01, traces that are not finite, the run with two orbitals (reference/expected.py, case d), each
 -- refusal, and functions in a capacity.
-use Rattle.lists.specs.Prelude.{◌≡◌, refl, List, [], ◌∷◌, ◌++◌, map, ℕ, replicate, take, drop, Float, nan, binary64, to_bits}
+use Rattle.std.specs.Prelude.{◌≡◌, ◌∷◌, ◌++◌}
+use Rattle.lists.specs.Prelude.{refl, List, [], map, ℕ, replicate, take, drop, Float, nan, binary64, to_bits}
 use Rattle.std.specs.Float.Ieee as Ieee
 use Rattle.lists.specs.Indexed.{fold, join, all_below}
 use Rattle.complex.specs.declared.Complex.{Complex}

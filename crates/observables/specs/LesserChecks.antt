@@ -1,5 +1,6 @@
 -- The checks of a lesser function with a block beside it as the code asks them, and what it says that they pass. Assumes nothing.
-use Rattle.lists.specs.Prelude.{◌≡◌, refl, sym, ap, ◌∙◌, Bool, true, ◌&&◌, and-true, List, [], ◌∷◌, ℕ, ◌≤◌, le_of_eq, le_trans, lt_of_lt_of_le, eqb, length, Float, eqb-true, leb-true, le-leb}
+use Rattle.std.specs.Prelude.{◌≡◌, ◌&&◌, ◌∷◌, ◌≤◌}
+use Rattle.lists.specs.Prelude.{refl, sym, ap, ◌∙◌, Bool, true, and-true, List, [], ℕ, le_of_eq, le_trans, lt_of_lt_of_le, eqb, length, Float, eqb-true, leb-true, le-leb}
 use Rattle.lists.specs.Agreement.{both}
 use Rattle.refusal.specs.declared.Refusal.{Refusal}
 use Rattle.refusal.specs.declared.Verdict.{Verdict}

@@ -1,5 +1,6 @@
 -- A lesser function that passed its checks, and a time index below the points: each entry of its block there is read. Assumes nothing.
-use Rattle.lists.specs.Prelude.{◌≡◌, sym, ◌∙◌, true, List, [], ◌∷◌, ℕ, ◌*◌, ◌≤◌, ◌<◌, lt_of_lt_of_le, le_of_eq, le_trans, zero-mul, zero-add, arith, ltb, length, Float, ltb-true}
+use Rattle.std.specs.Prelude.{◌≡◌, ◌∷◌, ◌*◌, ◌≤◌, ◌<◌}
+use Rattle.lists.specs.Prelude.{sym, ◌∙◌, true, List, [], ℕ, lt_of_lt_of_le, le_of_eq, le_trans, zero-mul, zero-add, arith, ltb, length, Float, ltb-true}
 use Rattle.complex.specs.declared.Complex.{Complex}
 use Rattle.refusal.specs.declared.Verdict.{Verdict}
 use Rattle.refusal.specs.declared.Verdict.TheVariants.{Pass}

@@ -1,5 +1,6 @@
 -- What a query of a bond flow is answered once the checks of the lesser function are passed: there it is the single call's answer. Assumes nothing.
-use Rattle.lists.specs.Prelude.{◌≡◌, refl, sym, ap, ◌∙◌, List, ℕ, Float, binary64, of_bits}
+use Rattle.std.specs.Prelude.{◌≡◌}
+use Rattle.lists.specs.Prelude.{refl, sym, ap, ◌∙◌, List, ℕ, Float, binary64, of_bits}
 use Rattle.complex.specs.declared.Complex.{Complex}
 use Rattle.complex.specs.Arithmetic.{mul, cmul, czero, minus_i}
 use Rattle.refusal.specs.declared.Refusal.{Refusal}

@@ -1,5 +1,5 @@
 // An observable's answer from the answers to its questions.
-ghost use Rattle.lists.specs.Prelude.{◌≡◌};
+ghost use Rattle.std.specs.Prelude.{◌≡◌};
 ghost use Rattle.complex.specs.Arithmetic.{plus_zero};
 ghost use Rattle.refusal.specs.declared.Verdict.{Verdict};
 ghost use Rattle.observables.specs.Calls.{observed};

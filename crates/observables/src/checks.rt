@@ -1,5 +1,5 @@
 // Checks 1, 2, 3, 16 and 7 of a lesser function, and of a block beside it (document 01, "Questions in order"; document 02, L1), and 8 and 11 after them.
-ghost use Rattle.lists.specs.Prelude.{◌≡◌};
+ghost use Rattle.std.specs.Prelude.{◌≡◌};
 ghost use Rattle.refusal.specs.Verdict.{◌then◌};
 ghost use Rattle.refusal.specs.Checks.{time_below};
 ghost use Rattle.observables.specs.Calls.{lesser_checks, lesser_block_checks};

@@ -1,5 +1,6 @@
 // The density matrix rho(t) = -i G^<(t,t), entry by entry.
-ghost use Rattle.lists.specs.Prelude.{◌≡◌, ◌*◌, ◌<◌, ◌≤◌, length};
+ghost use Rattle.std.specs.Prelude.{◌≡◌, ◌*◌, ◌<◌, ◌≤◌};
+ghost use Rattle.lists.specs.Prelude.{length};
 ghost use Rattle.complex.specs.Filling.{cells};
 ghost use Rattle.matrix.specs.Dense.{block_of};
 ghost use Rattle.block.specs.Operations.{trace};

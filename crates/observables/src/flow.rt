@@ -1,6 +1,6 @@
 // What a query of a bond flow is answered once the checks of the lesser function are passed, which the single call and a list of queries share
 // (document 02, L6).
-ghost use Rattle.lists.specs.Prelude.{◌≡◌};
+ghost use Rattle.std.specs.Prelude.{◌≡◌};
 ghost use Rattle.two_time.specs.Layout.{stored_at};
 ghost use Rattle.observables.specs.Query.{found, queried};
 

@@ -8,7 +8,7 @@ mod density;
 pub mod flow;
 mod product;
 
-ghost use Rattle.lists.specs.Prelude.{◌≡◌};
+ghost use Rattle.std.specs.Prelude.{◌≡◌};
 ghost use Rattle.observables.specs.Calls.{density_matrix, particle_number, one_body_expectation, bond_flow_into};
 
 use answer::{real_checked, refused};

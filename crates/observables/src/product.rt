@@ -1,5 +1,6 @@
 // The product of a one-body matrix, given as the numbers of its block, and the density matrix, entry by entry.
-ghost use Rattle.lists.specs.Prelude.{◌≡◌, ◌≤◌, ◌<◌, length};
+ghost use Rattle.std.specs.Prelude.{◌≡◌, ◌≤◌, ◌<◌};
+ghost use Rattle.lists.specs.Prelude.{length};
 ghost use Rattle.lists.specs.Indexed.{all_below};
 ghost use Rattle.complex.specs.Arithmetic.{cfinite};
 ghost use Rattle.block.specs.Block.{entries_in};

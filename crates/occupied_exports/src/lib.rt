@@ -2,7 +2,8 @@
 // lesser self-energy, as its rows, its columns and 512 numbers. How an answer leaves is in `answers`, how a session crosses in `counters`.
 #![tactic(auto)]
 
-ghost use Rattle.lists.specs.Prelude.{◌≡◌, List, Float, false};
+ghost use Rattle.std.specs.Prelude.{◌≡◌};
+ghost use Rattle.lists.specs.Prelude.{List, Float, false};
 ghost use Rattle.refusal.specs.Verdict.{◌then◌};
 ghost use Rattle.refusal.specs.Checks.{desk_known};
 ghost use Rattle.transient_run.specs.Form.{form_sizes};

@@ -1,5 +1,6 @@
 -- Closed cases of the checks: each at its edge, and questions in order.
-use Rattle.lists.specs.Prelude.{◌≡◌, refl, true, false, [], ◌∷◌, map, Float, nan, inf, binary64}
+use Rattle.std.specs.Prelude.{◌≡◌, ◌∷◌}
+use Rattle.lists.specs.Prelude.{refl, true, false, [], map, Float, nan, inf, binary64}
 use Rattle.std.specs.Float.Ieee as Ieee
 use Rattle.lists.specs.Indexed.{all_below}
 use Rattle.complex.specs.Arithmetic.{plus_zero, one, czero, size, finite, cfinite}

@@ -1,6 +1,7 @@
 -- Document 01, "Questions in order": the checks 1 to 15, and 16, 17, 18 and 22 of document 02, each a question over plain values. The answer no gives the
 -- check's number.
-use Rattle.lists.specs.Prelude.{ℕ, ◌+◌, ◌-◌, ◌*◌, Bool, not, ◌&&◌, List, leb, ltb, get_or, Float, nan, lt}
+use Rattle.std.specs.Prelude.{◌+◌, ◌-◌, ◌*◌, ◌&&◌}
+use Rattle.lists.specs.Prelude.{ℕ, Bool, not, List, leb, ltb, get_or, Float, nan, lt}
 use Rattle.lists.specs.Indexed.{all_below}
 use Rattle.complex.specs.declared.Complex.{Complex}
 use Rattle.complex.specs.Arithmetic.{plus_zero, finite, cfinite, size}

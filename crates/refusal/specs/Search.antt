@@ -1,5 +1,6 @@
 -- How far a search for the first question that is answered no has come, and what that says of all the questions. Assumes nothing.
-use Rattle.lists.specs.Prelude.{◌≡◌, refl, sym, ◌∙◌, Bool, true, false, List, ⊎_elim, ℕ, zero, suc, ◌+◌, ◌≤◌, ◌<◌, le_of_suc-le-suc, eq-or-lt_of_le, arith, eqb, length}
+use Rattle.std.specs.Prelude.{◌≡◌, ◌+◌, ◌≤◌, ◌<◌}
+use Rattle.lists.specs.Prelude.{refl, sym, ◌∙◌, Bool, true, false, List, ⊎_elim, ℕ, zero, suc, le_of_suc-le-suc, eq-or-lt_of_le, arith, eqb, length}
 use Rattle.lists.specs.Prelude.{get_or, get_or-eq_default, Float, nan, inf, fin, lt, eq-eqb, ne_eqb}
 use Rattle.lists.specs.Indexed.{all_below}
 use Rattle.lists.specs.Agreement.{never, all-each, each_all}

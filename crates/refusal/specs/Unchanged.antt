@@ -1,5 +1,6 @@
 -- Answers that leave a lent slice as it was: a refusal is by one of the checks to 22, and never by 10. Assumes nothing.
-use Rattle.lists.specs.Prelude.{◌≡◌, refl, Bool, true, false, not, ◌&&◌, List, ℕ, zero, suc, ◌≤◌, arith, leb, eqb, Float, leb-true}
+use Rattle.std.specs.Prelude.{◌≡◌, ◌&&◌, ◌≤◌}
+use Rattle.lists.specs.Prelude.{refl, Bool, true, false, not, List, ℕ, zero, suc, arith, leb, eqb, Float, leb-true}
 use Rattle.lists.specs.Agreement.{never, both}
 use Rattle.refusal.specs.declared.Refusal.{Refusal}
 use Rattle.refusal.specs.declared.Verdict.{Verdict}

@@ -1,6 +1,7 @@
 // The checks of document 01, "Questions in order", and 16, 17, 18 and 22 of document 02, each a question over plain values. All are total: a number past the end
 // of a slice is a NaN to them.
-ghost use Rattle.lists.specs.Prelude.{◌≡◌, ◌-◌, ◌+◌, ◌≤◌, min, max, get_or, length, nan, lt};
+ghost use Rattle.std.specs.Prelude.{◌≡◌, ◌-◌, ◌+◌, ◌≤◌};
+ghost use Rattle.lists.specs.Prelude.{min, max, get_or, length, nan, lt};
 ghost use Rattle.complex.specs.Arithmetic.{finite};
 ghost use Rattle.refusal.specs.Verdict.{by, ask, ask_all};
 ghost use Rattle.refusal.specs.Checks.{large_enough, not_empty, within_limits, within_block, within_program, fitting, finite_times, rising_times, finite_at, finite_entries, valid_tolerance, retarded_at, finite_work, time_below, orbital_below, finite_factors, real_within, well_formed, within_capacity, counter_holds, within_list, desk_known};

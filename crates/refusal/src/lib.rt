@@ -1,7 +1,7 @@
 // Refusals by the numbers of document 01, "Questions in order", and the answers that carry them.
 #![tactic(auto)]
 
-ghost use Rattle.lists.specs.Prelude.{◌≡◌};
+ghost use Rattle.std.specs.Prelude.{◌≡◌};
 ghost use Rattle.refusal.specs.Verdict.{by, ◌then◌};
 
 pub mod checks;

@@ -1,6 +1,6 @@
 // Slices that are made of a seed, for calls at sizes that are too large to be stored: rising times, and one function that is lent for
 // every operand.
-ghost use Rattle.lists.specs.Prelude.{◌≤◌};
+ghost use Rattle.std.specs.Prelude.{◌≤◌};
 
 use crate::lent::Places;
 use crate::{words, xorshift};

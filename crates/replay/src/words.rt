@@ -1,5 +1,5 @@
 // Words of the input: 16 hexadecimal digits each, and one byte after them, a space or a line feed.
-ghost use Rattle.lists.specs.Prelude.{◌<◌};
+ghost use Rattle.std.specs.Prelude.{◌<◌};
 
 use complex::bits::from_bits;
 use std::io::Read;

@@ -1,5 +1,6 @@
 -- What each call answers where a check refuses, and where all pass. Assumes nothing.
-use Rattle.lists.specs.Prelude.{◌≡◌, sym, ap, ap₂, ◌∙◌, Bool, ◌&&◌, and_assoc, List, ℕ, length, Float, le}
+use Rattle.std.specs.Prelude.{◌≡◌, ◌&&◌}
+use Rattle.lists.specs.Prelude.{sym, ap, ap₂, ◌∙◌, Bool, and_assoc, List, ℕ, length, Float, le}
 use Rattle.refusal.specs.declared.Refusal.{Refusal}
 use Rattle.refusal.specs.declared.Verdict.{Verdict}
 use Rattle.refusal.specs.declared.Verdict.TheVariants.{Pass, Refused}

@@ -1,5 +1,6 @@
 -- Document 01, report: the outcome of `consistency_report` and of `is_consistent`. No answer depends on times, so none are asked for.
-use Rattle.lists.specs.Prelude.{ℕ, true, ◌&&◌, List, [], ◌∷◌, Float, le}
+use Rattle.std.specs.Prelude.{◌&&◌, ◌∷◌}
+use Rattle.lists.specs.Prelude.{ℕ, true, List, [], Float, le}
 use Rattle.refusal.specs.declared.Verdict.{Verdict}
 use Rattle.refusal.specs.declared.Verdict.TheVariants.{Pass, Refused}
 use Rattle.refusal.specs.declared.Decision.{Decision}

@@ -1,6 +1,7 @@
 -- Closed cases of the report (reference/expected.py, case f), 10 by a subtraction, an infinite residual, the rule of
 -- equal times, and the consistency question.
-use Rattle.lists.specs.Prelude.{◌≡◌, refl, List, [], ◌∷◌, ◌++◌, map, ℕ, replicate, Float, nan, binary64}
+use Rattle.std.specs.Prelude.{◌≡◌, ◌∷◌, ◌++◌}
+use Rattle.lists.specs.Prelude.{refl, List, [], map, ℕ, replicate, Float, nan, binary64}
 use Rattle.std.specs.Float.Ieee as Ieee
 use Rattle.lists.specs.Indexed.{fold, all_below}
 use Rattle.complex.specs.Arithmetic.{plus_zero, one, finite, larger, csub, cmul, conj, cfinite}

@@ -1,5 +1,6 @@
 -- Check 10 as the code asks it, number by number in the order of the slices. Assumes nothing.
-use Rattle.lists.specs.Prelude.{◌≡◌, ap, ◌∙◌, Bool, ◌&&◌, List, ℕ, ◌+◌, ◌*◌, ◌/◌, ◌%◌, div-add-mod', mul_comm, mul_assoc, add-zero, length, get_or, Float, nan}
+use Rattle.std.specs.Prelude.{◌≡◌, ◌&&◌, ◌+◌, ◌*◌, ◌/◌, ◌%◌}
+use Rattle.lists.specs.Prelude.{ap, ◌∙◌, Bool, List, ℕ, div-add-mod', mul_comm, mul_assoc, add-zero, length, get_or, Float, nan}
 use Rattle.lists.specs.Indexed.{all_below}
 use Rattle.lists.specs.Agreement.{all_agree}
 use Rattle.lists.specs.Steps.{all_flat}

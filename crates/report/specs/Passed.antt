@@ -1,5 +1,6 @@
 -- What it says of the components that the report's checks pass, and the mirror of a place. Assumes nothing.
-use Rattle.lists.specs.Prelude.{◌≡◌, true, List, ℕ, ◌≤◌, length, Float}
+use Rattle.std.specs.Prelude.{◌≡◌, ◌≤◌}
+use Rattle.lists.specs.Prelude.{true, List, ℕ, length, Float}
 use Rattle.refusal.specs.declared.Verdict.TheVariants.{Pass}
 use Rattle.refusal.specs.Agreement.{then-pass}
 use Rattle.two_time.specs.Layout.{length_of}

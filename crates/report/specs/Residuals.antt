@@ -1,6 +1,7 @@
 -- Document 01, report: "six residuals as in `keldysh.rs`", and the seventh of document 02, L7; one for each identity: the largest norm of what
 -- it leaves, over the places of which it speaks, rows first.
-use Rattle.lists.specs.Prelude.{ℕ, Bool, true, cond, ◌&&◌, List, eqb, ltb, Float}
+use Rattle.std.specs.Prelude.{◌&&◌}
+use Rattle.lists.specs.Prelude.{ℕ, Bool, true, cond, List, eqb, ltb, Float}
 use Rattle.std.specs.Float.Ieee as Ieee
 use Rattle.complex.specs.Arithmetic.{plus_zero, one, minus_i, real, cfinite}
 use Rattle.complex.specs.Sum.{largest_in}

@@ -1,5 +1,6 @@
 // The checks that the report asks of the components (document 01, "Questions in order").
-ghost use Rattle.lists.specs.Prelude.{◌≡◌, ◌≤◌, length};
+ghost use Rattle.std.specs.Prelude.{◌≡◌, ◌≤◌};
+ghost use Rattle.lists.specs.Prelude.{length};
 ghost use Rattle.report.specs.Calls.{report_checks};
 ghost use Rattle.report.specs.Differences.{difference_finite};
 

@@ -1,5 +1,6 @@
 // The identities of the report: what each leaves at an entry, and of which places it speaks.
-ghost use Rattle.lists.specs.Prelude.{◌≡◌, ◌≤◌, length};
+ghost use Rattle.std.specs.Prelude.{◌≡◌, ◌≤◌};
+ghost use Rattle.lists.specs.Prelude.{length};
 ghost use Rattle.complex.specs.Arithmetic.{minus_i};
 ghost use Rattle.block.specs.Operations.{identity, scaled, subtracted};
 ghost use Rattle.two_time.specs.Layout.{read_as, length_of};

@@ -5,7 +5,7 @@ mod checks;
 mod identities;
 mod residuals;
 
-ghost use Rattle.lists.specs.Prelude.{◌≡◌};
+ghost use Rattle.std.specs.Prelude.{◌≡◌};
 ghost use Rattle.report.specs.Calls.{consistency_report, is_consistent};
 
 use checks::{check_inputs, difference_finite};

@@ -1,5 +1,5 @@
 // The residuals of the report: for each identity the largest norm of what it leaves, over the places that it speaks of.
-ghost use Rattle.lists.specs.Prelude.{◌≡◌, ◌<◌};
+ghost use Rattle.std.specs.Prelude.{◌≡◌, ◌<◌};
 ghost use Rattle.complex.specs.Arithmetic.{larger};
 ghost use Rattle.complex.specs.Sum.{largest_from};
 ghost use Rattle.largest.specs.Larger.{FromZero};

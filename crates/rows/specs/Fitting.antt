@@ -1,5 +1,6 @@
 -- What it says that a term fits. Assumes nothing.
-use Rattle.lists.specs.Prelude.{◌≡◌, refl, sym, ◌∙◌, Bool, true, false, ◌&&◌, List, ℕ, ◌+◌, ◌*◌, ◌≤◌, ◌<◌, arith, leb, eqb, length, Float, leb-true, le-leb, eqb-true, eq-eqb}
+use Rattle.std.specs.Prelude.{◌≡◌, ◌&&◌, ◌+◌, ◌*◌, ◌≤◌, ◌<◌}
+use Rattle.lists.specs.Prelude.{refl, sym, ◌∙◌, Bool, true, false, List, ℕ, arith, leb, eqb, length, Float, leb-true, le-leb, eqb-true, eq-eqb}
 use Rattle.lists.specs.Agreement.{both}
 use Rattle.lanes.specs.Lanes.{lane_at}
 use Rattle.lanes.specs.Laws.{lanes-long, with_made}

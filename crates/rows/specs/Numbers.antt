@@ -1,5 +1,6 @@
 -- A row of up to 16 complex numbers whose parts stand apart, and a loop that changes them in place, one a step. Assumes nothing.
-use Rattle.lists.specs.Prelude.{◌≡◌, refl, sym, ap, subst, ◌∙◌, List, ⊎_elim, ℕ, ◌+◌, ◌≤◌, ◌<◌, eq-or-lt_of_le, le_antisymm, arith, length, get_or, set, replicate}
+use Rattle.std.specs.Prelude.{◌≡◌, ◌+◌, ◌≤◌, ◌<◌}
+use Rattle.lists.specs.Prelude.{refl, sym, ap, subst, ◌∙◌, List, ⊎_elim, ℕ, eq-or-lt_of_le, le_antisymm, arith, length, get_or, set, replicate}
 use Rattle.lists.specs.Prelude.{length-set, get_or-replicate, get_or-set_same, get_or-set_other, Float, nan}
 use Rattle.complex.specs.declared.Complex.{Complex}
 use Rattle.complex.specs.Arithmetic.{czero, plus_zero}

@@ -1,5 +1,6 @@
 -- Rows of lanes as parts of one list, and a loop that changes them in place, one a step. Assumes nothing.
-use Rattle.lists.specs.Prelude.{◌≡◌, refl, sym, ap, subst, ◌∙◌, List, ◌++◌, ⊎_elim, ℕ, ◌+◌, ◌-◌, ◌*◌, ◌≤◌, ◌<◌, dec_lt, eq-or-lt_of_le, le_antisymm, arith, length, get_or}
+use Rattle.std.specs.Prelude.{◌≡◌, ◌++◌, ◌+◌, ◌-◌, ◌*◌, ◌≤◌, ◌<◌}
+use Rattle.lists.specs.Prelude.{refl, sym, ap, subst, ◌∙◌, List, ⊎_elim, ℕ, dec_lt, eq-or-lt_of_le, le_antisymm, arith, length, get_or}
 use Rattle.lists.specs.Prelude.{take, drop, replicate, length-drop, get_or-replicate, get_or-append, length-take-le, get_or-take, get_or-drop, get_or-append-add, Float, nan}
 use Rattle.lists.specs.Prelude.{mid_of, post_of, put_mid, same_len_mid}
 use Rattle.complex.specs.declared.Complex.{Complex}

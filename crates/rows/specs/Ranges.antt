@@ -1,5 +1,6 @@
 -- How a term goes to the lanes of a row by its ranges. Assumes nothing.
-use Rattle.lists.specs.Prelude.{◌≡◌, refl, sym, ap, ◌∙◌, Bool, true, false, cond, ◌&&◌, ◌||◌, List, ◌⊎◌, inl, inr, ℕ, ◌≤◌, ◌<◌, dec_lt, arith, leb, ltb, eqb, Float}
+use Rattle.std.specs.Prelude.{◌≡◌, ◌&&◌, ◌||◌, ◌⊎◌, ◌≤◌, ◌<◌}
+use Rattle.lists.specs.Prelude.{refl, sym, ap, ◌∙◌, Bool, true, false, cond, List, inl, inr, ℕ, dec_lt, arith, leb, ltb, eqb, Float}
 use Rattle.lists.specs.Prelude.{leb-true, le-leb, lt-leb, lt-ltb, le-ltb, eqb-true}
 use Rattle.lists.specs.Agreement.{both}
 use Rattle.complex.specs.declared.Complex.{Complex}

@@ -1,5 +1,6 @@
 -- A term goes to the rows of a group: lane c of row a takes the product of row a of the left factor and column c of the right one by the lane's weight.
-use Rattle.lists.specs.Prelude.{ℕ, ◌+◌, ◌*◌, Bool, cond, ◌&&◌, ◌||◌, List, leb, ltb, eqb, length, Float}
+use Rattle.std.specs.Prelude.{◌+◌, ◌*◌, ◌&&◌, ◌||◌}
+use Rattle.lists.specs.Prelude.{ℕ, Bool, cond, List, leb, ltb, eqb, length, Float}
 use Rattle.complex.specs.declared.Complex.{Complex}
 use Rattle.complex.specs.Arithmetic.{czero, real, cadd, cmul}
 use Rattle.complex.specs.Numbers.{entry_at}

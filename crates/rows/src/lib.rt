@@ -2,7 +2,8 @@
 // says.
 #![tactic(auto)]
 
-ghost use Rattle.lists.specs.Prelude.{◌≡◌, ℕ, ◌+◌, ◌*◌, ◌<◌, ◌≤◌, length};
+ghost use Rattle.std.specs.Prelude.{◌≡◌, ◌+◌, ◌*◌, ◌<◌, ◌≤◌};
+ghost use Rattle.lists.specs.Prelude.{ℕ, length};
 ghost use Rattle.complex.specs.Arithmetic.{real, cadd, cmul};
 ghost use Rattle.complex.specs.Numbers.{entry_at};
 ghost use Rattle.complex.specs.Sum.{sum_from};

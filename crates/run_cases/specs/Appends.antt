@@ -1,5 +1,6 @@
 -- Closed cases of appends onto one or two points, one orbital, in a capacity of 2 or 3: what is read of the old entries, 10, 16 and the order of lines.
-use Rattle.lists.specs.Prelude.{◌≡◌, refl, List, [], ◌∷◌, ◌++◌, map, ℕ, ◌-◌, replicate, get_or, Float, nan}
+use Rattle.std.specs.Prelude.{◌≡◌, ◌∷◌, ◌++◌, ◌-◌}
+use Rattle.lists.specs.Prelude.{refl, List, [], map, ℕ, replicate, get_or, Float, nan}
 use Rattle.two_time.specs.Example.{floats, bits}
 use Rattle.complex.specs.Arithmetic.{plus_zero, one}
 use Rattle.transient_run.specs.Form.Form.{empty}

@@ -1,6 +1,7 @@
 -- Closed cases of a dot that starts occupied (document 02, L5): P12's first two points with g0 = i and its third appended; an isolated dot that keeps its
 -- occupation; the lines of the block in their order; 10 by each product of the start; a counter with room for the empty form alone.
-use Rattle.lists.specs.Prelude.{◌≡◌, refl, List, [], ◌∷◌, map, ℕ, ◌-◌, set, replicate, Float, nan}
+use Rattle.std.specs.Prelude.{◌≡◌, ◌∷◌, ◌-◌}
+use Rattle.lists.specs.Prelude.{refl, List, [], map, ℕ, set, replicate, Float, nan}
 use Rattle.complex.specs.Arithmetic.{plus_zero, one}
 use Rattle.refusal.specs.Checks.{not_empty, within_block}
 use Rattle.matrix.specs.declared.DenseMatrix.{DenseMatrix}

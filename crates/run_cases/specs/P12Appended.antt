@@ -1,6 +1,7 @@
 -- P12 in a capacity of 4, to 2 points and then appended twice, made stage by stage; the room beyond the points holds 7+7i (reference/expected.py, case k).
 -- Assumes nothing.
-use Rattle.lists.specs.Prelude.{◌≡◌, refl, true, List, [], ◌∷◌, ℕ, max, replicate, Float}
+use Rattle.std.specs.Prelude.{◌≡◌, ◌∷◌}
+use Rattle.lists.specs.Prelude.{refl, true, List, [], ℕ, max, replicate, Float}
 use Rattle.two_time.specs.declared.sums.Sums.TheVariants.{Causal, LesserAdvanced, Lesser}
 use Rattle.two_time.specs.New.{is_new, written, every_new}
 use Rattle.two_time.specs.Sums.{new_numbers, new_finite}

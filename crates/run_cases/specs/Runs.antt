@@ -1,5 +1,6 @@
 -- Closed cases of the transient run: two orbitals (reference/expected.py, case d), the order of its questions, and 10 by X and by G^<.
-use Rattle.lists.specs.Prelude.{◌≡◌, refl, List, [], ◌∷◌, ◌++◌, map, ℕ, replicate, take, Float, nan, binary64}
+use Rattle.std.specs.Prelude.{◌≡◌, ◌∷◌, ◌++◌}
+use Rattle.lists.specs.Prelude.{refl, List, [], map, ℕ, replicate, take, Float, nan, binary64}
 use Rattle.std.specs.Float.Ieee as Ieee
 use Rattle.complex.specs.Arithmetic.{plus_zero, one}
 use Rattle.refusal.specs.Verdict.{by}

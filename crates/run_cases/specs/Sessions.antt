@@ -1,5 +1,6 @@
 -- Closed cases of L3 and L13: P12 at the edge of its desk's counter and at two desks, a run whose work overflows, and an append at another desk.
-use Rattle.lists.specs.Prelude.{◌≡◌, refl, ap, List, [], ◌∷◌, ℕ, ◌+◌, ◌-◌, replicate, set, Float}
+use Rattle.std.specs.Prelude.{◌≡◌, ◌∷◌, ◌+◌, ◌-◌}
+use Rattle.lists.specs.Prelude.{refl, ap, List, [], ℕ, replicate, set, Float}
 use Rattle.complex.specs.Arithmetic.{plus_zero, one}
 use Rattle.refusal.specs.declared.Verdict.TheVariants.{Pass, Refused}
 use Rattle.refusal.specs.Verdict.{by, ask}

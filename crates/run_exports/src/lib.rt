@@ -2,7 +2,8 @@
 // crosses in `counters`.
 #![tactic(auto)]
 
-ghost use Rattle.lists.specs.Prelude.{◌≡◌, false};
+ghost use Rattle.std.specs.Prelude.{◌≡◌};
+ghost use Rattle.lists.specs.Prelude.{false};
 ghost use Rattle.refusal.specs.Verdict.{◌then◌};
 ghost use Rattle.refusal.specs.Checks.{desk_known};
 ghost use Rattle.transient_run.specs.Form.{form_sizes};

@@ -1,5 +1,6 @@
 -- Text that is written over the start of a slice, one word after the other. Assumes nothing.
-use Rattle.lists.specs.Prelude.{◌≡◌, refl, sym, ap, ◌∙◌, List, [], ◌∷◌, ◌++◌, append_assoc, append-nil, ℕ, ◌+◌, ◌-◌, ◌≤◌, ◌<◌, add_assoc, add-zero, zero-add}
+use Rattle.std.specs.Prelude.{◌≡◌, ◌∷◌, ◌++◌, ◌+◌, ◌-◌, ◌≤◌, ◌<◌}
+use Rattle.lists.specs.Prelude.{refl, sym, ap, ◌∙◌, List, [], append_assoc, append-nil, ℕ, add_assoc, add-zero, zero-add}
 use Rattle.lists.specs.Prelude.{le_antisymm, add-one, arith, length, get_or, take, set, length-append, length-drop, take-suc, take_all}
 use Rattle.lists.specs.Filling.{over, over_none, over-one}
 

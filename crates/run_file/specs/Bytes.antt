@@ -1,5 +1,6 @@
 -- Numbers in bytes, lowest byte first (document 01, run file: "little-endian").
-use Rattle.lists.specs.Prelude.{ℕ, zero, suc, ◌+◌, ◌*◌, List, [], ◌∷◌, get_or, Float, binary64, of_bits}
+use Rattle.std.specs.Prelude.{◌+◌, ◌*◌, ◌∷◌}
+use Rattle.lists.specs.Prelude.{ℕ, zero, suc, List, [], get_or, Float, binary64, of_bits}
 use Rattle.lists.specs.Indexed.{join}
 
 -- the number of `count` bytes from place i on

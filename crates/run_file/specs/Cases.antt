@@ -1,5 +1,6 @@
 -- Closed cases of the run file: where 15 stands in the order, the text of numbers, and a time whose number is not finite.
-use Rattle.lists.specs.Prelude.{◌≡◌, refl, true, false, List, [], ◌∷◌, ◌++◌, ℕ, replicate, inf, binary64, to_bits}
+use Rattle.std.specs.Prelude.{◌≡◌, ◌∷◌, ◌++◌}
+use Rattle.lists.specs.Prelude.{refl, true, false, List, [], ℕ, replicate, inf, binary64, to_bits}
 use Rattle.std.specs.Float.Ieee as Ieee
 use Rattle.refusal.specs.Verdict.{by, ask, ◌then◌, number_of}
 use Rattle.refusal.specs.Checks.{large_enough, within_program, well_formed, within_capacity}

@@ -1,5 +1,6 @@
 -- Digits in the order in which they are written: decimal and hexadecimal. Assumes nothing.
-use Rattle.lists.specs.Prelude.{◌≡◌, refl, sym, ap, ◌∙◌, List, [], ◌∷◌, ◌++◌, ℕ, zero, suc, ◌+◌, ◌-◌, ◌*◌, ◌/◌, ◌%◌, ◌^◌, ◌≤◌, ◌<◌, not-suc-le-zero, le_refl}
+use Rattle.std.specs.Prelude.{◌≡◌, ◌∷◌, ◌++◌, ◌+◌, ◌-◌, ◌*◌, ◌/◌, ◌%◌, ◌^◌, ◌≤◌, ◌<◌}
+use Rattle.lists.specs.Prelude.{refl, sym, ap, ◌∙◌, List, [], ℕ, zero, suc, not-suc-le-zero, le_refl}
 use Rattle.lists.specs.Prelude.{le_antisymm, add-zero, div-one, one-le-pow, pow-suc, mul-div_cancel, div-div-eq-div-mul, add-one, arith, ltb, lt-ltb, le-ltb, ltb-false}
 use Rattle.lists.specs.Prelude.{length, set}
 use Rattle.lists.specs.Agreement.{cond_agree}

@@ -1,7 +1,8 @@
 -- Document 01, run file: "N, n as u32; a contents table of four rows (times, free, retarded self-energy, Σ^<), each u32 byte offset and u32
 -- count of numbers; then bodies, eight bytes a number. Well formed: at least 40 bytes, and, once lines 1 and 2 pass, bodies adjoin in table
 -- order from byte 40, counts match, length is exact."
-use Rattle.lists.specs.Prelude.{ℕ, suc, ◌+◌, ◌*◌, Bool, ◌&&◌, List, [], ◌∷◌, leb, eqb, length, replicate}
+use Rattle.std.specs.Prelude.{◌+◌, ◌*◌, ◌&&◌, ◌∷◌}
+use Rattle.lists.specs.Prelude.{ℕ, suc, Bool, List, [], leb, eqb, length, replicate}
 use Rattle.complex.specs.Arithmetic.{plus_zero}
 use Rattle.refusal.specs.declared.Verdict.{Verdict}
 use Rattle.refusal.specs.Verdict.{◌then◌}

@@ -1,5 +1,6 @@
 -- The run of a file, and the text of its answer. Assumes nothing.
-use Rattle.lists.specs.Prelude.{◌≡◌, refl, sym, ap, ◌∙◌, List, ◌∷◌, ℕ, zero, suc, ◌+◌, ◌*◌, zero-mul, ◌≤◌, not-suc-le-zero, le_of_suc-le-suc, arith, length, take, replicate}
+use Rattle.std.specs.Prelude.{◌≡◌, ◌∷◌, ◌+◌, ◌*◌, ◌≤◌}
+use Rattle.lists.specs.Prelude.{refl, sym, ap, ◌∙◌, List, ℕ, zero, suc, zero-mul, not-suc-le-zero, le_of_suc-le-suc, arith, length, take, replicate}
 use Rattle.lists.specs.Prelude.{length-replicate, length-append, le-leb, Float}
 use Rattle.lists.specs.Filling.{over}
 use Rattle.complex.specs.Arithmetic.{plus_zero}

@@ -1,5 +1,6 @@
 -- Lines word by word, as they are written. Assumes nothing.
-use Rattle.lists.specs.Prelude.{◌≡◌, refl, List, [], ◌∷◌, ◌++◌, append_assoc, ℕ, ◌+◌, ◌≤◌, le_antisymm, Float, binary64, to_bits}
+use Rattle.std.specs.Prelude.{◌≡◌, ◌∷◌, ◌++◌, ◌+◌, ◌≤◌}
+use Rattle.lists.specs.Prelude.{refl, List, [], append_assoc, ℕ, le_antisymm, Float, binary64, to_bits}
 use Rattle.lists.specs.Indexed.{join}
 use Rattle.lists.specs.Steps.{join_more}
 use Rattle.dyson.specs.Calls.{default_tolerance}

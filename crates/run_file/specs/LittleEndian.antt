@@ -1,5 +1,6 @@
 -- A number that is read from its highest byte down, and a slice of numbers. Assumes nothing.
-use Rattle.lists.specs.Prelude.{◌≡◌, refl, ap, ap₂, ◌∙◌, List, ℕ, ◌+◌, ◌-◌, ◌*◌, ◌^◌, ◌≤◌, ◌<◌, pow-suc, pow-le-pow_right, le_antisymm, add-one, arith, length, get_or, Float}
+use Rattle.std.specs.Prelude.{◌≡◌, ◌+◌, ◌-◌, ◌*◌, ◌^◌, ◌≤◌, ◌<◌}
+use Rattle.lists.specs.Prelude.{refl, ap, ap₂, ◌∙◌, List, ℕ, pow-suc, pow-le-pow_right, le_antisymm, add-one, arith, length, get_or, Float}
 use Rattle.lists.specs.Filling.{over}
 use Rattle.lists.specs.Singles.{singles, singles-end}
 use Rattle.run_file.specs.Bytes.{little_endian, number, numbers}

@@ -1,5 +1,6 @@
 -- P12 of document 01 as a run file, and the text that the program prints for it (proved in `bench_cases`). Assumes nothing.
-use Rattle.lists.specs.Prelude.{List, [], ◌∷◌, ◌++◌, map, ℕ, zero, suc, ◌/◌, ◌%◌, binary64, to_bits}
+use Rattle.std.specs.Prelude.{◌∷◌, ◌++◌, ◌/◌, ◌%◌}
+use Rattle.lists.specs.Prelude.{List, [], map, ℕ, zero, suc, binary64, to_bits}
 use Rattle.transient_run.specs.P12 as P12
 
 -- a number in `count` bytes, lowest first, and a list of such numbers

@@ -1,5 +1,6 @@
 -- Document 01, run file: what the program `transient` prints for the bytes that it reads.
-use Rattle.lists.specs.Prelude.{ℕ, List, [], ◌∷◌, ◌++◌, Float}
+use Rattle.std.specs.Prelude.{◌∷◌, ◌++◌}
+use Rattle.lists.specs.Prelude.{ℕ, List, [], Float}
 use Rattle.lists.specs.Indexed.{join}
 use Rattle.refusal.specs.declared.Verdict.{Verdict}
 use Rattle.refusal.specs.declared.Verdict.TheVariants.{Pass, Refused}

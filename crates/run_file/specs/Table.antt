@@ -1,5 +1,6 @@
 -- The questions of a run file as the code asks them, and the sizes of a file that passes checks 1 and 2. Assumes nothing.
-use Rattle.lists.specs.Prelude.{◌≡◌, sym, ap, ◌∙◌, Bool, ◌&&◌, List, [], ◌∷◌, ℕ, ◌+◌, ◌*◌, ◌≤◌, min, le_refl, mul-le-mul, mul_assoc, mul_comm, min-eq_left, arith, leb}
+use Rattle.std.specs.Prelude.{◌≡◌, ◌&&◌, ◌∷◌, ◌+◌, ◌*◌, ◌≤◌}
+use Rattle.lists.specs.Prelude.{sym, ap, ◌∙◌, Bool, List, [], ℕ, min, le_refl, mul-le-mul, mul_assoc, mul_comm, min-eq_left, arith, leb}
 use Rattle.lists.specs.Prelude.{eqb, length, leb-true}
 use Rattle.lists.specs.Agreement.{both}
 use Rattle.refusal.specs.declared.Refusal.{Refusal}

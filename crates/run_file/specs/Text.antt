@@ -1,5 +1,6 @@
 -- Document 01, run file: the text of an answer, as bytes. Words are written in their codes, and every line ends with a line feed, 10.
-use Rattle.lists.specs.Prelude.{ℕ, zero, suc, ◌+◌, ◌/◌, ◌%◌, cond, List, [], ◌∷◌, ◌++◌, ltb, binary64, to_bits}
+use Rattle.std.specs.Prelude.{◌+◌, ◌/◌, ◌%◌, ◌∷◌, ◌++◌}
+use Rattle.lists.specs.Prelude.{ℕ, zero, suc, cond, List, [], ltb, binary64, to_bits}
 use Rattle.observables.specs.declared.Observed.{Observed}
 use Rattle.observables.specs.declared.Observed.TheVariants.{Number, NotReal, Refused as NotObserved}
 

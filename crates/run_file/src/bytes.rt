@@ -1,5 +1,6 @@
 // Numbers in bytes, lowest byte first (document 01, run file). A byte past the end is 0.
-ghost use Rattle.lists.specs.Prelude.{◌≡◌, ◌≤◌, ◌<◌, get_or};
+ghost use Rattle.std.specs.Prelude.{◌≡◌, ◌≤◌, ◌<◌};
+ghost use Rattle.lists.specs.Prelude.{get_or};
 ghost use Rattle.run_file.specs.Bytes.{little_endian};
 
 fn byte(bytes: &[u8], i: usize) -> u64

@@ -1,5 +1,6 @@
 // A run file's own lines, and the numbers of its bodies (document 01, run file).
-ghost use Rattle.lists.specs.Prelude.{◌≡◌, ◌&&◌, [], ◌∷◌, ◌+◌, ◌*◌, ◌≤◌, eqb, length};
+ghost use Rattle.std.specs.Prelude.{◌≡◌, ◌&&◌, ◌∷◌, ◌+◌, ◌*◌, ◌≤◌};
+ghost use Rattle.lists.specs.Prelude.{[], eqb, length};
 ghost use Rattle.two_time.specs.Layout.{length_of};
 ghost use Rattle.run_file.specs.Bytes.{u32, numbers};
 ghost use Rattle.run_file.specs.File.{table_fits, file_checks};

@@ -6,7 +6,8 @@ mod bytes;
 mod decoding;
 mod text;
 
-ghost use Rattle.lists.specs.Prelude.{◌≡◌, ◌≤◌, length};
+ghost use Rattle.std.specs.Prelude.{◌≡◌, ◌≤◌};
+ghost use Rattle.lists.specs.Prelude.{length};
 ghost use Rattle.lists.specs.Filling.{over};
 ghost use Rattle.dyson.specs.Calls.{default_tolerance};
 ghost use Rattle.two_time.specs.Layout.{length_of};

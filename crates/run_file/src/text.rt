@@ -1,5 +1,6 @@
 // The text of an answer (document 01, run file). Each function writes its word at `at` and answers where it ends.
-ghost use Rattle.lists.specs.Prelude.{◌≡◌, [], ◌∷◌, ◌+◌, ◌≤◌, ◌<◌, length, Float};
+ghost use Rattle.std.specs.Prelude.{◌≡◌, ◌∷◌, ◌+◌, ◌≤◌, ◌<◌};
+ghost use Rattle.lists.specs.Prelude.{[], length, Float};
 ghost use Rattle.run_file.specs.Text.{decimal, hex_digit, hexadecimal, line, run_word, time_line};
 ghost use Rattle.run_file.specs.Program.{refused_text};
 ghost use Rattle.run_file.specs.Appended.{Appended};

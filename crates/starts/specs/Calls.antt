@@ -1,5 +1,6 @@
 -- Document 02, L5: "G^<(t,t') then starts from (G^R(t,0)·g0)·G^A(0,t')", the first product of a row, and G^< at a group of its places.
-use Rattle.lists.specs.Prelude.{ℕ, ◌+◌, ◌*◌, Bool, ◌&&◌, List, [], ◌∷◌, ltb, Float}
+use Rattle.std.specs.Prelude.{◌+◌, ◌*◌, ◌&&◌, ◌∷◌}
+use Rattle.lists.specs.Prelude.{ℕ, Bool, List, [], ltb, Float}
 use Rattle.lists.specs.Indexed.{all_below, all_in, join}
 use Rattle.complex.specs.Arithmetic.{cfinite}
 use Rattle.block.specs.Block.{Entries, entries_in, lay_out}

@@ -1,5 +1,6 @@
 -- Lanes that hold a product at one place, and lanes that hold what the sums at a group of places start from. Assumes nothing.
-use Rattle.lists.specs.Prelude.{◌≡◌, ap, ap₂, ◌∙◌, Bool, ◌&&◌, List, ℕ, ◌+◌, ◌*◌, ◌<◌, Float}
+use Rattle.std.specs.Prelude.{◌≡◌, ◌&&◌, ◌+◌, ◌*◌, ◌<◌}
+use Rattle.lists.specs.Prelude.{ap, ap₂, ◌∙◌, Bool, List, ℕ, Float}
 use Rattle.lists.specs.Indexed.{all_below, join}
 use Rattle.lists.specs.Agreement.{all_agree, join_agree}
 use Rattle.complex.specs.declared.Complex.{Complex}

@@ -1,5 +1,6 @@
 -- Products of blocks by the places of their numbers in lists. Assumes nothing.
-use Rattle.lists.specs.Prelude.{◌≡◌, refl, ap, ap₂, true, List, ℕ, ◌+◌, ◌*◌, ◌≤◌, ◌<◌, arith, leb, leb-true, length, Float}
+use Rattle.std.specs.Prelude.{◌≡◌, ◌+◌, ◌*◌, ◌≤◌, ◌<◌}
+use Rattle.lists.specs.Prelude.{refl, ap, ap₂, true, List, ℕ, arith, leb, leb-true, length, Float}
 use Rattle.lists.specs.Agreement.{both}
 use Rattle.complex.specs.declared.Complex.{Complex}
 use Rattle.complex.specs.Arithmetic.{czero, cmul, conj}

@@ -2,7 +2,8 @@
 // its product with G^A(0,t') for each place, in the lanes of the group.
 #![tactic(auto)]
 
-ghost use Rattle.lists.specs.Prelude.{◌≡◌, ℕ, ◌+◌, ◌*◌, ◌<◌, ◌≤◌, length};
+ghost use Rattle.std.specs.Prelude.{◌≡◌, ◌+◌, ◌*◌, ◌<◌, ◌≤◌};
+ghost use Rattle.lists.specs.Prelude.{ℕ, length};
 ghost use Rattle.complex.specs.Numbers.{entry_at};
 ghost use Rattle.rows.specs.Numbers.{number_at};
 ghost use Rattle.lanes.specs.Lanes.{lane_at};

@@ -1,5 +1,6 @@
 -- Row t of G from K and the rows of G before it, as they stand in a list; what a loop over groups has written of it. Assumes nothing.
-use Rattle.lists.specs.Prelude.{◌≡◌, refl, sym, ap, ap₂, ◌∙◌, inl, inr, cond, ◌||◌, List, [], ◌∷◌, ◌++◌, append_assoc, ℕ, ◌+◌, ◌-◌, ◌*◌, ◌≤◌, ◌<◌}
+use Rattle.std.specs.Prelude.{◌≡◌, ◌||◌, ◌∷◌, ◌++◌, ◌+◌, ◌-◌, ◌*◌, ◌≤◌, ◌<◌}
+use Rattle.lists.specs.Prelude.{refl, sym, ap, ap₂, ◌∙◌, inl, inr, cond, List, [], append_assoc, ℕ}
 use Rattle.lists.specs.Prelude.{mul-le-mul_right, mul_assoc, mul_left_comm, add-mul, zero-mul, add-zero, arith, digits_lt, ltb, eqb, length, get_or, take, drop, length-append, length-drop, length-replicate}
 use Rattle.lists.specs.Prelude.{get_or-append, length-take-le, get_or-take, get_or-drop, take_at, drop_at, drop-drop, ext_get_or, Float, nan, post_of, mid_of, put_mid}
 use Rattle.lists.specs.Indexed.{all_below, join}

@@ -1,5 +1,6 @@
 // Row t of Dyson's G (document 01, Dyson), group by group from the rows before it.
-ghost use Rattle.lists.specs.Prelude.{◌≡◌, true, List, [], ◌∷◌, ◌+◌, ◌*◌, ◌<◌, Float, put_mid};
+ghost use Rattle.std.specs.Prelude.{◌≡◌, ◌∷◌, ◌+◌, ◌*◌, ◌<◌};
+ghost use Rattle.lists.specs.Prelude.{true, List, [], Float, put_mid};
 ghost use Rattle.lists.specs.Indexed.{all_below, join};
 ghost use Rattle.refusal.specs.declared.Verdict.TheVariants.{Pass};
 ghost use Rattle.two_time.specs.Calls.{size_checks};

@@ -3,7 +3,8 @@
 
 mod forward;
 
-ghost use Rattle.lists.specs.Prelude.{◌≡◌, true, [], ◌∷◌, ◌+◌, ◌*◌, ◌<◌, ◌≤◌, length};
+ghost use Rattle.std.specs.Prelude.{◌≡◌, ◌∷◌, ◌+◌, ◌*◌, ◌<◌, ◌≤◌};
+ghost use Rattle.lists.specs.Prelude.{true, [], length};
 ghost use Rattle.lists.specs.Indexed.{all_below, join};
 ghost use Rattle.block.specs.Block.{lay_out};
 ghost use Rattle.refusal.specs.declared.Verdict.TheVariants.{Pass};

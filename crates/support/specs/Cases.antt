@@ -1,5 +1,6 @@
 -- Closed cases of the support test, P8 and P9 of document 01 among them.
-use Rattle.lists.specs.Prelude.{◌≡◌, refl, List, [], ◌∷◌, ℕ, Float, binary64}
+use Rattle.std.specs.Prelude.{◌≡◌, ◌∷◌}
+use Rattle.lists.specs.Prelude.{refl, List, [], ℕ, Float, binary64}
 use Rattle.std.specs.Float.Ieee as Ieee
 use Rattle.lists.specs.Indexed.{fold}
 use Rattle.complex.specs.Arithmetic.{plus_zero, one, finite, larger}

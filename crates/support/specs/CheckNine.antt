@@ -1,5 +1,6 @@
 -- Check 9 as the code asks it: in each row from the place after the diagonal on, and where the checks before it pass. Assumes nothing.
-use Rattle.lists.specs.Prelude.{◌≡◌, ap, ◌∙◌, true, List, ℕ, ◌≤◌, ◌<◌, Float, lt-ltb, le-ltb}
+use Rattle.std.specs.Prelude.{◌≡◌, ◌≤◌, ◌<◌}
+use Rattle.lists.specs.Prelude.{ap, ◌∙◌, true, List, ℕ, Float, lt-ltb, le-ltb}
 use Rattle.complex.specs.Arithmetic.{div}
 use Rattle.block.specs.Operations.{matrix_norm_max}
 use Rattle.refusal.specs.declared.Verdict.{Verdict}

@@ -1,5 +1,6 @@
 -- The largest norm of a function's numbers in the order of their list is that by places, rows and entries. Assumes nothing.
-use Rattle.lists.specs.Prelude.{◌≡◌, refl, sym, ap, ◌∙◌, List, ℕ, zero, suc, ◌+◌, ◌*◌, ◌≤◌, ◌<◌, add-mul, mul_assoc, mul-le-mul_right, add-one, arith, digits_lt, Float}
+use Rattle.std.specs.Prelude.{◌≡◌, ◌+◌, ◌*◌, ◌≤◌, ◌<◌}
+use Rattle.lists.specs.Prelude.{refl, sym, ap, ◌∙◌, List, ℕ, zero, suc, add-mul, mul_assoc, mul-le-mul_right, add-one, arith, digits_lt, Float}
 use Rattle.lists.specs.Indexed.{fold}
 use Rattle.complex.specs.Arithmetic.{plus_zero, larger}
 use Rattle.complex.specs.Numbers.{entry_at}

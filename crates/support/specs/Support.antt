@@ -1,6 +1,7 @@
 -- Document 01, support: "scale = largest norm of all entries, at least 2^-1022. A place t < t' is refused, rows first, if its block's largest
 -- norm divided by scale exceeds the tolerance. NaN (infinite by infinite) does not exceed."
-use Rattle.lists.specs.Prelude.{ℕ, true, cond, List, [], ◌∷◌, ltb, Float, binary64, of_bits}
+use Rattle.std.specs.Prelude.{◌∷◌}
+use Rattle.lists.specs.Prelude.{ℕ, true, cond, List, [], ltb, Float, binary64, of_bits}
 use Rattle.complex.specs.Arithmetic.{div, larger}
 use Rattle.complex.specs.Sum.{largest_in}
 use Rattle.block.specs.Operations.{matrix_norm_max}

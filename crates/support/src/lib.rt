@@ -2,7 +2,8 @@
 // points (document 02, L1).
 #![tactic(auto)]
 
-ghost use Rattle.lists.specs.Prelude.{◌≡◌, ◌+◌, ◌*◌, ◌<◌, ◌≤◌, length};
+ghost use Rattle.std.specs.Prelude.{◌≡◌, ◌+◌, ◌*◌, ◌<◌, ◌≤◌};
+ghost use Rattle.lists.specs.Prelude.{length};
 ghost use Rattle.complex.specs.Numbers.{entry_at};
 ghost use Rattle.complex.specs.Sum.{largest_from};
 ghost use Rattle.refusal.specs.Verdict.{ask_all};

@@ -1,5 +1,6 @@
 -- What `term_of` and `span_of` answer.
-use Rattle.lists.specs.Prelude.{Bool, cond, ◌&&◌, List, ℕ, ◌+◌, ◌-◌, ◌*◌, min, leb, ltb, Float}
+use Rattle.std.specs.Prelude.{◌&&◌, ◌+◌, ◌-◌, ◌*◌}
+use Rattle.lists.specs.Prelude.{Bool, cond, List, ℕ, min, leb, ltb, Float}
 use Rattle.complex.specs.Arithmetic.{plus_zero}
 use Rattle.two_time.specs.declared.sums.Sums.{Sums}
 use Rattle.terms.specs.declared.Term.{Term}

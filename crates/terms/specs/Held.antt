@@ -1,5 +1,6 @@
 -- Whether the sum at a place has s, and by what weight, told by the kind of sums and where the place lies. Assumes nothing.
-use Rattle.lists.specs.Prelude.{◌≡◌, refl, ap, Bool, true, ◌&&◌, List, ℕ, ◌+◌, ◌≤◌, ◌<◌, dec_lt, arith, leb, ltb, Float, le-leb, lt-leb, lt-ltb, le-ltb, ne_eqb}
+use Rattle.std.specs.Prelude.{◌≡◌, ◌&&◌, ◌+◌, ◌≤◌, ◌<◌}
+use Rattle.lists.specs.Prelude.{refl, ap, Bool, true, List, ℕ, dec_lt, arith, leb, ltb, Float, le-leb, lt-leb, lt-ltb, le-ltb, ne_eqb}
 use Rattle.lists.specs.Agreement.{never}
 use Rattle.block.specs.Operations.{product}
 use Rattle.grid.specs.Weights.{interval_weight}

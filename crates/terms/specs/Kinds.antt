@@ -1,5 +1,6 @@
 -- For each kind of sums: its right factor, which places have s, with what weight, and which s a row of places has.
-use Rattle.lists.specs.Prelude.{Bool, true, false, List, ℕ, ◌+◌, ◌≤◌, ◌<◌, max, ltb, Float}
+use Rattle.std.specs.Prelude.{◌+◌, ◌≤◌, ◌<◌}
+use Rattle.lists.specs.Prelude.{Bool, true, false, List, ℕ, max, ltb, Float}
 use Rattle.complex.specs.declared.Complex.{Complex}
 use Rattle.complex.specs.Arithmetic.{conj}
 use Rattle.block.specs.Block.{Entries}

@@ -1,5 +1,6 @@
 -- What `term_of` answers within the limits, field by field, and how large its ranges are. Assumes nothing.
-use Rattle.lists.specs.Prelude.{◌≡◌, refl, Bool, true, false, cond, List, ℕ, ◌+◌, ◌-◌, ◌*◌, ◌≤◌, ◌<◌, min, arith, ltb, Float, le-leb, lt-ltb}
+use Rattle.std.specs.Prelude.{◌≡◌, ◌+◌, ◌-◌, ◌*◌, ◌≤◌, ◌<◌}
+use Rattle.lists.specs.Prelude.{refl, Bool, true, false, cond, List, ℕ, min, arith, ltb, Float, le-leb, lt-ltb}
 use Rattle.complex.specs.Arithmetic.{plus_zero}
 use Rattle.two_time.specs.declared.sums.Sums.{Sums}
 use Rattle.terms.specs.declared.Term.{Term}

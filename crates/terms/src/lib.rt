@@ -2,7 +2,8 @@
 // p·n + b is column b of the group's place p.
 #![tactic(auto)]
 
-ghost use Rattle.lists.specs.Prelude.{◌≡◌, cond, ◌+◌, ◌-◌, ◌<◌, ◌≤◌, min, max, ltb};
+ghost use Rattle.std.specs.Prelude.{◌≡◌, ◌+◌, ◌-◌, ◌<◌, ◌≤◌};
+ghost use Rattle.lists.specs.Prelude.{cond, min, max, ltb};
 ghost use Rattle.complex.specs.Arithmetic.{plus_zero};
 ghost use Rattle.two_time.specs.Sums.{interval_count};
 ghost use Rattle.terms.specs.Kinds.{factor_of, right_number, lanes_below, lanes_above, lanes_here, common_weight, end_weight, first_of, last_of};

@@ -1,6 +1,7 @@
 -- Document 01, transient: the outcome of a transient run, "The device starts empty."; document 02, L1: in slices
 -- laid out for a capacity, and of an append; L3: with the count of its products, in a session; L13: at a desk; L5: of either form.
-use Rattle.lists.specs.Prelude.{ℕ, suc, ◌+◌, Bool, true, false, ◌&&◌, List, [], ◌∷◌, eqb, length, get_or, set, Float}
+use Rattle.std.specs.Prelude.{◌+◌, ◌&&◌, ◌∷◌}
+use Rattle.lists.specs.Prelude.{ℕ, suc, Bool, true, false, List, [], eqb, length, get_or, set, Float}
 use Rattle.refusal.specs.declared.Verdict.{Verdict}
 use Rattle.refusal.specs.declared.Verdict.TheVariants.{Pass, Refused}
 use Rattle.refusal.specs.Verdict.{◌then◌, zeroed, afterwards}

@@ -1,5 +1,6 @@
 -- The checks of a call as the code makes them, what it says that they pass, and what an answer says of the verdict. Assumes nothing.
-use Rattle.lists.specs.Prelude.{◌≡◌, refl, sym, ap, ◌∙◌, ⊎_elim, Bool, true, ◌&&◌, List, [], ◌∷◌, ℕ, suc, ◌+◌, ◌≤◌, ◌<◌, min, min-eq_left, min-eq_right, le_trans, le_refl, dec_lt, arith, add-one, leb-true, ltb-true, eqb, length, Float}
+use Rattle.std.specs.Prelude.{◌≡◌, ◌&&◌, ◌∷◌, ◌+◌, ◌≤◌, ◌<◌}
+use Rattle.lists.specs.Prelude.{refl, sym, ap, ◌∙◌, ⊎_elim, Bool, true, List, [], ℕ, suc, min, min-eq_left, min-eq_right, le_trans, le_refl, dec_lt, arith, add-one, leb-true, ltb-true, eqb, length, Float}
 use Rattle.refusal.specs.declared.Refusal.{Refusal}
 use Rattle.refusal.specs.declared.Verdict.{Verdict}
 use Rattle.refusal.specs.declared.Verdict.TheVariants.{Pass, Refused}

@@ -1,5 +1,6 @@
 -- G^R(t,0) is finite at every point once the work on K and G^R is: what G^< starts from reads nothing else of it. Assumes nothing.
-use Rattle.lists.specs.Prelude.{◌≡◌, refl, sym, ap, ap₂, ◌∙◌, true, ◌&&◌, List, ℕ, ◌+◌, ◌*◌, ◌≤◌, ◌<◌, mul-le-mul_right, one-mul, digits_lt, dec_lt, arith, get_or, Float, nan}
+use Rattle.std.specs.Prelude.{◌≡◌, ◌&&◌, ◌+◌, ◌*◌, ◌≤◌, ◌<◌}
+use Rattle.lists.specs.Prelude.{refl, sym, ap, ap₂, ◌∙◌, true, List, ℕ, mul-le-mul_right, one-mul, digits_lt, dec_lt, arith, get_or, Float, nan}
 use Rattle.lists.specs.Agreement.{both}
 use Rattle.complex.specs.Arithmetic.{finite, cfinite}
 use Rattle.refusal.specs.declared.Verdict.TheVariants.{Pass}

@@ -1,5 +1,6 @@
 -- How a call ends, by what is known of its checks and of its work, or of its answer. Assumes nothing.
-use Rattle.lists.specs.Prelude.{◌≡◌, ap, true, false, List, ℕ, eqb, Float}
+use Rattle.std.specs.Prelude.{◌≡◌}
+use Rattle.lists.specs.Prelude.{ap, true, false, List, ℕ, eqb, Float}
 use Rattle.refusal.specs.declared.Refusal.{Refusal}
 use Rattle.refusal.specs.declared.Verdict.TheVariants.{Pass, Refused}
 use Rattle.refusal.specs.Verdict.{by, ask, ◌then◌, afterwards}

@@ -1,7 +1,8 @@
 -- Document 02, L5: "Tunable pumps begin a pulse with an electron in place, and document 01 starts empty. A second form of the run takes a block g0, as
 -- operand 3, meant as the lesser function at (0,0) (it is that by value where G^R(0,0) is −i times the identity, which is not asked)." What each form asks
 -- of its block, what G^< starts from, and how many products that takes.
-use Rattle.lists.specs.Prelude.{◌≡◌, ℕ, ◌≤◌, Bool, true, ◌&&◌, List, eqb, Float}
+use Rattle.std.specs.Prelude.{◌≡◌, ◌≤◌, ◌&&◌}
+use Rattle.lists.specs.Prelude.{ℕ, Bool, true, List, eqb, Float}
 use Rattle.refusal.specs.declared.Verdict.{Verdict}
 use Rattle.refusal.specs.declared.Verdict.TheVariants.{Pass}
 use Rattle.refusal.specs.Verdict.{◌then◌}

@@ -1,5 +1,6 @@
 -- The checks of a form's block: what it says that they pass, and that they refuse by no 10. Assumes nothing.
-use Rattle.lists.specs.Prelude.{◌≡◌, refl, sym, ap, ap₂, ◌∙◌, ⊎_elim, Bool, true, false, ◌&&◌, List, ℕ, zero, suc, ◌+◌, ◌*◌, ◌≤◌, ◌<◌, le_refl, le_trans, le_of_eq, le_of_suc-le-suc, eq-or-lt_of_le, dec_lt, arith, leb, le-leb, leb-true, eqb, eqb-true, length, get_or, get_or-eq_default, Float, nan}
+use Rattle.std.specs.Prelude.{◌≡◌, ◌&&◌, ◌+◌, ◌*◌, ◌≤◌, ◌<◌}
+use Rattle.lists.specs.Prelude.{refl, sym, ap, ap₂, ◌∙◌, ⊎_elim, Bool, true, false, List, ℕ, zero, suc, le_refl, le_trans, le_of_eq, le_of_suc-le-suc, eq-or-lt_of_le, dec_lt, arith, leb, le-leb, leb-true, eqb, eqb-true, length, get_or, get_or-eq_default, Float, nan}
 use Rattle.lists.specs.Agreement.{both, never}
 use Rattle.complex.specs.Arithmetic.{finite}
 use Rattle.refusal.specs.declared.Verdict.{Verdict}

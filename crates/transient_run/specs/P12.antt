@@ -1,5 +1,6 @@
 -- P12 of document 01, made stage by stage: each stage is computed from what the stage before it left. Assumes nothing.
-use Rattle.lists.specs.Prelude.{◌≡◌, refl, ap, ◌∙◌, true, ◌&&◌, List, [], ◌∷◌, ℕ, eqb, length, replicate, Float}
+use Rattle.std.specs.Prelude.{◌≡◌, ◌&&◌, ◌∷◌}
+use Rattle.lists.specs.Prelude.{refl, ap, ◌∙◌, true, List, [], ℕ, eqb, length, replicate, Float}
 use Rattle.refusal.specs.declared.Verdict.TheVariants.{Pass, Refused}
 use Rattle.refusal.specs.Verdict.{by, ask, ◌then◌, afterwards}
 use Rattle.refusal.specs.Checks.{finite_work, within_capacity, counter_holds, desk_known}

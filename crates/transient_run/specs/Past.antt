@@ -1,5 +1,6 @@
 -- Points past every capacity: an append is refused before its work, and by the same number however many there are. Assumes nothing.
-use Rattle.lists.specs.Prelude.{◌≡◌, refl, sym, ap, ◌∙◌, Bool, true, false, List, ℕ, suc, ◌+◌, ◌≤◌, ◌<◌, min, min-eq_left, min-eq_right, dec_lt, arith, add-one, leb, leb-true, le-leb, Float}
+use Rattle.std.specs.Prelude.{◌≡◌, ◌+◌, ◌≤◌, ◌<◌}
+use Rattle.lists.specs.Prelude.{refl, sym, ap, ◌∙◌, Bool, true, false, List, ℕ, suc, min, min-eq_left, min-eq_right, dec_lt, arith, add-one, leb, leb-true, le-leb, Float}
 use Rattle.refusal.specs.declared.Refusal.{Refusal}
 use Rattle.refusal.specs.declared.Verdict.{Verdict}
 use Rattle.refusal.specs.declared.Verdict.TheVariants.{Pass, Refused}

@@ -1,6 +1,7 @@
 -- Document 02, L3: "An accepted transient run carries the count it formed, N(N+1)(2N+1)/6 + N·N·(N+1) − 3N"; L5: "The two products of an entry are counted:
 -- 2·N·N more per run." The products that the sums of a run and their starts form, counted place by place, and that they are so many.
-use Rattle.lists.specs.Prelude.{◌≡◌, refl, sym, ap, ap₂, ◌∙◌, Bool, true, false, cond, ◌&&◌, List, Float, ℕ, zero, suc, ◌+◌, ◌-◌, ◌*◌, ◌/◌, ◌≤◌, ◌<◌, max, leb, ltb, arith, leb-true, le-leb, lt-ltb, le-ltb, mul-add, add-mul, suc-mul, mul_assoc, mul_left_comm, mul-one, mul_comm, mul-zero, zero-mul, add-one, dec_lt}
+use Rattle.std.specs.Prelude.{◌≡◌, ◌&&◌, ◌+◌, ◌-◌, ◌*◌, ◌/◌, ◌≤◌, ◌<◌}
+use Rattle.lists.specs.Prelude.{refl, sym, ap, ap₂, ◌∙◌, Bool, true, false, cond, List, Float, ℕ, zero, suc, max, leb, ltb, arith, leb-true, le-leb, lt-ltb, le-ltb, mul-add, add-mul, suc-mul, mul_assoc, mul_left_comm, mul-one, mul_comm, mul-zero, zero-mul, add-one, dec_lt}
 use Rattle.two_time.specs.New.{is_new}
 use Rattle.two_time.specs.declared.sums.Sums.TheVariants.{Causal, LesserAdvanced, Lesser}
 use Rattle.two_time.specs.Layout.{TwoTime}

@@ -1,6 +1,7 @@
 -- What the answers of a call's steps say: K and G^R, then X, then G^<. Each says whether all that is made is finite, and what it wrote is gone once the
 -- new places are cleared. Assumes nothing.
-use Rattle.lists.specs.Prelude.{◌≡◌, sym, ap, ◌∙◌, Bool, true, false, cond, ◌&&◌, and-true, List, [], ◌∷◌, ℕ, leb, Float}
+use Rattle.std.specs.Prelude.{◌≡◌, ◌&&◌, ◌∷◌}
+use Rattle.lists.specs.Prelude.{sym, ap, ◌∙◌, Bool, true, false, cond, and-true, List, [], ℕ, leb, Float}
 use Rattle.block.specs.Operations.{zeros}
 use Rattle.refusal.specs.declared.Verdict.TheVariants.{Pass}
 use Rattle.two_time.specs.declared.sums.Sums.{Sums}

@@ -1,5 +1,6 @@
 // The questions of a call in their order: 22, 1 to 9 with 16 after 3, and 17.
-ghost use Rattle.lists.specs.Prelude.{◌≡◌, ◌≤◌, List, [], ◌∷◌, Float};
+ghost use Rattle.std.specs.Prelude.{◌≡◌, ◌≤◌, ◌∷◌};
+ghost use Rattle.lists.specs.Prelude.{List, [], Float};
 ghost use Rattle.two_time.specs.Calls.{all_fit};
 ghost use Rattle.transient_run.specs.Form.{form_of, form_sizes, form_entries, Small};
 ghost use Rattle.transient_run.specs.Calls.{run_of, checks_of};

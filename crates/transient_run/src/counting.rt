@@ -1,5 +1,6 @@
 // The counters of a session, and how many products a call forms (document 02, L3, L13 and L5).
-ghost use Rattle.lists.specs.Prelude.{◌≡◌, ℕ, ◌+◌, ◌<◌, ◌≤◌, min, List, Float};
+ghost use Rattle.std.specs.Prelude.{◌≡◌, ◌+◌, ◌<◌, ◌≤◌};
+ghost use Rattle.lists.specs.Prelude.{ℕ, min, List, Float};
 ghost use Rattle.transient_run.specs.declared.Solved.TheVariants.{Accepted};
 ghost use Rattle.transient_run.specs.Products.{formed, count_of};
 ghost use Rattle.transient_run.specs.Form.{form_by, start_products};

@@ -5,7 +5,8 @@
 mod checking;
 mod counting;
 
-ghost use Rattle.lists.specs.Prelude.{◌≡◌, ℕ, ◌≤◌, true, [], ◌∷◌, Float};
+ghost use Rattle.std.specs.Prelude.{◌≡◌, ◌≤◌, ◌∷◌};
+ghost use Rattle.lists.specs.Prelude.{ℕ, true, [], Float};
 ghost use Rattle.two_time.specs.New.{cleared_new};
 ghost use Rattle.two_time.specs.SizeChecks.{SizesPassed};
 ghost use Rattle.transient_run.specs.Form.{form_of, HoldsBlock};

@@ -1,7 +1,8 @@
 -- Two blocks by one split of the orbitals: within the first group equal where both are finite, across it zeros of either sign where finite,
 -- within the second group free. +0, sum, scaling, conjugation and product keep that, so every sum over times does. Nothing is asked to be finite: 0 times
 -- infinity is no zero, and what check 10 refuses says nothing. Assumes nothing.
-use Rattle.lists.specs.Prelude.{◌≡◌, refl, sym, ap, ap₂, ◌∙◌, ◌⊎◌, inl, inr, Bool, true, false, ℕ, zero, suc, ◌+◌, ◌<◌, arith}
+use Rattle.std.specs.Prelude.{◌≡◌, ◌⊎◌, ◌+◌, ◌<◌}
+use Rattle.lists.specs.Prelude.{refl, sym, ap, ap₂, ◌∙◌, inl, inr, Bool, true, false, ℕ, zero, suc, arith}
 use Rattle.lists.specs.Indexed.{fold}
 use Rattle.lists.specs.Agreement.{never}
 use Rattle.complex.specs.declared.Complex.{Complex}

@@ -1,5 +1,6 @@
 -- L12 of two calls follows from the equations of their contracts. Assumes nothing.
-use Rattle.lists.specs.Prelude.{◌≡◌, ap, ◌∙◌}
+use Rattle.std.specs.Prelude.{◌≡◌}
+use Rattle.lists.specs.Prelude.{ap, ◌∙◌}
 use Rattle.transient_run.specs.Calls.{Run}
 use Rattle.two_runs.specs.Promises.{run_step}
 use Rattle.two_dots.specs.declared.Bond.{Bond}

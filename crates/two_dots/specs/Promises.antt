@@ -1,5 +1,6 @@
 -- What a run with a bond flow answers, and L12 of two such calls.
-use Rattle.lists.specs.Prelude.{◌≡◌, true, List, Float}
+use Rattle.std.specs.Prelude.{◌≡◌}
+use Rattle.lists.specs.Prelude.{true, List, Float}
 use Rattle.transient_run.specs.Calls.{Run}
 use Rattle.observables.specs.declared.Observed.{Observed}
 use Rattle.observables.specs.Calls.{bond_flow_into}

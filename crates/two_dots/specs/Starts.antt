@@ -1,6 +1,7 @@
 -- What G^< starts from, by a split: two starts are related where g0, G^R(t,0) and G^R(u,0) are, of one form, and of either form. A start made of a g0 that is
 -- +0 in the first group and zeros across is +0 there, as the empty form's is. Assumes nothing.
-use Rattle.lists.specs.Prelude.{◌≡◌, refl, sym, ◌⊎◌, inl, inr, Bool, true, false, List, ℕ, ◌<◌, Float}
+use Rattle.std.specs.Prelude.{◌≡◌, ◌⊎◌, ◌<◌}
+use Rattle.lists.specs.Prelude.{refl, sym, inl, inr, Bool, true, false, List, ℕ, Float}
 use Rattle.lists.specs.Agreement.{never}
 use Rattle.complex.specs.declared.Complex.{Complex}
 use Rattle.complex.specs.Arithmetic.{czero, conj, cfinite}

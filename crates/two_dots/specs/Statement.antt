@@ -2,7 +2,8 @@
 -- self-energy, Σ^< and g0 be zero of either sign. If two such accepted runs with the same split agree in N, n and the bits of the times and the first group's
 -- entries, then all first-group entries of G^R and G^< agree in bits, and bond flows of equal arguments with a and b in that group give the same answer. Show
 -- this of what exists, for every split and both forms of the run."
-use Rattle.lists.specs.Prelude.{◌≡◌, Bool, true, ℕ, ◌<◌, Float}
+use Rattle.std.specs.Prelude.{◌≡◌, ◌<◌}
+use Rattle.lists.specs.Prelude.{Bool, true, ℕ, Float}
 use Rattle.complex.specs.declared.Complex.{Complex}
 use Rattle.complex.specs.Zeros.{Zeros}
 use Rattle.block.specs.Block.{Entries}

@@ -1,6 +1,7 @@
 -- Document 02, L12, of the transient run, of either form and of one of each: what two runs make is related by the split, an accepted run is finite, and so its
 -- cross entries are zeros and the first group's are the same. Assumes nothing.
-use Rattle.lists.specs.Prelude.{◌≡◌, refl, sym, ap, subst, ◌∙◌, true, ℕ, ◌-◌, ◌≤◌, ◌<◌, dec_lt, arith, ltb}
+use Rattle.std.specs.Prelude.{◌≡◌, ◌-◌, ◌≤◌, ◌<◌}
+use Rattle.lists.specs.Prelude.{refl, sym, ap, subst, ◌∙◌, true, ℕ, dec_lt, arith, ltb}
 use Rattle.complex.specs.Arithmetic.{czero, cfinite}
 use Rattle.complex.specs.Zeros.{Zeros, zero-zeros, zeros-finite}
 use Rattle.refusal.specs.declared.Verdict.TheVariants.{Pass}

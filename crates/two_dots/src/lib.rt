@@ -1,7 +1,7 @@
 // Two dots that do not couple (document 02, L12), of the running code: what two runs with one split leave of the first dot, and what a bond flow answers.
 #![tactic(auto)]
 
-ghost use Rattle.lists.specs.Prelude.{◌≡◌};
+ghost use Rattle.std.specs.Prelude.{◌≡◌};
 ghost use Rattle.transient_run.specs.Calls.{run_of};
 ghost use Rattle.two_runs.specs.Promises.{form_with};
 ghost use Rattle.two_dots.specs.Promises.{run_flow, flow_in, Separate};

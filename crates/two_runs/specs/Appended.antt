@@ -1,5 +1,6 @@
 -- Calls that are all accepted are a history of the run over all points, so they leave what it leaves and count like it; a refusal stays. Assumes nothing.
-use Rattle.lists.specs.Prelude.{◌≡◌, refl, sym, ap, ◌∙◌, true, ℕ, zero, suc, ◌+◌, ◌-◌, ◌≤◌, min, le_antisymm, add-zero, add-suc, arith}
+use Rattle.std.specs.Prelude.{◌≡◌, ◌+◌, ◌-◌, ◌≤◌}
+use Rattle.lists.specs.Prelude.{refl, sym, ap, ◌∙◌, true, ℕ, zero, suc, min, le_antisymm, add-zero, add-suc, arith}
 use Rattle.refusal.specs.declared.Refusal.{Refusal}
 use Rattle.transient_run.specs.declared.Solved.{Solved}
 use Rattle.transient_run.specs.declared.Solved.TheVariants.{Accepted, Refused as NotSolved}

@@ -1,6 +1,7 @@
 -- A run over the first points, then one append after another at the same desk of the session, all lent the same operands; the first refusal ends it
 -- (document 02, L1, L3 and L13).
-use Rattle.lists.specs.Prelude.{◌≡◌, ℕ, zero, suc, ◌+◌, ◌-◌, min}
+use Rattle.std.specs.Prelude.{◌≡◌, ◌+◌, ◌-◌}
+use Rattle.lists.specs.Prelude.{ℕ, zero, suc, min}
 use Rattle.transient_run.specs.declared.Solved.{Solved}
 use Rattle.transient_run.specs.declared.Solved.TheVariants.{Accepted, Refused as NotSolved}
 use Rattle.transient_run.specs.Products.{count_of}

@@ -1,5 +1,6 @@
 -- Demand 3 of two calls follows from the equations of their contracts. Assumes nothing.
-use Rattle.lists.specs.Prelude.{◌≡◌, ap, ◌∙◌, ℕ}
+use Rattle.std.specs.Prelude.{◌≡◌}
+use Rattle.lists.specs.Prelude.{ap, ◌∙◌, ℕ}
 use Rattle.matrix.specs.declared.DenseMatrix.{DenseMatrix}
 use Rattle.dyson.specs.Calls.{Solved}
 use Rattle.transient_run.specs.declared.Session.{Session}

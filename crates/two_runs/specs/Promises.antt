@@ -1,5 +1,6 @@
 -- What a run with its observables answers, and demand 3 of two such calls.
-use Rattle.lists.specs.Prelude.{◌≡◌, true, List, ℕ, ◌≤◌, Float}
+use Rattle.std.specs.Prelude.{◌≡◌, ◌≤◌}
+use Rattle.lists.specs.Prelude.{true, List, ℕ, Float}
 use Rattle.refusal.specs.declared.Verdict.{Verdict}
 use Rattle.matrix.specs.declared.DenseMatrix.{DenseMatrix}
 use Rattle.dyson.specs.Calls.{Solved as DysonSolved}

@@ -2,7 +2,8 @@
 // appends: what a run leaves with appends after it, and what they add to their desk's counter.
 #![tactic(auto)]
 
-ghost use Rattle.lists.specs.Prelude.{◌≡◌, true};
+ghost use Rattle.std.specs.Prelude.{◌≡◌};
+ghost use Rattle.lists.specs.Prelude.{true};
 ghost use Rattle.transient_run.specs.Calls.{run_of, booked, transient_run, append_point, is_accepted};
 ghost use Rattle.causality.specs.Statement.{DysonDemanded};
 ghost use Rattle.causality.specs.Dyson.{call_of, dyson_of};

@@ -1,5 +1,6 @@
 -- Slices written at new places: each place is read again, and a slice written twice is the slice written at once. Assumes nothing.
-use Rattle.lists.specs.Prelude.{◌≡◌, sym, ◌∙◌, Bool, true, List, ℕ, ◌≤◌, ◌<◌, max, dec_lt, arith, Float}
+use Rattle.std.specs.Prelude.{◌≡◌, ◌≤◌, ◌<◌}
+use Rattle.lists.specs.Prelude.{sym, ◌∙◌, Bool, true, List, ℕ, max, dec_lt, arith, Float}
 use Rattle.lists.specs.Indexed.{all_in}
 use Rattle.lists.specs.Agreement.{all-each, each_all}
 use Rattle.block.specs.Agreement.{Agree}

@@ -1,5 +1,6 @@
 -- A block lies in its function. Assumes nothing.
-use Rattle.lists.specs.Prelude.{◌≡◌, ap, ℕ, ◌+◌, ◌-◌, ◌*◌, ◌≤◌, ◌<◌, add-mul, add-zero, suc-mul, arith}
+use Rattle.std.specs.Prelude.{◌≡◌, ◌+◌, ◌-◌, ◌*◌, ◌≤◌, ◌<◌}
+use Rattle.lists.specs.Prelude.{ap, ℕ, add-mul, add-zero, suc-mul, arith}
 use Rattle.two_time.specs.Layout.{place, length_of}
 use Rattle.two_time.specs.Places.{Placed, entry-placed, within}
 

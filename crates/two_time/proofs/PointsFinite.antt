@@ -1,5 +1,6 @@
 -- A slice whose entries at the points are finite passes check 7. Assumes nothing.
-use Rattle.lists.specs.Prelude.{◌≡◌, sym, ap, ◌∙◌, true, List, ℕ, ◌+◌, ◌*◌, ◌/◌, ◌%◌, ◌<◌, div-add-mod', mod-lt, div-lt_iff_lt-mul, mul-pos, dec_lt, arith, get_or, Float, nan}
+use Rattle.std.specs.Prelude.{◌≡◌, ◌+◌, ◌*◌, ◌/◌, ◌%◌, ◌<◌}
+use Rattle.lists.specs.Prelude.{sym, ap, ◌∙◌, true, List, ℕ, div-add-mod', mod-lt, div-lt_iff_lt-mul, mul-pos, dec_lt, arith, get_or, Float, nan}
 use Rattle.lists.specs.Agreement.{both}
 use Rattle.complex.specs.Arithmetic.{finite, cfinite}
 use Rattle.refusal.specs.declared.Verdict.TheVariants.{Pass}

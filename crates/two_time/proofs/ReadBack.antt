@@ -1,5 +1,6 @@
 -- A two-time function that is laid out is read back entry by entry. Assumes nothing.
-use Rattle.lists.specs.Prelude.{◌≡◌, sym, ap, ◌∙◌, ℕ, ◌<◌, add-zero, lit<, get_or, nan}
+use Rattle.std.specs.Prelude.{◌≡◌, ◌<◌}
+use Rattle.lists.specs.Prelude.{sym, ap, ◌∙◌, ℕ, add-zero, lit<, get_or, nan}
 use Rattle.two_time.specs.Layout.{TwoTime, place, read_as, lay_out_all}
 use Rattle.two_time.specs.ReadBack.{number_at}
 

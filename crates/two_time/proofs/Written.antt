@@ -1,5 +1,6 @@
 -- A written slice is read place by place, and is what it was before a row is written. Assumes nothing.
-use Rattle.lists.specs.Prelude.{◌≡◌, sym, ◌∙◌, cond, List, ℕ, ◌<◌, arith, length, le-ltb, Float}
+use Rattle.std.specs.Prelude.{◌≡◌, ◌<◌}
+use Rattle.lists.specs.Prelude.{sym, ◌∙◌, cond, List, ℕ, arith, length, le-ltb, Float}
 use Rattle.two_time.specs.Layout.{TwoTime, read_as, length_of}
 use Rattle.two_time.specs.New.{is_new, written}
 use Rattle.two_time.specs.Written.{laid_read, laid_agree, written_to}

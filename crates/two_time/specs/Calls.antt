@@ -1,5 +1,6 @@
 -- Document 01: checks 1 to 7 as every call on two-time functions asks them; document 02, L1: the same in slices laid out for a capacity.
-use Rattle.lists.specs.Prelude.{ℕ, suc, ◌+◌, ◌*◌, Bool, true, ◌&&◌, List, [], ◌∷◌, ◌++◌, eqb, leb, length, Float}
+use Rattle.std.specs.Prelude.{◌+◌, ◌*◌, ◌&&◌, ◌∷◌, ◌++◌}
+use Rattle.lists.specs.Prelude.{ℕ, suc, Bool, true, List, [], eqb, leb, length, Float}
 use Rattle.refusal.specs.declared.Verdict.{Verdict}
 use Rattle.refusal.specs.declared.Verdict.TheVariants.{Pass}
 use Rattle.refusal.specs.Verdict.{◌then◌, ask_all}

@@ -1,5 +1,6 @@
 -- Checks 1, 2, 3, 16 and 7 as the code asks them, and what it says that they pass. Assumes nothing.
-use Rattle.lists.specs.Prelude.{◌≡◌, refl, sym, ap, ◌∙◌, Bool, true, ◌&&◌, List, [], ◌∷◌, ℕ, suc, ◌≤◌, le_refl, le_trans, leb, length, Float, leb-true, le-leb}
+use Rattle.std.specs.Prelude.{◌≡◌, ◌&&◌, ◌∷◌, ◌≤◌}
+use Rattle.lists.specs.Prelude.{refl, sym, ap, ◌∙◌, Bool, true, List, [], ℕ, suc, le_refl, le_trans, leb, length, Float, leb-true, le-leb}
 use Rattle.lists.specs.Agreement.{both}
 use Rattle.refusal.specs.declared.Verdict.{Verdict}
 use Rattle.refusal.specs.declared.Verdict.TheVariants.{Pass}

@@ -1,5 +1,6 @@
 -- Closed cases of reading an entry.
-use Rattle.lists.specs.Prelude.{◌≡◌, refl, List, [], ◌∷◌, replicate, Float}
+use Rattle.std.specs.Prelude.{◌≡◌, ◌∷◌}
+use Rattle.lists.specs.Prelude.{refl, List, [], replicate, Float}
 use Rattle.complex.specs.Arithmetic.{plus_zero, one}
 use Rattle.two_time.specs.declared.layout.Stored.TheVariants.{Entry, Outside}
 use Rattle.two_time.specs.Layout.{is_place, stored_at}

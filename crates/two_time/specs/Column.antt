@@ -1,6 +1,7 @@
 -- G^R(·,0) is finite where Dyson's work at new places is: an old entry of that column is a factor of a new one. So what L5 starts from reads nothing that is
 -- not finite after Dyson passed check 10. Assumes nothing.
-use Rattle.lists.specs.Prelude.{◌≡◌, ap, ◌∙◌, true, List, ℕ, ◌≤◌, ◌<◌, le_refl, dec_lt, arith, Float}
+use Rattle.std.specs.Prelude.{◌≡◌, ◌≤◌, ◌<◌}
+use Rattle.lists.specs.Prelude.{ap, ◌∙◌, true, List, ℕ, le_refl, dec_lt, arith, Float}
 use Rattle.complex.specs.Arithmetic.{cfinite}
 use Rattle.block.specs.Agreement.{Agree}
 use Rattle.two_time.specs.Layout.{TwoTime}

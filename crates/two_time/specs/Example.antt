@@ -1,5 +1,6 @@
 -- A run with three points and two orbitals that closed cases share: inputs and expected bits by reference/expected.py, cases c and d.
-use Rattle.lists.specs.Prelude.{List, [], ◌∷◌, map, ℕ, Float, binary64, to_bits}
+use Rattle.std.specs.Prelude.{◌∷◌}
+use Rattle.lists.specs.Prelude.{List, [], map, ℕ, Float, binary64, to_bits}
 use Rattle.std.specs.Float.Ieee as Ieee
 
 -- the numbers of these bit patterns, and back

@@ -1,5 +1,6 @@
 -- The factors of a product that is finite are finite, and so are those of each term of a sum over times that is finite on the way. Assumes nothing.
-use Rattle.lists.specs.Prelude.{◌≡◌, sym, ap, ◌∙◌, Bool, true, false, ◌&&◌, ◌||◌, ℕ, zero, suc, ◌+◌, ◌-◌, ◌≤◌, ◌<◌, zero-add, ⊎_elim, eq-or-lt_of_le, arith, eqb, ne_eqb}
+use Rattle.std.specs.Prelude.{◌≡◌, ◌&&◌, ◌||◌, ◌+◌, ◌-◌, ◌≤◌, ◌<◌}
+use Rattle.lists.specs.Prelude.{sym, ap, ◌∙◌, Bool, true, false, ℕ, zero, suc, zero-add, ⊎_elim, eq-or-lt_of_le, arith, eqb, ne_eqb}
 use Rattle.lists.specs.Indexed.{fold, all_below}
 use Rattle.lists.specs.Agreement.{both, other, all-each}
 use Rattle.complex.specs.declared.Complex.{Complex}

@@ -1,5 +1,6 @@
 -- What check 10 passing says of a function that is laid out: each sum is finite, and so is every number of its list. Assumes nothing.
-use Rattle.lists.specs.Prelude.{◌≡◌, Bool, true, ℕ, zero, suc, ◌<◌, arith, length, get_or, Float, nan}
+use Rattle.std.specs.Prelude.{◌≡◌, ◌<◌}
+use Rattle.lists.specs.Prelude.{Bool, true, ℕ, zero, suc, arith, length, get_or, Float, nan}
 use Rattle.lists.specs.Indexed.{join, all_below}
 use Rattle.lists.specs.Agreement.{both, all-each}
 use Rattle.lists.specs.Reading.{each_in_join}

@@ -1,5 +1,6 @@
 -- Two sums whose terms agree are finite together. Assumes nothing.
-use Rattle.lists.specs.Prelude.{◌≡◌, sym, ◌∙◌, ℕ, ◌<◌}
+use Rattle.std.specs.Prelude.{◌≡◌, ◌<◌}
+use Rattle.lists.specs.Prelude.{sym, ◌∙◌, ℕ}
 use Rattle.two_time.specs.WeightedSum.{Terms, finite_sum}
 use Rattle.two_time.specs.OneTest.{one_test}
 use Rattle.two_time.specs.Agreement.{AgreeTerms, weighted_agree}

@@ -1,5 +1,6 @@
 -- How many terms the sum over an interval has, as arithmetic tells it. Assumes nothing.
-use Rattle.lists.specs.Prelude.{◌≡◌, ℕ, ◌+◌, ◌-◌, ◌≤◌, min, dec_lt, arith, lt-ltb, le-ltb}
+use Rattle.std.specs.Prelude.{◌≡◌, ◌+◌, ◌-◌, ◌≤◌}
+use Rattle.lists.specs.Prelude.{ℕ, min, dec_lt, arith, lt-ltb, le-ltb}
 use Rattle.two_time.specs.Sums.{interval_count}
 
 pub interval_count_lem : (start end : ℕ) → interval_count start end ≡ end - start + min 1 (end - start)

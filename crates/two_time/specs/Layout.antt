@@ -1,6 +1,7 @@
 -- Document 01, "Kept, renewed, left behind": "A two-time function is a lent slice of binary64 numbers: block (t, t') row by row, in a block
 -- entry (a, b) row by row, real part before imaginary."
-use Rattle.lists.specs.Prelude.{ℕ, ◌+◌, ◌*◌, Bool, cond, ◌&&◌, List, leb, ltb, length, Float}
+use Rattle.std.specs.Prelude.{◌+◌, ◌*◌, ◌&&◌}
+use Rattle.lists.specs.Prelude.{ℕ, Bool, cond, List, leb, ltb, length, Float}
 use Rattle.lists.specs.Indexed.{join, all_below}
 use Rattle.complex.specs.Numbers.{entry_at}
 use Rattle.block.specs.Block.{Entries, lay_out}

@@ -1,5 +1,6 @@
 -- Slices that have a function's length: each of those asked, and others in another order. Assumes nothing.
-use Rattle.lists.specs.Prelude.{◌≡◌, refl, Bool, true, List, [], ◌∷◌, ℕ, length, Float}
+use Rattle.std.specs.Prelude.{◌≡◌, ◌∷◌}
+use Rattle.lists.specs.Prelude.{refl, Bool, true, List, [], ℕ, length, Float}
 use Rattle.two_time.specs.Layout.{length_of}
 use Rattle.two_time.specs.Calls.{all_long}
 use Rattle.two_time.specs.SizeChecks.{SizesPassed, long-first, long_also, long-none}

@@ -1,7 +1,8 @@
 -- Document 02, L1: "Lend inputs, outputs and scratch laid out for a capacity of points (row t begins at t times capacity blocks), start with a run,
 -- then append: only the new row and column of K, G^R, X and G^< are worked out." A call works out the places whose larger index is at least `old` and
 -- below `points`: a run from 0 on, an append from the points before on.
-use Rattle.lists.specs.Prelude.{ℕ, max, Bool, not, cond, ◌&&◌, ◌||◌, List, [], ◌∷◌, leb, ltb, Float}
+use Rattle.std.specs.Prelude.{◌&&◌, ◌||◌, ◌∷◌}
+use Rattle.lists.specs.Prelude.{ℕ, max, Bool, not, cond, List, [], leb, ltb, Float}
 use Rattle.lists.specs.Indexed.{all_in}
 use Rattle.block.specs.Operations.{zeros}
 use Rattle.two_time.specs.Layout.{TwoTime, read_as, lay_out_all}

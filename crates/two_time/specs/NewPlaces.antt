@@ -1,5 +1,6 @@
 -- A test of the new places is a test of each. Assumes nothing.
-use Rattle.lists.specs.Prelude.{◌≡◌, sym, ◌∙◌, Bool, true, List, ℕ, ◌≤◌, ◌<◌, max, dec_lt, arith, Float}
+use Rattle.std.specs.Prelude.{◌≡◌, ◌≤◌, ◌<◌}
+use Rattle.lists.specs.Prelude.{sym, ◌∙◌, Bool, true, List, ℕ, max, dec_lt, arith, Float}
 use Rattle.lists.specs.Indexed.{all_in}
 use Rattle.lists.specs.Agreement.{all-each, each_all}
 use Rattle.block.specs.Agreement.{Agree}

@@ -1,5 +1,6 @@
 -- A sum over times by its running sums: one more term, and that one test at its end tests every block made for it. Assumes nothing.
-use Rattle.lists.specs.Prelude.{◌≡◌, refl, sym, ap, ◌∙◌, Bool, and-false, true, false, ◌&&◌, ◌||◌, ℕ, zero, suc, ◌+◌, le_refl, add-one, arith, eqb, eqb-true, ne_eqb}
+use Rattle.std.specs.Prelude.{◌≡◌, ◌&&◌, ◌||◌, ◌+◌}
+use Rattle.lists.specs.Prelude.{refl, sym, ap, ◌∙◌, Bool, and-false, true, false, ℕ, zero, suc, le_refl, add-one, arith, eqb, eqb-true, ne_eqb}
 use Rattle.lists.specs.Indexed.{fold, all_below}
 use Rattle.complex.specs.Arithmetic.{real, cadd, cmul, cfinite}
 use Rattle.complex.specs.Sum.{sum_from}

@@ -1,5 +1,6 @@
 -- The outcome of a call that lays the sums at all places out in a slice and asks its sizes alone.
-use Rattle.lists.specs.Prelude.{◌≡◌, refl, sym, ap, ◌∙◌, ℕ, ◌*◌, Bool, true, false, cond, ◌&&◌, List, [], ◌∷◌, le_refl, arith, leb, le-leb, length, replicate, Float}
+use Rattle.std.specs.Prelude.{◌≡◌, ◌*◌, ◌&&◌, ◌∷◌}
+use Rattle.lists.specs.Prelude.{refl, sym, ap, ◌∙◌, ℕ, Bool, true, false, cond, List, [], le_refl, arith, leb, le-leb, length, replicate, Float}
 use Rattle.lists.specs.Agreement.{join_agree}
 use Rattle.complex.specs.Arithmetic.{plus_zero}
 use Rattle.block.specs.Operations.{zeros}

@@ -1,5 +1,6 @@
 -- A slice that is written part by part, each of one width. Assumes nothing.
-use Rattle.lists.specs.Prelude.{◌≡◌, sym, ap, ◌∙◌, List, ℕ, ◌+◌, ◌*◌, ◌≤◌, ◌<◌, suc-mul, mul-le-mul_right, mul_assoc, mul_left_comm, length, Float}
+use Rattle.std.specs.Prelude.{◌≡◌, ◌+◌, ◌*◌, ◌≤◌, ◌<◌}
+use Rattle.lists.specs.Prelude.{sym, ap, ◌∙◌, List, ℕ, suc-mul, mul-le-mul_right, mul_assoc, mul_left_comm, length, Float}
 use Rattle.lists.specs.Indexed.{join}
 use Rattle.lists.specs.Reading.{length-join}
 use Rattle.lists.specs.Filling.{over, over-all}

@@ -1,7 +1,8 @@
 -- Where entries stand, within the limits of N and n: every place lies in its function, every number on the way to it fits, and whether an entry is
 -- there is asked by numbers that fit, N and n cut where they are past their limits anyway. Assumes nothing.
-use Rattle.lists.specs.Prelude.{◌≡◌, refl, ap, ℕ, ◌+◌, ◌-◌, ◌*◌, ◌≤◌, ◌<◌, min, min-eq_left, le_trans, add-zero, add-mul, suc-mul, mul-le-mul_left, mul-le-mul_right}
-use Rattle.lists.specs.Prelude.{mul_assoc, arith, digits_lt, leb, ltb, Bool, true, false, ◌&&◌, List, length, Float, leb-true, ltb-true, le-leb, lt-ltb}
+use Rattle.std.specs.Prelude.{◌≡◌, ◌+◌, ◌-◌, ◌*◌, ◌≤◌, ◌<◌, ◌&&◌}
+use Rattle.lists.specs.Prelude.{refl, ap, ℕ, min, min-eq_left, le_trans, add-zero, add-mul, suc-mul, mul-le-mul_left, mul-le-mul_right}
+use Rattle.lists.specs.Prelude.{mul_assoc, arith, digits_lt, leb, ltb, Bool, true, false, List, length, Float, leb-true, ltb-true, le-leb, lt-ltb}
 use Rattle.lists.specs.Agreement.{both}
 use Rattle.two_time.specs.declared.layout.Stored.TheVariants.{Entry}
 use Rattle.two_time.specs.Layout.{place, is_place, length_of, read_as, stored_at}

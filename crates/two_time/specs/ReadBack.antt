@@ -1,5 +1,6 @@
 -- A two-time function that is laid out is read back number by number, and has the document's length. Assumes nothing.
-use Rattle.lists.specs.Prelude.{◌≡◌, refl, sym, ap, ◌∙◌, List, ℕ, ◌+◌, ◌*◌, ◌<◌, add-mul, mul_assoc, mul_comm, mul_left_comm, add-zero, arith, lit<, digits_lt, length}
+use Rattle.std.specs.Prelude.{◌≡◌, ◌+◌, ◌*◌, ◌<◌}
+use Rattle.lists.specs.Prelude.{refl, sym, ap, ◌∙◌, List, ℕ, add-mul, mul_assoc, mul_comm, mul_left_comm, add-zero, arith, lit<, digits_lt, length}
 use Rattle.lists.specs.Prelude.{get_or, Float, nan}
 use Rattle.lists.specs.Indexed.{join}
 use Rattle.lists.specs.Reading.{length-join, get_or-join}

@@ -1,7 +1,8 @@
 -- The agreement law of the one sum over times, for any relation between the entries of two blocks that holds of +0 and that sum, scaling, conjugation and
 -- product keep: two weighted sums whose terms are related in the interval are related. Demand 3's equality is one such relation (Agreement.antt), the split of
 -- document 02, L12 another. Assumes nothing.
-use Rattle.lists.specs.Prelude.{◌≡◌, refl, ap, ap₂, ℕ, zero, suc, ◌+◌, ◌≤◌, ◌<◌, le_refl, arith}
+use Rattle.std.specs.Prelude.{◌≡◌, ◌+◌, ◌≤◌, ◌<◌}
+use Rattle.lists.specs.Prelude.{refl, ap, ap₂, ℕ, zero, suc, le_refl, arith}
 use Rattle.lists.specs.Indexed.{fold}
 use Rattle.complex.specs.declared.Complex.{Complex}
 use Rattle.complex.specs.Arithmetic.{czero, cadd, cmul, conj, real}

@@ -1,5 +1,6 @@
 -- Checks 1 to 3 as the code asks them, with the limits of N and n in the third too, and what it says that they pass. Assumes nothing.
-use Rattle.lists.specs.Prelude.{◌≡◌, refl, sym, ◌∙◌, Bool, true, false, ◌&&◌, List, [], ◌∷◌, ℕ, ◌≤◌, min, min-eq_left, leb, eqb, length, Float, leb-true, eqb-true, le-leb, eq-eqb}
+use Rattle.std.specs.Prelude.{◌≡◌, ◌&&◌, ◌∷◌, ◌≤◌}
+use Rattle.lists.specs.Prelude.{refl, sym, ◌∙◌, Bool, true, false, List, [], ℕ, min, min-eq_left, leb, eqb, length, Float, leb-true, eqb-true, le-leb, eq-eqb}
 use Rattle.lists.specs.Agreement.{both}
 use Rattle.refusal.specs.declared.Verdict.{Verdict}
 use Rattle.refusal.specs.declared.Verdict.TheVariants.{Pass}

@@ -1,6 +1,7 @@
 -- Document 02, L5: what G^< starts from. "G^<(t,t') then starts from (G^R(t,0)·g0)·G^A(0,t') instead of zero, as in Stefanucci and van Leeuwen; where t
 -- is 0 that start is the whole block." One definition of G^< serves both forms of the run: the empty form is the one whose start is +0.
-use Rattle.lists.specs.Prelude.{ℕ, ◌*◌, Bool, true, ◌&&◌, List, [], ◌∷◌, leb, length, Float}
+use Rattle.std.specs.Prelude.{◌*◌, ◌&&◌, ◌∷◌}
+use Rattle.lists.specs.Prelude.{ℕ, Bool, true, List, [], leb, length, Float}
 use Rattle.complex.specs.Arithmetic.{cfinite}
 use Rattle.block.specs.Block.{Entries, entries_in}
 use Rattle.block.specs.Operations.{product, zeros, adjoint}

@@ -1,6 +1,7 @@
 -- Closed cases of G^< from an occupied start: P12's G^R and X (document 01) with g0 = i, to 2 and to 3 points in a capacity of 3, at once and appended;
 -- two orbitals, where the order of the factors tells; products that are not finite.
-use Rattle.lists.specs.Prelude.{◌≡◌, refl, Bool, true, false, List, [], ◌∷◌, ℕ, Float}
+use Rattle.std.specs.Prelude.{◌≡◌, ◌∷◌}
+use Rattle.lists.specs.Prelude.{refl, Bool, true, false, List, [], ℕ, Float}
 use Rattle.block.specs.Block.{entries_in, lay_out}
 use Rattle.two_time.specs.New.{is_new, written, every_new}
 use Rattle.two_time.specs.Layout.{read_as}

@@ -1,6 +1,7 @@
 -- G^< by its start: the empty form is the sum of document 01, starts that agree make the same, and with g0 at +0 the start is +0 where G^R(·,0) is finite.
 -- Assumes nothing.
-use Rattle.lists.specs.Prelude.{◌≡◌, refl, sym, ap, ap₂, ◌∙◌, Bool, and-true, true, false, not, cond, ◌&&◌, ◌||◌, List, [], ◌∷◌, ℕ, ◌<◌, max, arith, leb, ltb, ltb-true, Float}
+use Rattle.std.specs.Prelude.{◌≡◌, ◌&&◌, ◌||◌, ◌∷◌, ◌<◌}
+use Rattle.lists.specs.Prelude.{refl, sym, ap, ap₂, ◌∙◌, Bool, and-true, true, false, not, cond, List, [], ℕ, max, arith, leb, ltb, ltb-true, Float}
 use Rattle.std.specs.Float.Ieee as Ieee
 use Rattle.lists.specs.Indexed.{all_in}
 use Rattle.lists.specs.Agreement.{both, all_agree}

@@ -1,5 +1,6 @@
 -- Document 01: the terms of every sum over times at a place (t, u), and the sums at all places.
-use Rattle.lists.specs.Prelude.{ℕ, suc, ◌-◌, Bool, cond, List, ltb, Float}
+use Rattle.std.specs.Prelude.{◌-◌}
+use Rattle.lists.specs.Prelude.{ℕ, suc, Bool, cond, List, ltb, Float}
 use Rattle.block.specs.Block.{Entries}
 use Rattle.block.specs.Operations.{zeros, adjoint}
 use Rattle.grid.specs.Weights.{full_weight, interval_weight}

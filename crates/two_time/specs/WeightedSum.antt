@@ -1,6 +1,7 @@
 -- Document 01, convolutions: "Each term is product, then scale, then add, s ascending". Every sum over times is this one, and beside its
 -- value stands whether every block made for it is finite.
-use Rattle.lists.specs.Prelude.{ℕ, suc, ◌+◌, Bool, ◌&&◌, Float}
+use Rattle.std.specs.Prelude.{◌+◌, ◌&&◌}
+use Rattle.lists.specs.Prelude.{ℕ, suc, Bool, Float}
 use Rattle.lists.specs.Indexed.{all_below}
 use Rattle.complex.specs.Arithmetic.{real, cfinite}
 use Rattle.complex.specs.Sum.{sum_from}

@@ -1,6 +1,7 @@
 -- Slices laid out for a capacity: any is laid out of what is read from it, new places are read back, and neighbouring blocks are written in their
 -- place. Assumes nothing.
-use Rattle.lists.specs.Prelude.{◌≡◌, refl, sym, ap, ap₂, ◌∙◌, ◌⊎◌, inl, inr, ⊎_elim, Bool, and-false, true, false, not, cond, ◌&&◌, ◌||◌, List, [], ◌∷◌, ◌++◌, append_assoc, append-nil, ℕ, suc, ◌+◌, ◌-◌, ◌*◌, ◌/◌, ◌%◌, ◌≤◌, ◌<◌, max}
+use Rattle.std.specs.Prelude.{◌≡◌, ◌⊎◌, ◌&&◌, ◌||◌, ◌∷◌, ◌++◌, ◌+◌, ◌-◌, ◌*◌, ◌/◌, ◌%◌, ◌≤◌, ◌<◌}
+use Rattle.lists.specs.Prelude.{refl, sym, ap, ap₂, ◌∙◌, inl, inr, ⊎_elim, Bool, and-false, true, false, not, cond, List, [], append_assoc, append-nil, ℕ, suc, max}
 use Rattle.lists.specs.Prelude.{div-add-mod', mul_comm, mul_assoc, mul_left_comm, add-zero, add-mul, mul-le-mul_right, dec_lt, arith, length, get_or, length-append, take, drop, take_at, drop_at, ext_get_or, leb, ltb, ltb-true, ltb-false, lt-ltb, le-ltb, le-leb, lt-leb, Float, nan, put_mid}
 use Rattle.lists.specs.Indexed.{join, all_below, all_in}
 use Rattle.lists.specs.Agreement.{join_agree, all_agree, each_all}

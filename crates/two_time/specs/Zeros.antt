@@ -1,5 +1,6 @@
 -- A finite block times a block of +0, on either side, is +0. Assumes nothing.
-use Rattle.lists.specs.Prelude.{◌≡◌, refl, ap, ap₂, ◌∙◌, ℕ, zero, suc, ◌<◌, le_refl, zero-add, arith}
+use Rattle.std.specs.Prelude.{◌≡◌, ◌<◌}
+use Rattle.lists.specs.Prelude.{refl, ap, ap₂, ◌∙◌, ℕ, zero, suc, le_refl, zero-add, arith}
 use Rattle.lists.specs.Indexed.{fold}
 use Rattle.complex.specs.declared.Complex.{Complex}
 use Rattle.complex.specs.Arithmetic.{czero, cadd, cmul}

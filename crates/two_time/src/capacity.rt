@@ -1,5 +1,6 @@
 // Slices laid out for a capacity of points, and the places that a call works out in them (document 02, L1).
-ghost use Rattle.lists.specs.Prelude.{◌≡◌, ◌≤◌, cond, length};
+ghost use Rattle.std.specs.Prelude.{◌≡◌, ◌≤◌};
+ghost use Rattle.lists.specs.Prelude.{cond, length};
 ghost use Rattle.refusal.specs.Verdict.{◌then◌};
 ghost use Rattle.refusal.specs.Checks.{large_enough, within_limits, fitting, within_capacity};
 ghost use Rattle.two_time.specs.Calls.{block_sizes, point_entries, point_checks};

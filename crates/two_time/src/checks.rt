@@ -1,5 +1,6 @@
 // The checks that every call on two-time functions asks of what it is lent (document 01, "Questions in order").
-ghost use Rattle.lists.specs.Prelude.{◌≡◌, [], ◌∷◌, length};
+ghost use Rattle.std.specs.Prelude.{◌≡◌, ◌∷◌};
+ghost use Rattle.lists.specs.Prelude.{[], length};
 ghost use Rattle.refusal.specs.Verdict.{◌then◌};
 ghost use Rattle.refusal.specs.Checks.{large_enough, within_limits, fitting, finite_entries};
 ghost use Rattle.two_time.specs.Calls.{all_fit};

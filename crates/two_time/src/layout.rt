@@ -1,6 +1,7 @@
 // Where an entry of a two-time function stands in its slice (document 01, "Kept, renewed, left behind"). A row of blocks has
 // `stride` of them.
-ghost use Rattle.lists.specs.Prelude.{◌≡◌, ◌+◌, ◌*◌, ◌<◌, ◌≤◌, min, length, replicate};
+ghost use Rattle.std.specs.Prelude.{◌≡◌, ◌+◌, ◌*◌, ◌<◌, ◌≤◌};
+ghost use Rattle.lists.specs.Prelude.{min, length, replicate};
 ghost use Rattle.complex.specs.Arithmetic.{plus_zero};
 ghost use Rattle.two_time.specs.Layout.{place, is_place, read_as, stored_at, length_of};
 ghost use Rattle.two_time.specs.Places.{Placed};

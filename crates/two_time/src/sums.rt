@@ -1,5 +1,5 @@
 // What is summed over times, and what became of the sums (document 01, convolutions): the crates `lanes` and `sums` have the loops.
-ghost use Rattle.lists.specs.Prelude.{◌≡◌};
+ghost use Rattle.std.specs.Prelude.{◌≡◌};
 ghost use Rattle.two_time.specs.Outcome.{all_summed};
 
 // What is summed at every place (t, t').

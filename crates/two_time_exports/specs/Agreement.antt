@@ -1,5 +1,6 @@
 -- The verdict of an observable and a report has document 01's number of the answer, and after 10 an observable's slice holds +0. Assumes nothing.
-use Rattle.lists.specs.Prelude.{◌≡◌, refl, List, ℕ, length, Float}
+use Rattle.std.specs.Prelude.{◌≡◌}
+use Rattle.lists.specs.Prelude.{refl, List, ℕ, length, Float}
 use Rattle.refusal.specs.declared.Verdict.TheVariants.{Refused}
 use Rattle.refusal.specs.Verdict.{by, number_of, zeroed}
 use Rattle.observables.specs.declared.Observed.{Observed}

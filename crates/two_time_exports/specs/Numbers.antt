@@ -1,5 +1,6 @@
 -- An observable and a report in numbers.
-use Rattle.lists.specs.Prelude.{ℕ, List, [], ◌∷◌, eqb, length, get_or, replicate, Float, nan}
+use Rattle.std.specs.Prelude.{◌∷◌}
+use Rattle.lists.specs.Prelude.{ℕ, List, [], eqb, length, get_or, replicate, Float, nan}
 use Rattle.complex.specs.Arithmetic.{plus_zero}
 use Rattle.refusal.specs.declared.Verdict.{Verdict}
 use Rattle.refusal.specs.declared.Verdict.TheVariants.{Pass, Refused}

@@ -1,5 +1,5 @@
 // The calls on all four components. A report's seven residuals are written to a slice of seven, and read from one.
-ghost use Rattle.lists.specs.Prelude.{◌≡◌};
+ghost use Rattle.std.specs.Prelude.{◌≡◌};
 ghost use Rattle.report.specs.Calls.{consistency_report};
 ghost use Rattle.langreth.specs.Calls.{components_of, langreth_product};
 ghost use Rattle.answers.specs.Answer.{after, answers, after_with, answers_numbers, answers_decision};

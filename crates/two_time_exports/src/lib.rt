@@ -4,7 +4,7 @@
 pub mod keldysh;
 pub mod observed;
 
-ghost use Rattle.lists.specs.Prelude.{◌≡◌};
+ghost use Rattle.std.specs.Prelude.{◌≡◌};
 ghost use Rattle.support.specs.Support.{check_support};
 ghost use Rattle.convolution.specs.Calls.{time_convolution, causal_convolution};
 ghost use Rattle.dyson.specs.Calls.{dyson_with_tolerance};

@@ -1,5 +1,5 @@
 // The observables. A number is written to a slice of one; the density matrix is written as a block.
-ghost use Rattle.lists.specs.Prelude.{◌≡◌};
+ghost use Rattle.std.specs.Prelude.{◌≡◌};
 ghost use Rattle.observables.specs.Calls.{density_matrix, particle_number, one_body_expectation, bond_flow_into};
 ghost use Rattle.flows.specs.Calls.{bond_flows_into};
 ghost use Rattle.answers.specs.Answer.{after, answers, after_with, answers_numbers, block, after_block, answers_block};

@@ -1,5 +1,6 @@
 -- Closed cases of reading an entry: what stands there, and each refusal.
-use Rattle.lists.specs.Prelude.{◌≡◌, refl, List, [], ◌∷◌, replicate, Float, nan}
+use Rattle.std.specs.Prelude.{◌≡◌, ◌∷◌}
+use Rattle.lists.specs.Prelude.{refl, List, [], replicate, Float, nan}
 use Rattle.std.specs.Float.Ieee as Ieee
 use Rattle.complex.specs.Arithmetic.{plus_zero, one, finite}
 use Rattle.refusal.specs.Verdict.{by, ask, ◌then◌, ask_all}

@@ -1,5 +1,5 @@
 // The calls over the numbers of a view, N and n: the function is laid out for its points, so that its capacity is N.
-ghost use Rattle.lists.specs.Prelude.{◌≡◌};
+ghost use Rattle.std.specs.Prelude.{◌≡◌};
 ghost use Rattle.observables.specs.Calls.{lesser_checks, particle_number, one_body_expectation, bond_flow_into};
 
 use complex::Complex;

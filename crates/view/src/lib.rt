@@ -4,7 +4,7 @@
 
 mod lent;
 
-ghost use Rattle.lists.specs.Prelude.{◌≡◌};
+ghost use Rattle.std.specs.Prelude.{◌≡◌};
 ghost use Rattle.observables.specs.Calls.{lesser_checks, particle_number, one_body_expectation, bond_flow_into};
 ghost use Rattle.view.specs.Calls.{stored_entry};
 

@@ -1,5 +1,6 @@
 -- `answers::with_output` meets its contract: by the case of the verdict, and by its number. Assumes nothing.
-use Rattle.lists.specs.Prelude.{◌≡◌, refl, Bool, true, ◌||◌, eqb, rules}
+use Rattle.std.specs.Prelude.{◌≡◌, ◌||◌}
+use Rattle.lists.specs.Prelude.{refl, Bool, true, eqb, rules}
 use Rattle.refusal.specs.declared.Refusal.{Refusal}
 use Rattle.refusal.specs.declared.Verdict.{Verdict}
 use Rattle.refusal.specs.declared.Verdict.TheVariants.{Refused}

@@ -1,5 +1,6 @@
 -- `block_exports::leechgrommet_product_chain` meets its contract: after k steps x is the chain of k products. Assumes nothing.
-use Rattle.lists.specs.Prelude.{◌≡◌, refl, sym, ℕ, ◌+◌, ◌-◌, ◌≤◌, le_antisymm, arith, rules}
+use Rattle.std.specs.Prelude.{◌≡◌, ◌+◌, ◌-◌, ◌≤◌}
+use Rattle.lists.specs.Prelude.{refl, sym, ℕ, le_antisymm, arith, rules}
 use Rattle.lists.specs.Indexed.{fold}
 use Rattle.lists.specs.Steps.{fold_more}
 use Rattle.matrix.specs.declared.DenseMatrix.{DenseMatrix}

@@ -1,5 +1,6 @@
 -- `columns::group` meets its contract: one place at one orbital by its own loop, all else by `groups::group`. Assumes nothing.
-use Rattle.lists.specs.Prelude.{◌≡◌, sym, ap, ap₂, ◌∙◌, true, ℕ, eqb, length, rules, eqb-true}
+use Rattle.std.specs.Prelude.{◌≡◌}
+use Rattle.lists.specs.Prelude.{sym, ap, ap₂, ◌∙◌, true, ℕ, eqb, length, rules, eqb-true}
 use Rattle.lists.specs.Agreement.{both}
 use Rattle.two_time.specs.Outcome.{SumsOutcome}
 use Rattle.groups.specs.PlaceSums.{begins}

@@ -1,5 +1,6 @@
 -- `columns::place_sum` meets its contract: the sum of the walk, or nothing to add. Assumes nothing.
-use Rattle.lists.specs.Prelude.{◌≡◌, sym, ap, ap₂, ◌∙◌, ◌+◌, ◌*◌, ◌≤◌, arith, rules}
+use Rattle.std.specs.Prelude.{◌≡◌, ◌+◌, ◌*◌, ◌≤◌}
+use Rattle.lists.specs.Prelude.{sym, ap, ap₂, ◌∙◌, arith, rules}
 use Rattle.complex.specs.Sum.{sum_from}
 use Rattle.two_time.specs.Places.{product-most}
 use Rattle.terms.specs.declared.Factor.{Factor}

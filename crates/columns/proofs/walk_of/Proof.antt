@@ -1,5 +1,6 @@
 -- `columns::walk_of` meets its contract. Assumes nothing.
-use Rattle.lists.specs.Prelude.{◌*◌, ◌≤◌, arith, rules}
+use Rattle.std.specs.Prelude.{◌*◌, ◌≤◌}
+use Rattle.lists.specs.Prelude.{arith, rules}
 use Rattle.two_time.specs.Places.{product-most}
 use Rattle.columns.specs.Walks.{walk_of}
 use Rattle.columns.proofs.walk_of.Statement.{statement}

@@ -1,5 +1,6 @@
 -- `columns::walk_sum` meets its contract: before step s the sum has the first s terms. Assumes nothing.
-use Rattle.lists.specs.Prelude.{◌≡◌, sym, ap, ap₂, ◌∙◌, ◌+◌, ◌-◌, ◌*◌, ◌≤◌, ◌<◌, le_antisymm, arith, length, rules}
+use Rattle.std.specs.Prelude.{◌≡◌, ◌+◌, ◌-◌, ◌*◌, ◌≤◌, ◌<◌}
+use Rattle.lists.specs.Prelude.{sym, ap, ap₂, ◌∙◌, le_antisymm, arith, length, rules}
 use Rattle.complex.specs.Arithmetic.{czero, real, cadd, cmul}
 use Rattle.complex.specs.Sum.{sum_from}
 use Rattle.complex.specs.Agreement.{sum_more, sum-none}

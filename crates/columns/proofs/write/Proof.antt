@@ -1,5 +1,6 @@
 -- `columns::write` meets its contract. Assumes nothing.
-use Rattle.lists.specs.Prelude.{◌≡◌, refl, sym, ◌∙◌, Bool, true, false, List, [], ◌∷◌, length, set, length-set, Float, arith, rules}
+use Rattle.std.specs.Prelude.{◌≡◌, ◌∷◌}
+use Rattle.lists.specs.Prelude.{refl, sym, ◌∙◌, Bool, true, false, List, [], length, set, length-set, Float, arith, rules}
 use Rattle.complex.specs.Arithmetic.{cfinite}
 use Rattle.columns.proofs.write.Statement.{statement}
 use Rattle.columns.proofs.write.Tie as tie

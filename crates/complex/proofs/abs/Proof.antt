@@ -1,6 +1,7 @@
 -- `complex::abs` meets its contract, by cases on the number and its sign: below zero the sign is cleared, a zero gives +0, and any other
 -- number is its own size. That a zero is written in one way is what its format says. Assumes nothing.
-use Rattle.lists.specs.Prelude.{◌≡◌, refl, sym, ◌∙◌, true, false, ℕ, zero, suc, ◌+◌, ◌*◌, ◌^◌, ◌≤◌, ◌<◌, zero-mul, one-mul, mul-one, mul-pos, zero-lt-suc, arith, ℤ, pos}
+use Rattle.std.specs.Prelude.{◌≡◌, ◌+◌, ◌*◌, ◌^◌, ◌≤◌, ◌<◌}
+use Rattle.lists.specs.Prelude.{refl, sym, ◌∙◌, true, false, ℕ, zero, suc, zero-mul, one-mul, mul-one, mul-pos, zero-lt-suc, arith, ℤ, pos}
 use Rattle.lists.specs.Prelude.{negsuc, pow-lt, Float, nan, inf, fin, lt, eq, neg, of_bits, binary64, fits, up, down, level, ltb-true, ltb-false, eqb-true}
 use lib.Ieee.Fits.{up_pos}
 use Rattle.lists.specs.Agreement.{never, both}

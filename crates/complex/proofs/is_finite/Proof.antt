@@ -1,6 +1,7 @@
 -- `complex::is_finite` meets its contract: a number between the infinities is no NaN and neither of them. By cases, each of which computes.
 -- Assumes nothing.
-use Rattle.lists.specs.Prelude.{◌≡◌, refl, true, false, ◌&&◌, Float, nan, inf, fin, lt, div, neg, of_bits, binary64}
+use Rattle.std.specs.Prelude.{◌≡◌, ◌&&◌}
+use Rattle.lists.specs.Prelude.{refl, true, false, Float, nan, inf, fin, lt, div, neg, of_bits, binary64}
 use Rattle.complex.specs.Arithmetic.{finite, plus_zero, one}
 use Rattle.complex.proofs.is_finite.Statement.{statement}
 use Rattle.complex.proofs.is_finite.Tie as tie

@@ -1,5 +1,6 @@
 -- `convolution::convolve` meets its contract: refused it leaves the slice, and where checks 1 to 7 pass the sums decide. Assumes nothing.
-use Rattle.lists.specs.Prelude.{◌≡◌, sym, ap, ◌∙◌, [], ◌∷◌, eqb, length, rules}
+use Rattle.std.specs.Prelude.{◌≡◌, ◌∷◌}
+use Rattle.lists.specs.Prelude.{sym, ap, ◌∙◌, [], eqb, length, rules}
 use Rattle.refusal.specs.declared.Verdict.{Verdict}
 use Rattle.refusal.specs.declared.Verdict.TheVariants.{Refused}
 use Rattle.refusal.specs.Verdict.{◌then◌}

@@ -1,5 +1,6 @@
 -- `counters::write_booked` meets its contract: by the case of the answer. Assumes nothing.
-use Rattle.lists.specs.Prelude.{refl, ◌<◌, arith, ltb, ltb-true, length, rules}
+use Rattle.std.specs.Prelude.{◌<◌}
+use Rattle.lists.specs.Prelude.{refl, arith, ltb, ltb-true, length, rules}
 use Rattle.lists.specs.Agreement.{both}
 use Rattle.answers.specs.Answer.{answer_of}
 use Rattle.counters.specs.Counters.{counters_after}

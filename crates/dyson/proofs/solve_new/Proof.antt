@@ -1,5 +1,6 @@
 -- `dyson::solve_new` meets its contract: unfit, finite, or not finite with the new places of both slices cleared. Assumes nothing.
-use Rattle.lists.specs.Prelude.{◌≡◌, sym, ap, ◌∙◌, Bool, true, false, cond, ◌&&◌, [], ◌∷◌, leb, leb-true, length, List, Float, rules, not-true, not-false}
+use Rattle.std.specs.Prelude.{◌≡◌, ◌&&◌, ◌∷◌}
+use Rattle.lists.specs.Prelude.{sym, ap, ◌∙◌, Bool, true, false, cond, [], leb, leb-true, length, List, Float, rules, not-true, not-false}
 use Rattle.lists.specs.Agreement.{both}
 use Rattle.refusal.specs.declared.Verdict.TheVariants.{Pass}
 use Rattle.two_time.specs.declared.sums.Sums.TheVariants.{Causal}

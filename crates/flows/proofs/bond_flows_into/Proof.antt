@@ -1,5 +1,6 @@
 -- `flows::bond_flows_into` meets its contract: past its checks each query is answered as by the single call. Assumes nothing.
-use Rattle.lists.specs.Prelude.{◌≡◌, rules}
+use Rattle.std.specs.Prelude.{◌≡◌}
+use Rattle.lists.specs.Prelude.{rules}
 use Rattle.flows.specs.Calls.{Queries, count, fitting, list_checks}
 use Rattle.flows.specs.Asked.{fits-asked, list_nothing, list_fitting, list_written}
 use Rattle.flows.proofs.bond_flows_into.Statement.{statement}

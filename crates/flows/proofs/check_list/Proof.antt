@@ -1,5 +1,6 @@
 -- `flows::check_list` meets its contract: 7 is asked where the checks before it pass. Assumes nothing.
-use Rattle.lists.specs.Prelude.{◌≡◌, ap₂, ◌∙◌, [], ◌∷◌, rules}
+use Rattle.std.specs.Prelude.{◌≡◌, ◌∷◌}
+use Rattle.lists.specs.Prelude.{ap₂, ◌∙◌, [], rules}
 use Rattle.refusal.specs.Verdict.{◌then◌}
 use Rattle.refusal.specs.Checks.{within_list}
 use Rattle.two_time.specs.Calls.{capacity_checks}

@@ -1,5 +1,6 @@
 -- `flows::fill` meets its contract: after k steps the first k answers are written, and the rest of both slices is as it was. Assumes nothing.
-use Rattle.lists.specs.Prelude.{◌≡◌, refl, sym, ap, ◌∙◌, List, ℕ, ◌+◌, ◌-◌, ◌≤◌, ◌<◌, le_trans, le_of_eq, arith, length, set, length-set, Float, rules}
+use Rattle.std.specs.Prelude.{◌≡◌, ◌+◌, ◌-◌, ◌≤◌, ◌<◌}
+use Rattle.lists.specs.Prelude.{refl, sym, ap, ◌∙◌, List, ℕ, le_trans, le_of_eq, arith, length, set, length-set, Float, rules}
 use Rattle.lists.specs.Filling.{over}
 use Rattle.lists.specs.Singles.{singles, singles-none, singles-step, singles-end}
 use Rattle.observables.specs.declared.Observed.{Observed}

@@ -1,5 +1,6 @@
 -- `flows::is_twice` meets its contract: a slice that is shorter than the list is not twice as long. Assumes nothing.
-use Rattle.lists.specs.Prelude.{sym, ◌*◌, arith, ne_eqb}
+use Rattle.std.specs.Prelude.{◌*◌}
+use Rattle.lists.specs.Prelude.{sym, arith, ne_eqb}
 use Rattle.flows.specs.Asked.{twice-more}
 use Rattle.flows.proofs.is_twice.Statement.{statement}
 use Rattle.flows.proofs.is_twice.Tie as tie

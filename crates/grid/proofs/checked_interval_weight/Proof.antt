@@ -1,5 +1,6 @@
 -- `grid::checked_interval_weight` meets its contract: a weight where the questions pass, and else their refusal. Assumes nothing.
-use Rattle.lists.specs.Prelude.{◌≡◌, sym, ap₂, ◌∙◌, rules}
+use Rattle.std.specs.Prelude.{◌≡◌}
+use Rattle.lists.specs.Prelude.{sym, ap₂, ◌∙◌, rules}
 use Rattle.refusal.specs.Verdict.{◌then◌}
 use Rattle.refusal.specs.Checks.{time_below}
 use Rattle.refusal.specs.Agreement.{measured_yes, measured-no}

@@ -1,5 +1,6 @@
 -- `grid::fill` meets its contract: after i steps the first i weights are written over, and the others are as they were. Assumes nothing.
-use Rattle.lists.specs.Prelude.{◌≡◌, ◌≤◌, ◌-◌, arith, length, length-set, rules}
+use Rattle.std.specs.Prelude.{◌≡◌, ◌≤◌, ◌-◌}
+use Rattle.lists.specs.Prelude.{arith, length, length-set, rules}
 use Rattle.lists.specs.Filling.{over}
 use Rattle.lists.specs.Singles.{singles, singles-none, singles-step, singles-end}
 use Rattle.grid.specs.Weights.{full_weight}

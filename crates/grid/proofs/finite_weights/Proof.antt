@@ -1,5 +1,6 @@
 -- `grid::finite_weights` meets its contract: with fewer times than points a weight is a NaN, and else after i steps the first i are tested. Assumes nothing.
-use Rattle.lists.specs.Prelude.{◌≡◌, refl, ◌∙◌, ◌≤◌, ◌-◌, le_antisymm, arith, rules}
+use Rattle.std.specs.Prelude.{◌≡◌, ◌≤◌, ◌-◌}
+use Rattle.lists.specs.Prelude.{refl, ◌∙◌, le_antisymm, arith, rules}
 use Rattle.lists.specs.Indexed.{all_below}
 use Rattle.lists.specs.Steps.{all_more}
 use Rattle.complex.specs.Arithmetic.{finite}

@@ -1,5 +1,6 @@
 -- `grid::interval_weight` meets its contract: inside the interval it is half the step from the point before to the point after. Assumes nothing.
-use Rattle.lists.specs.Prelude.{◌≡◌, ◌∙◌, ◌<◌, arith, rules}
+use Rattle.std.specs.Prelude.{◌≡◌, ◌<◌}
+use Rattle.lists.specs.Prelude.{◌∙◌, arith, rules}
 use Rattle.grid.specs.Weights.{half_step, interval_weight}
 use Rattle.grid.specs.Inside.{inside, weight-inside}
 use Rattle.grid.proofs.interval_weight.Statement.{statement}

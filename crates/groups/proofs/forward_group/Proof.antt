@@ -1,5 +1,6 @@
 -- `groups::forward_group` meets its contract: unfit, or what the lanes hold is written in its place. Assumes nothing.
-use Rattle.lists.specs.Prelude.{◌≡◌, refl, sym, ap, ◌∙◌, Bool, List, [], ◌∷◌, ℕ, ◌+◌, ◌-◌, ◌*◌, ◌≤◌, ◌<◌, mul-le-mul_right, add-mul, arith, leb, length, Float}
+use Rattle.std.specs.Prelude.{◌≡◌, ◌∷◌, ◌+◌, ◌-◌, ◌*◌, ◌≤◌, ◌<◌}
+use Rattle.lists.specs.Prelude.{refl, sym, ap, ◌∙◌, Bool, List, [], ℕ, mul-le-mul_right, add-mul, arith, leb, length, Float}
 use Rattle.lists.specs.Prelude.{rules, leb-true, put_mid}
 use mir.Syntax.{w64}
 use mir.Val.{Fits}

@@ -1,5 +1,6 @@
 -- `groups::forward_totals` meets its contract: the lanes begin with the free function's blocks, and Dyson's sum is the causal one up to the term before t. Assumes nothing.
-use Rattle.lists.specs.Prelude.{sym, ap, ◌∙◌, ◌+◌, le_refl, arith}
+use Rattle.std.specs.Prelude.{◌+◌}
+use Rattle.lists.specs.Prelude.{sym, ap, ◌∙◌, le_refl, arith}
 use Rattle.complex.specs.declared.Complex.{Complex}
 use Rattle.two_time.specs.declared.sums.Sums.TheVariants.{Causal}
 use Rattle.terms.specs.Kinds.{right_by}

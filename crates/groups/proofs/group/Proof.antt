@@ -1,5 +1,6 @@
 -- `groups::group` meets its contract: unfit, or what the lanes hold is written. Assumes nothing.
-use Rattle.lists.specs.Prelude.{◌≡◌, refl, sym, ap, ◌∙◌, Bool, List, [], ◌∷◌, ℕ, ◌+◌, ◌*◌, ◌≤◌, ◌<◌, arith, digits_lt, eqb, length, Float, rules, lt-ltb, eqb-true}
+use Rattle.std.specs.Prelude.{◌≡◌, ◌∷◌, ◌+◌, ◌*◌, ◌≤◌, ◌<◌}
+use Rattle.lists.specs.Prelude.{refl, sym, ap, ◌∙◌, Bool, List, [], ℕ, arith, digits_lt, eqb, length, Float, rules, lt-ltb, eqb-true}
 use Rattle.lists.specs.Agreement.{both, all_agree, join_agree}
 use Rattle.complex.specs.declared.Complex.{Complex}
 use Rattle.terms.specs.Spans.{spanned}

@@ -1,5 +1,6 @@
 -- `groups::group_totals` meets its contract: the loop from the first s to the last serves every lane. Assumes nothing.
-use Rattle.lists.specs.Prelude.{◌≡◌, sym, ◌∙◌, ◌+◌, ◌*◌, le_refl, length, rules}
+use Rattle.std.specs.Prelude.{◌≡◌, ◌+◌, ◌*◌}
+use Rattle.lists.specs.Prelude.{sym, ◌∙◌, le_refl, length, rules}
 use Rattle.two_time.specs.Layout.{read_as}
 use Rattle.terms.specs.Spans.{Spanned, spanned}
 use Rattle.lanes.specs.Lanes.{lane_at}

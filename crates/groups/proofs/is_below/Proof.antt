@@ -1,5 +1,6 @@
 -- `groups::is_below` meets its contract. Assumes nothing.
-use Rattle.lists.specs.Prelude.{◌≡◌, sym, ◌∙◌, true, false, arith, rules, not-true, not-false}
+use Rattle.std.specs.Prelude.{◌≡◌}
+use Rattle.lists.specs.Prelude.{sym, ◌∙◌, true, false, arith, rules, not-true, not-false}
 use Rattle.groups.specs.Groups.{is_group, Grouped, grouped}
 use Rattle.groups.proofs.is_below.Statement.{statement}
 use Rattle.groups.proofs.is_below.Tie as tie

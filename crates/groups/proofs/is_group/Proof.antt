@@ -1,5 +1,6 @@
 -- `groups::is_group` meets its contract. Assumes nothing.
-use Rattle.lists.specs.Prelude.{◌≡◌, Bool, true, false, ◌&&◌, ◌≤◌, ◌<◌, arith, leb, ltb, not-true, not-false, leb-true, ltb-true}
+use Rattle.std.specs.Prelude.{◌≡◌, ◌&&◌, ◌≤◌, ◌<◌}
+use Rattle.lists.specs.Prelude.{Bool, true, false, arith, leb, ltb, not-true, not-false, leb-true, ltb-true}
 use Rattle.lists.specs.Agreement.{both}
 use Rattle.two_time.specs.Places.{product-most}
 use Rattle.groups.specs.Groups.{is_group}

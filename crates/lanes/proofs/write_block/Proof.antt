@@ -1,5 +1,6 @@
 -- `lanes::write_block` meets its contract: before step a the first a rows are finite and written. Assumes nothing.
-use Rattle.lists.specs.Prelude.{sym, ◌∙◌, Bool, not, ◌||◌, List, ℕ, ◌+◌, ◌-◌, ◌*◌, ◌≤◌, mul_left_comm, arith, length, length-take, length-drop, Float, rules}
+use Rattle.std.specs.Prelude.{◌||◌, ◌+◌, ◌-◌, ◌*◌, ◌≤◌}
+use Rattle.lists.specs.Prelude.{sym, ◌∙◌, Bool, not, List, ℕ, mul_left_comm, arith, length, length-take, length-drop, Float, rules}
 use Rattle.lists.specs.Prelude.{not-true, not-false}
 use Rattle.lists.specs.Indexed.{all_below}
 use Rattle.complex.specs.declared.Complex.{Complex}

@@ -1,5 +1,6 @@
 -- `lanes::write_blocks` meets its contract: before step p the first p blocks are finite and written. Assumes nothing.
-use Rattle.lists.specs.Prelude.{◌≡◌, sym, ◌∙◌, Bool, not, ◌||◌, List, ℕ, ◌+◌, ◌-◌, ◌*◌, ◌≤◌, mul_assoc, mul_comm, arith, ltb, length, length-take, length-drop, Float}
+use Rattle.std.specs.Prelude.{◌≡◌, ◌||◌, ◌+◌, ◌-◌, ◌*◌, ◌≤◌}
+use Rattle.lists.specs.Prelude.{sym, ◌∙◌, Bool, not, List, ℕ, mul_assoc, mul_comm, arith, ltb, length, length-take, length-drop, Float}
 use Rattle.lists.specs.Prelude.{rules, not-true, not-false}
 use Rattle.lists.specs.Indexed.{all_in}
 use Rattle.complex.specs.declared.Complex.{Complex}

@@ -1,5 +1,6 @@
 -- `lanes::write_entries` meets its contract: before step b the first b entries are finite and written. Assumes nothing.
-use Rattle.lists.specs.Prelude.{◌≡◌, refl, sym, ap, ◌∙◌, Bool, not, ◌||◌, List, ℕ, ◌+◌, ◌-◌, mul_comm, arith, Float, rules}
+use Rattle.std.specs.Prelude.{◌≡◌, ◌||◌, ◌+◌, ◌-◌}
+use Rattle.lists.specs.Prelude.{refl, sym, ap, ◌∙◌, Bool, not, List, ℕ, mul_comm, arith, Float, rules}
 use Rattle.lists.specs.Indexed.{all_below}
 use Rattle.lists.specs.Steps.{all_more}
 use Rattle.complex.specs.declared.Complex.{Complex}

@@ -1,5 +1,6 @@
 -- `lanes::write_group` meets its contract: unfit, finite, or not finite with the slice cleared. Assumes nothing.
-use Rattle.lists.specs.Prelude.{◌≡◌, sym, ap, ◌∙◌, Bool, true, false, ◌&&◌, ℕ, ◌*◌, ◌≤◌, arith, leb, eqb, length, replicate, rules, not-true, not-false, leb-true, eqb-true}
+use Rattle.std.specs.Prelude.{◌≡◌, ◌&&◌, ◌*◌, ◌≤◌}
+use Rattle.lists.specs.Prelude.{sym, ap, ◌∙◌, Bool, true, false, ℕ, arith, leb, eqb, length, replicate, rules, not-true, not-false, leb-true, eqb-true}
 use Rattle.lists.specs.Agreement.{both}
 use Rattle.complex.specs.Arithmetic.{plus_zero}
 use Rattle.two_time.specs.Outcome.{summed_out}

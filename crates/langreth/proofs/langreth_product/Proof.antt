@@ -1,5 +1,6 @@
 -- `langreth::langreth_product` meets its contract: refused, accepted, or 10 with all four outputs cleared. Assumes nothing.
-use Rattle.lists.specs.Prelude.{◌≡◌, sym, ap, ◌∙◌, Bool, List, ◌++◌, Float, rules}
+use Rattle.std.specs.Prelude.{◌≡◌, ◌++◌}
+use Rattle.lists.specs.Prelude.{sym, ap, ◌∙◌, Bool, List, Float, rules}
 use Rattle.refusal.specs.declared.Verdict.TheVariants.{Refused}
 use Rattle.refusal.specs.Verdict.{zeroed}
 use Rattle.refusal.specs.Outcome.{unchanged, accepted, overflowed}

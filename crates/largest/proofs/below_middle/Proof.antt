@@ -1,5 +1,6 @@
 -- `largest::below_middle` meets its contract: the bits are those that `above_root` reads. Assumes nothing.
-use Rattle.lists.specs.Prelude.{◌≡◌, sym, subst, false, T, binary64, ne, fits, rules}
+use Rattle.std.specs.Prelude.{◌≡◌}
+use Rattle.lists.specs.Prelude.{sym, subst, false, T, binary64, ne, fits, rules}
 use Rattle.lists.specs.Agreement.{never, neither}
 use Rattle.complex.specs.Bits.{equals_itself}
 use Rattle.largest.proofs.Middles.{below-middle as root_below}

@@ -1,5 +1,6 @@
 -- `largest::halves_within` meets its contract: both sums are read from the bits. Assumes nothing.
-use Rattle.lists.specs.Prelude.{◌≡◌, sym, ap, ap₂, ◌∙◌, subst, true, false, ℕ, ◌%◌, ◌^◌, T, Float, binary64, le, ne, fits, of_bits, to_bits, rules}
+use Rattle.std.specs.Prelude.{◌≡◌, ◌%◌, ◌^◌}
+use Rattle.lists.specs.Prelude.{sym, ap, ap₂, ◌∙◌, subst, true, false, ℕ, T, Float, binary64, le, ne, fits, of_bits, to_bits, rules}
 use Rattle.lists.specs.Agreement.{never, neither, both}
 use Rattle.complex.specs.Arithmetic.{add, size}
 use Rattle.complex.specs.Bits.{equals_itself}

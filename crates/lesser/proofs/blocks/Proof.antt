@@ -1,5 +1,6 @@
 -- `lesser::blocks` meets its contract: after the groups before p the first p blocks are finite and written. Assumes nothing.
-use Rattle.lists.specs.Prelude.{◌≡◌, sym, ap, ◌∙◌, Bool, ◌&&◌, true, List, [], ◌∷◌, ℕ, ◌+◌, ◌-◌, ◌*◌, ◌≤◌, add_assoc, arith, length, length-take, length-drop, Float, rules, not-true, not-false, mid_of}
+use Rattle.std.specs.Prelude.{◌≡◌, ◌&&◌, ◌∷◌, ◌+◌, ◌-◌, ◌*◌, ◌≤◌}
+use Rattle.lists.specs.Prelude.{sym, ap, ◌∙◌, Bool, true, List, [], ℕ, add_assoc, arith, length, length-take, length-drop, Float, rules, not-true, not-false, mid_of}
 use Rattle.lists.specs.Indexed.{all_below, join}
 use Rattle.lists.specs.Agreement.{all_agree, join_agree}
 use Rattle.refusal.specs.declared.Verdict.TheVariants.{Pass}

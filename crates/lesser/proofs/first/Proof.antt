@@ -1,5 +1,6 @@
 -- `lesser::first` meets its contract: the part of the slice that a block takes holds the product. Assumes nothing.
-use Rattle.lists.specs.Prelude.{◌≡◌, ◌∙◌, ◌&&◌, [], ◌∷◌, ◌-◌, ◌*◌, ◌≤◌, arith, ltb, lt-ltb, rules}
+use Rattle.std.specs.Prelude.{◌≡◌, ◌&&◌, ◌∷◌, ◌-◌, ◌*◌, ◌≤◌}
+use Rattle.lists.specs.Prelude.{◌∙◌, [], arith, ltb, lt-ltb, rules}
 use Rattle.refusal.specs.declared.Verdict.TheVariants.{Pass}
 use Rattle.two_time.specs.Calls.{size_checks}
 use Rattle.two_time.specs.Outcome.{flagged}

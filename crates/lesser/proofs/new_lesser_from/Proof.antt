@@ -1,5 +1,6 @@
 -- `lesser::new_lesser_from` meets its contract: unfit, finite, or not finite with the new places cleared. Assumes nothing.
-use Rattle.lists.specs.Prelude.{◌≡◌, sym, ap, ◌∙◌, Bool, true, ◌&&◌, List, [], ◌∷◌, Float, leb, leb-true, rules}
+use Rattle.std.specs.Prelude.{◌≡◌, ◌&&◌, ◌∷◌}
+use Rattle.lists.specs.Prelude.{sym, ap, ◌∙◌, Bool, true, List, [], Float, leb, leb-true, rules}
 use Rattle.lists.specs.Agreement.{both}
 use Rattle.refusal.specs.declared.Verdict.{Verdict}
 use Rattle.refusal.specs.declared.Verdict.TheVariants.{Refused}

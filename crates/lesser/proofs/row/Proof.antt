@@ -1,5 +1,6 @@
 -- `lesser::row` meets its contract: G^R(t,0)·g0 stands at the front of an array, and G^< is made from there. Assumes nothing.
-use Rattle.lists.specs.Prelude.{sym, ◌∙◌, Bool, true, false, List, [], ◌∷◌, ℕ, ◌+◌, ◌*◌, ◌≤◌, arith, le-leb, length, Float, rules, not-true, not-false}
+use Rattle.std.specs.Prelude.{◌∷◌, ◌+◌, ◌*◌, ◌≤◌}
+use Rattle.lists.specs.Prelude.{sym, ◌∙◌, Bool, true, false, List, [], ℕ, arith, le-leb, length, Float, rules, not-true, not-false}
 use Rattle.lists.specs.Agreement.{all_agree, join_agree}
 use Rattle.block.specs.Block.{lay_out}
 use Rattle.block.specs.Length.{length-block}

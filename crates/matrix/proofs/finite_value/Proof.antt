@@ -1,5 +1,6 @@
 -- `matrix::finite_value` meets its contract: it asks 10. Assumes nothing.
-use Rattle.lists.specs.Prelude.{◌≡◌, refl, sym, ap, ◌∙◌, rules}
+use Rattle.std.specs.Prelude.{◌≡◌}
+use Rattle.lists.specs.Prelude.{refl, sym, ap, ◌∙◌, rules}
 use Rattle.complex.specs.Arithmetic.{cfinite}
 use Rattle.refusal.specs.Checks.{finite_work}
 use Rattle.matrix.proofs.Results.{value-is, value-refused}

@@ -1,5 +1,6 @@
 -- `matrix::padded` meets its contract: after i steps the first i numbers are copied. Assumes nothing.
-use Rattle.lists.specs.Prelude.{◌≡◌, refl, sym, ap, ◌∙◌, List, ℕ, ◌-◌, ◌≤◌, ◌<◌, le_antisymm, arith, length, get_or, set, take, replicate, length-replicate, take-length}
+use Rattle.std.specs.Prelude.{◌≡◌, ◌-◌, ◌≤◌, ◌<◌}
+use Rattle.lists.specs.Prelude.{refl, sym, ap, ◌∙◌, List, ℕ, le_antisymm, arith, length, get_or, set, take, replicate, length-replicate, take-length}
 use Rattle.lists.specs.Prelude.{Float, nan, rules}
 use Rattle.lists.specs.Filling.{over, over_none, over_copy, over-replicate}
 use Rattle.complex.specs.Arithmetic.{plus_zero}

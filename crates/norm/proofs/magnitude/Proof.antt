@@ -1,5 +1,6 @@
 -- `norm::magnitude` meets its contract: only a NaN differs from itself. Assumes nothing.
-use Rattle.lists.specs.Prelude.{◌≡◌, refl, sym, ap, subst, ◌%◌, ◌^◌, T, Float, nan, binary64, to_bits}
+use Rattle.std.specs.Prelude.{◌≡◌, ◌%◌, ◌^◌}
+use Rattle.lists.specs.Prelude.{refl, sym, ap, subst, T, Float, nan, binary64, to_bits}
 use lib.Ieee.Compare.{differs_from_itself}
 use Rattle.complex.specs.Bits.{equals_itself}
 use Rattle.norm.proofs.magnitude.Statement.{statement}

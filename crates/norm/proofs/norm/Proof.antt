@@ -1,5 +1,6 @@
 -- `norm::norm` meets its contract: each way out is a case of the definition, by `ByBits`. Assumes nothing.
-use Rattle.lists.specs.Prelude.{◌≡◌, refl, sym, ap, ap₂, ◌∙◌, subst, false, ℕ, ◌+◌, ◌*◌, ◌^◌, ◌<◌, ◌≤◌, max, min, le_refl, le_trans, mod-le, arith, rules, T}
+use Rattle.std.specs.Prelude.{◌≡◌, ◌+◌, ◌*◌, ◌^◌, ◌<◌, ◌≤◌}
+use Rattle.lists.specs.Prelude.{refl, sym, ap, ap₂, ◌∙◌, subst, false, ℕ, max, min, le_refl, le_trans, mod-le, arith, rules, T}
 use Rattle.lists.specs.Prelude.{lt_of_le-ne, nan, inf, binary64, fits, of_bits}
 use lib.Ieee as Ieee
 use Rattle.norm.specs.Norm.{rounded_root}

@@ -1,5 +1,6 @@
 -- `observables::one_body_expectation` meets its contract: past its checks the product is made, and its trace is the number. Assumes nothing.
-use Rattle.lists.specs.Prelude.{◌≡◌, sym, ap, ◌∙◌, le_of_eq, rules}
+use Rattle.std.specs.Prelude.{◌≡◌}
+use Rattle.lists.specs.Prelude.{sym, ap, ◌∙◌, le_of_eq, rules}
 use Rattle.refusal.specs.Checks.{finite_work}
 use Rattle.observables.specs.Calls.{lesser_block_checks}
 use Rattle.block.specs.Operations.{all_finite}

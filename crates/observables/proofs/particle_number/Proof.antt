@@ -1,5 +1,6 @@
 -- `observables::particle_number` meets its contract: 14 is asked of the trace where the questions before it pass. Assumes nothing.
-use Rattle.lists.specs.Prelude.{◌≡◌, ap, ◌∙◌, rules}
+use Rattle.std.specs.Prelude.{◌≡◌}
+use Rattle.lists.specs.Prelude.{ap, ◌∙◌, rules}
 use Rattle.observables.specs.Calls.{lesser_checks}
 use Rattle.observables.specs.Passed.{arguments_passed}
 use Rattle.observables.specs.Answers.{with_arguments}

@@ -1,5 +1,6 @@
 -- `occupied_exports::leechgrommet_transient_run_occupied` meets its contract: by the length of the counters. Assumes nothing.
-use Rattle.lists.specs.Prelude.{◌≡◌, sym, ap, ap₂, ◌∙◌, length, rules}
+use Rattle.std.specs.Prelude.{◌≡◌}
+use Rattle.lists.specs.Prelude.{sym, ap, ap₂, ◌∙◌, length, rules}
 use Rattle.matrix.specs.declared.DenseMatrix.{DenseMatrix}
 use Rattle.transient_run.specs.declared.Session.{Session}
 use Rattle.transient_run.specs.declared.Solved.{Solved}

@@ -1,5 +1,6 @@
 -- `report::consistency_report` meets its contract: refused by its checks or by 10, or reported. Assumes nothing.
-use Rattle.lists.specs.Prelude.{◌≡◌, sym, ap₂, ◌∙◌, ◌&&◌, arith, length, rules}
+use Rattle.std.specs.Prelude.{◌≡◌, ◌&&◌}
+use Rattle.lists.specs.Prelude.{sym, ap₂, ◌∙◌, arith, length, rules}
 use Rattle.report.specs.Passed.{Passed, passed}
 use Rattle.report.specs.Differences.{difference_finite}
 use Rattle.report.specs.Answers.{checks-refused, work-refused, report-made}

@@ -1,5 +1,6 @@
 -- `rows::add_packed` meets its contract: a term that fits goes to all rows, another to none. Assumes nothing.
-use Rattle.lists.specs.Prelude.{◌≡◌, sym, ap₂, ◌∙◌, Bool, true, ◌&&◌, eqb, length, rules, not-true, not-false}
+use Rattle.std.specs.Prelude.{◌≡◌, ◌&&◌}
+use Rattle.lists.specs.Prelude.{sym, ap₂, ◌∙◌, Bool, true, eqb, length, rules, not-true, not-false}
 use Rattle.rows.specs.Rows.{packed_fits, packed_totals}
 use Rattle.rows.specs.Fitting.{Fits, fits_when}
 use Rattle.rows.proofs.add_packed.Statement.{statement}

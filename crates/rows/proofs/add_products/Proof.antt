@@ -1,5 +1,6 @@
 -- `rows::add_products` meets its contract: before step c the first c sums are made. Assumes nothing.
-use Rattle.lists.specs.Prelude.{◌≡◌, refl, ap, ap₂, ◌∙◌, List, ℕ, ◌-◌, ◌≤◌, arith, length, Float, rules}
+use Rattle.std.specs.Prelude.{◌≡◌, ◌-◌, ◌≤◌}
+use Rattle.lists.specs.Prelude.{refl, ap, ap₂, ◌∙◌, List, ℕ, arith, length, Float, rules}
 use Rattle.complex.specs.declared.Complex.{Complex}
 use Rattle.complex.specs.Arithmetic.{cadd, cmul}
 use Rattle.rows.specs.Numbers.{number_at, Mapped, mapped_none, mapped_next, mapped_end}

@@ -1,5 +1,6 @@
 -- `rows::has_block` meets its contract. Assumes nothing.
-use Rattle.lists.specs.Prelude.{◌*◌, ◌≤◌, arith, length, not-true, not-false}
+use Rattle.std.specs.Prelude.{◌*◌, ◌≤◌}
+use Rattle.lists.specs.Prelude.{arith, length, not-true, not-false}
 use Rattle.two_time.specs.Places.{product-most}
 use Rattle.rows.specs.Fitting.{begun, block-begun, block_none}
 use Rattle.rows.proofs.has_block.Statement.{statement}

@@ -1,5 +1,6 @@
 -- `rows::scale_lanes` meets its contract: before step c the lanes from lo to before c are made. Assumes nothing.
-use Rattle.lists.specs.Prelude.{◌≡◌, sym, ap₂, ◌∙◌, List, ℕ, ◌-◌, ◌≤◌, arith, length, Float, rules}
+use Rattle.std.specs.Prelude.{◌≡◌, ◌-◌, ◌≤◌}
+use Rattle.lists.specs.Prelude.{sym, ap₂, ◌∙◌, List, ℕ, arith, length, Float, rules}
 use Rattle.complex.specs.declared.Complex.{Complex}
 use Rattle.complex.specs.Arithmetic.{real, cadd, cmul}
 use Rattle.rows.specs.Numbers.{number_at, Mapped, mapped_next, mapped_end}

@@ -1,5 +1,6 @@
 -- `run_exports::leechgrommet_transient_run` meets its contract: by the length of the counters. Assumes nothing.
-use Rattle.lists.specs.Prelude.{◌≡◌, sym, ap, ◌∙◌, length, rules}
+use Rattle.std.specs.Prelude.{◌≡◌}
+use Rattle.lists.specs.Prelude.{sym, ap, ◌∙◌, length, rules}
 use Rattle.transient_run.specs.declared.Session.{Session}
 use Rattle.transient_run.specs.declared.Solved.{Solved}
 use Rattle.transient_run.specs.Form.Form.{empty}

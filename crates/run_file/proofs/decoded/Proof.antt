@@ -1,5 +1,6 @@
 -- `run_file::decoded` meets its contract: what it decodes and solves is the file's run, in buffers that hold +0. Assumes nothing.
-use Rattle.lists.specs.Prelude.{refl, ap, ℕ, ◌+◌, ◌*◌, rules}
+use Rattle.std.specs.Prelude.{◌+◌, ◌*◌}
+use Rattle.lists.specs.Prelude.{refl, ap, ℕ, rules}
 use Rattle.run_file.specs.LittleEndian.{same_numbers}
 use Rattle.run_file.specs.Program.{run_answer}
 use Rattle.run_file.specs.FileRun.{decoded-run, part-zero, part-whole}

@@ -1,5 +1,6 @@
 -- `run_file::run_text` meets its contract: after t steps the lines of the first t times are written. Assumes nothing.
-use Rattle.lists.specs.Prelude.{◌≡◌, refl, ◌∙◌, ◌≤◌, ◌+◌, ◌-◌, ◌*◌, arith, length, rules}
+use Rattle.std.specs.Prelude.{◌≡◌, ◌≤◌, ◌+◌, ◌-◌, ◌*◌}
+use Rattle.lists.specs.Prelude.{refl, ◌∙◌, arith, length, rules}
 use Rattle.run_file.specs.Appended.{Appended, no_word, both_words, as_text}
 use Rattle.run_file.specs.Lines.{times_text, no-times, time_more, all-times}
 use Rattle.run_file.proofs.run_text.Statement.{statement}

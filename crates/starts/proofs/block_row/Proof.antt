@@ -1,5 +1,6 @@
 -- `starts::block_row` meets its contract: before step b the first b numbers are written. Assumes nothing.
-use Rattle.lists.specs.Prelude.{◌≡◌, refl, sym, ◌∙◌, List, ℕ, ◌+◌, ◌-◌, ◌*◌, ◌≤◌, ◌<◌, arith, length, length-set, Float, rules}
+use Rattle.std.specs.Prelude.{◌≡◌, ◌+◌, ◌-◌, ◌*◌, ◌≤◌, ◌<◌}
+use Rattle.lists.specs.Prelude.{refl, sym, ◌∙◌, List, ℕ, arith, length, length-set, Float, rules}
 use Rattle.complex.specs.declared.Complex.{Complex}
 use Rattle.complex.specs.Numbers.{entry_at}
 use Rattle.terms.specs.Kinds.{right_number}

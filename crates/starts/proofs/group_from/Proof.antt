@@ -1,5 +1,6 @@
 -- `starts::group_from` meets its contract: unfit, or the sums from what the lanes hold are written. Assumes nothing.
-use Rattle.lists.specs.Prelude.{◌≡◌, refl, sym, ap, ap₂, ◌∙◌, Bool, ◌&&◌, List, [], ◌∷◌, ℕ, ◌+◌, ◌*◌, ◌≤◌, ◌<◌, arith, length, Float, rules}
+use Rattle.std.specs.Prelude.{◌≡◌, ◌&&◌, ◌∷◌, ◌+◌, ◌*◌, ◌≤◌, ◌<◌}
+use Rattle.lists.specs.Prelude.{refl, sym, ap, ap₂, ◌∙◌, Bool, List, [], ℕ, arith, length, Float, rules}
 use Rattle.lists.specs.Indexed.{all_below, join}
 use Rattle.lists.specs.Agreement.{both}
 use Rattle.refusal.specs.declared.Verdict.{Verdict}

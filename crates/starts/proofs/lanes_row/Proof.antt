@@ -1,5 +1,6 @@
 -- `starts::lanes_row` meets its contract: before step p the lanes of the places before p are written. Assumes nothing.
-use Rattle.lists.specs.Prelude.{◌≡◌, sym, subst, ◌∙◌, ⊎_elim, ℕ, ◌+◌, ◌-◌, ◌*◌, ◌≤◌, ◌<◌, eq-or-lt_of_le, arith, digits_lt, length, rules}
+use Rattle.std.specs.Prelude.{◌≡◌, ◌+◌, ◌-◌, ◌*◌, ◌≤◌, ◌<◌}
+use Rattle.lists.specs.Prelude.{sym, subst, ◌∙◌, ⊎_elim, ℕ, eq-or-lt_of_le, arith, digits_lt, length, rules}
 use Rattle.two_time.specs.Parts.{part-within}
 use Rattle.rows.specs.Numbers.{number_at}
 use Rattle.starts.specs.Products.{dot, right_at}

@@ -1,5 +1,6 @@
 -- `starts::product_lanes` meets its contract: before step a the rows before a are written. Assumes nothing.
-use Rattle.lists.specs.Prelude.{◌≡◌, sym, subst, ◌∙◌, ⊎_elim, ℕ, ◌+◌, ◌-◌, ◌*◌, ◌≤◌, ◌<◌, eq-or-lt_of_le, mul_left_comm, arith, digits_lt, length, put_mid, rules}
+use Rattle.std.specs.Prelude.{◌≡◌, ◌+◌, ◌-◌, ◌*◌, ◌≤◌, ◌<◌}
+use Rattle.lists.specs.Prelude.{sym, subst, ◌∙◌, ⊎_elim, ℕ, eq-or-lt_of_le, mul_left_comm, arith, digits_lt, length, put_mid, rules}
 use Rattle.two_time.specs.Parts.{part-within}
 use Rattle.lanes.specs.Lanes.{lane_at}
 use Rattle.rows.specs.Parts.{part_length, put-length, put_lane, put_other, width}

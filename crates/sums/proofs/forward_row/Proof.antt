@@ -1,5 +1,6 @@
 -- `sums::forward_row` meets its contract: unfit, finite, or not finite with the row cleared to the diagonal. Assumes nothing.
-use Rattle.lists.specs.Prelude.{◌≡◌, sym, ap, ap₂, ◌∙◌, List, [], ◌∷◌, ℕ, ◌+◌, ◌-◌, ◌*◌, ◌<◌, ◌≤◌, arith, ltb, length, length-take, length-drop, replicate, Float, rules, ltb-true, put_mid, put_same, mid_of}
+use Rattle.std.specs.Prelude.{◌≡◌, ◌∷◌, ◌+◌, ◌-◌, ◌*◌, ◌<◌, ◌≤◌}
+use Rattle.lists.specs.Prelude.{sym, ap, ap₂, ◌∙◌, List, [], ℕ, arith, ltb, length, length-take, length-drop, replicate, Float, rules, ltb-true, put_mid, put_same, mid_of}
 use Rattle.complex.specs.Arithmetic.{plus_zero}
 use Rattle.refusal.specs.declared.Verdict.{Verdict}
 use Rattle.refusal.specs.declared.Verdict.TheVariants.{Refused}

@@ -1,5 +1,6 @@
 -- `sums::group_places` meets its contract. Assumes nothing.
-use Rattle.lists.specs.Prelude.{div-mul-le_self, le-div_iff_mul-le, div-le_self, mul-le-mul_right, ◌*◌, ◌/◌, ◌≤◌, ◌<◌, arith, rules}
+use Rattle.std.specs.Prelude.{◌*◌, ◌/◌, ◌≤◌, ◌<◌}
+use Rattle.lists.specs.Prelude.{div-mul-le_self, le-div_iff_mul-le, div-le_self, mul-le-mul_right, arith, rules}
 use Rattle.sums.proofs.group_places.Statement.{statement}
 use Rattle.sums.proofs.group_places.Tie as tie
 

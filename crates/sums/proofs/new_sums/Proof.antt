@@ -1,5 +1,6 @@
 -- `sums::new_sums` meets its contract: unfit, finite, or not finite with the new places cleared. Assumes nothing.
-use Rattle.lists.specs.Prelude.{◌≡◌, sym, ◌∙◌, Bool, true, ◌&&◌, List, [], ◌∷◌, Float, leb, leb-true, rules}
+use Rattle.std.specs.Prelude.{◌≡◌, ◌&&◌, ◌∷◌}
+use Rattle.lists.specs.Prelude.{sym, ◌∙◌, Bool, true, List, [], Float, leb, leb-true, rules}
 use Rattle.lists.specs.Agreement.{both}
 use Rattle.refusal.specs.declared.Verdict.{Verdict}
 use Rattle.refusal.specs.declared.Verdict.TheVariants.{Refused}

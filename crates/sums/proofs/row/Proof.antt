@@ -1,5 +1,6 @@
 -- `sums::row` meets its contract: after the groups before p the first p blocks are finite and written. Assumes nothing.
-use Rattle.lists.specs.Prelude.{◌≡◌, sym, ap, ◌∙◌, Bool, true, List, [], ◌∷◌, ℕ, ◌+◌, ◌-◌, ◌*◌, ◌≤◌, ◌<◌, add_assoc, mul-le-mul_right, add-mul, arith, length}
+use Rattle.std.specs.Prelude.{◌≡◌, ◌∷◌, ◌+◌, ◌-◌, ◌*◌, ◌≤◌, ◌<◌}
+use Rattle.lists.specs.Prelude.{sym, ap, ◌∙◌, Bool, true, List, [], ℕ, add_assoc, mul-le-mul_right, add-mul, arith, length}
 use Rattle.lists.specs.Prelude.{length-take, length-drop, Float, rules, not-true, not-false, mid_of}
 use Rattle.lists.specs.Indexed.{all_below, join}
 use Rattle.lists.specs.Agreement.{all_agree, join_agree}

@@ -1,5 +1,6 @@
 -- `support::check_retarded_inputs` meets its contract: it asks the checks of `check_inputs` in their order. Assumes nothing.
-use Rattle.lists.specs.Prelude.{◌≡◌, sym, ap₂, ◌∙◌, true, List, [], ◌∷◌, ◌≤◌, le_of_eq, Float, rules}
+use Rattle.std.specs.Prelude.{◌≡◌, ◌∷◌, ◌≤◌}
+use Rattle.lists.specs.Prelude.{sym, ap₂, ◌∙◌, true, List, [], le_of_eq, Float, rules}
 use Rattle.refusal.specs.declared.Verdict.{Verdict}
 use Rattle.refusal.specs.Verdict.{◌then◌}
 use Rattle.refusal.specs.Checks.{valid_tolerance}

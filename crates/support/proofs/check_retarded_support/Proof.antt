@@ -1,5 +1,6 @@
 -- `support::check_retarded_support` meets its contract: it asks the checks of `check_support` in their order. Assumes nothing.
-use Rattle.lists.specs.Prelude.{◌≡◌, sym, ap₂, ◌∙◌, [], ◌∷◌, le_refl, le_of_eq, rules}
+use Rattle.std.specs.Prelude.{◌≡◌, ◌∷◌}
+use Rattle.lists.specs.Prelude.{sym, ap₂, ◌∙◌, [], le_refl, le_of_eq, rules}
 use Rattle.refusal.specs.Verdict.{◌then◌}
 use Rattle.refusal.specs.Agreement.{then-after, then-refused}
 use Rattle.support.specs.Support.{check_support}

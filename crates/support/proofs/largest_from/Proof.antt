@@ -1,5 +1,6 @@
 -- `support::largest_from` meets its contract: after k steps the first k numbers are seen. Assumes nothing.
-use Rattle.lists.specs.Prelude.{◌≡◌, sym, ap₂, ◌∙◌, refl, ◌+◌, ◌-◌, ◌*◌, ◌≤◌, le_antisymm, arith, rules}
+use Rattle.std.specs.Prelude.{◌≡◌, ◌+◌, ◌-◌, ◌*◌, ◌≤◌}
+use Rattle.lists.specs.Prelude.{sym, ap₂, ◌∙◌, refl, le_antisymm, arith, rules}
 use Rattle.lists.specs.Steps.{fold_more, fold-none}
 use Rattle.complex.specs.Arithmetic.{larger}
 use Rattle.complex.specs.Numbers.{entry_at}

@@ -1,5 +1,6 @@
 -- `support::retarded` meets its contract: the rows passed are not refused. Assumes nothing.
-use Rattle.lists.specs.Prelude.{◌≡◌, sym, ◌∙◌, ℕ, ◌-◌, ◌≤◌, ◌<◌, arith, rules}
+use Rattle.std.specs.Prelude.{◌≡◌, ◌-◌, ◌≤◌, ◌<◌}
+use Rattle.lists.specs.Prelude.{sym, ◌∙◌, ℕ, arith, rules}
 use borrow.Author.Count.{below_none, below_more}
 use Rattle.refusal.specs.declared.Verdict.TheVariants.{Pass}
 use Rattle.refusal.specs.Verdict.{ask_all}

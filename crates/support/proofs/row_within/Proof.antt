@@ -1,5 +1,6 @@
 -- `support::row_within` meets its contract: the places passed are not refused, and those up to the diagonal are not asked. Assumes nothing.
-use Rattle.lists.specs.Prelude.{◌≡◌, sym, ◌∙◌, ℕ, ◌-◌, ◌≤◌, ◌<◌, le_trans, arith, rules}
+use Rattle.std.specs.Prelude.{◌≡◌, ◌-◌, ◌≤◌, ◌<◌}
+use Rattle.lists.specs.Prelude.{sym, ◌∙◌, ℕ, le_trans, arith, rules}
 use borrow.Author.Count.{below_more}
 use Rattle.refusal.specs.declared.Verdict.TheVariants.{Pass}
 use Rattle.refusal.specs.Agreement.{all_asked}

@@ -1,5 +1,6 @@
 -- `support::scale_of` meets its contract: after t steps the first t rows are seen. Assumes nothing.
-use Rattle.lists.specs.Prelude.{◌≡◌, refl, ap, ◌∙◌, ◌*◌, ◌-◌, ◌≤◌, le_antisymm, arith, lit≤, Float, rules}
+use Rattle.std.specs.Prelude.{◌≡◌, ◌*◌, ◌-◌, ◌≤◌}
+use Rattle.lists.specs.Prelude.{refl, ap, ◌∙◌, le_antisymm, arith, lit≤, Float, rules}
 use Rattle.lists.specs.Indexed.{fold}
 use Rattle.complex.specs.Arithmetic.{larger}
 use Rattle.complex.specs.Sum.{largest_in}

@@ -1,5 +1,6 @@
 -- `terms::lanes_here` meets its contract, kind by kind. Assumes nothing.
-use Rattle.lists.specs.Prelude.{◌≡◌, refl, Bool, ℕ, rules}
+use Rattle.std.specs.Prelude.{◌≡◌}
+use Rattle.lists.specs.Prelude.{refl, Bool, ℕ, rules}
 use Rattle.two_time.specs.declared.sums.Sums.{Sums}
 use Rattle.terms.specs.Kinds.{lanes_here}
 use Rattle.terms.proofs.lanes_here.Statement.{statement}

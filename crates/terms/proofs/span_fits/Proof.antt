@@ -1,5 +1,6 @@
 -- `terms::span_fits` meets its contract. Assumes nothing.
-use Rattle.lists.specs.Prelude.{◌≡◌, ap, Bool, ◌&&◌, ℕ, ◌+◌, ◌-◌, ◌≤◌, dec_lt, arith, leb, ltb, le-leb, lt-leb}
+use Rattle.std.specs.Prelude.{◌≡◌, ◌&&◌, ◌+◌, ◌-◌, ◌≤◌}
+use Rattle.lists.specs.Prelude.{ap, Bool, ℕ, dec_lt, arith, leb, ltb, le-leb, lt-leb}
 use Rattle.terms.proofs.span_fits.Statement.{statement}
 use Rattle.terms.proofs.span_fits.Tie as tie
 

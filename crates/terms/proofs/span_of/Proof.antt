@@ -1,5 +1,6 @@
 -- `terms::span_of` meets its contract. Assumes nothing.
-use Rattle.lists.specs.Prelude.{◌≡◌, sym, ◌∙◌, true, false, ◌&&◌, ◌+◌, ◌≤◌, ◌<◌, leb, ltb, rules, not-true, not-false, leb-true, ltb-true}
+use Rattle.std.specs.Prelude.{◌≡◌, ◌&&◌, ◌+◌, ◌≤◌, ◌<◌}
+use Rattle.lists.specs.Prelude.{sym, ◌∙◌, true, false, leb, ltb, rules, not-true, not-false, leb-true, ltb-true}
 use Rattle.lists.specs.Agreement.{both}
 use Rattle.terms.specs.Calls.{span_fits, span_of}
 use Rattle.terms.proofs.span_of.Statement.{statement}

@@ -1,5 +1,6 @@
 -- `terms::term_of` meets its contract. Assumes nothing.
-use Rattle.lists.specs.Prelude.{◌≡◌, ap, ◌∙◌, Bool, true, false, cond, ◌&&◌, ℕ, ◌*◌, ◌≤◌, ◌<◌, arith, leb, ltb, rules, not-true, not-false, leb-true, ltb-true}
+use Rattle.std.specs.Prelude.{◌≡◌, ◌&&◌, ◌*◌, ◌≤◌, ◌<◌}
+use Rattle.lists.specs.Prelude.{ap, ◌∙◌, Bool, true, false, cond, ℕ, arith, leb, ltb, rules, not-true, not-false, leb-true, ltb-true}
 use Rattle.lists.specs.Agreement.{both}
 use Rattle.two_time.specs.Places.{product-most}
 use Rattle.terms.specs.Kinds.{lanes_below, lanes_above, lanes_here}

@@ -1,5 +1,6 @@
 -- `transient_run::run` meets its contract: from 0 on, and 10 clears all four slices throughout. Assumes nothing.
-use Rattle.lists.specs.Prelude.{◌≡◌, sym, ap, ◌∙◌, true, false, List, eq-eqb, ne_eqb, Float, rules}
+use Rattle.std.specs.Prelude.{◌≡◌}
+use Rattle.lists.specs.Prelude.{sym, ap, ◌∙◌, true, false, List, eq-eqb, ne_eqb, Float, rules}
 use Rattle.refusal.specs.Verdict.{zeroed}
 use Rattle.two_time.specs.New.{cleared_new}
 use Rattle.two_time.specs.Checks.{cleared}

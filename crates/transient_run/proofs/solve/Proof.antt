@@ -1,5 +1,6 @@
 -- `transient_run::solve` meets its contract: refused, accepted, or 10 with the new places of all four slices cleared. Assumes nothing.
-use Rattle.lists.specs.Prelude.{◌≡◌, sym, ap, ◌∙◌, true, cond, ℕ, le_trans, arith, List, ◌≤◌, le-leb, length, Float, rules}
+use Rattle.std.specs.Prelude.{◌≡◌, ◌≤◌}
+use Rattle.lists.specs.Prelude.{sym, ap, ◌∙◌, true, cond, ℕ, le_trans, arith, List, le-leb, length, Float, rules}
 use Rattle.two_time.specs.Layout.{length_of}
 use Rattle.two_time.specs.New.{cleared_new, fits_new}
 use Rattle.two_time.specs.SizeChecks.{SizesPassed}

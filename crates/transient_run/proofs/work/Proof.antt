@@ -1,5 +1,6 @@
 -- `transient_run::work` meets its contract: each step's answer says whether what it makes is finite. Assumes nothing.
-use Rattle.lists.specs.Prelude.{◌≡◌, refl, sym, ap, ap₂, ◌∙◌, Bool, true, false, cond, ◌&&◌, List, ℕ, leb, le-leb, Float, rules, not-true, not-false}
+use Rattle.std.specs.Prelude.{◌≡◌, ◌&&◌}
+use Rattle.lists.specs.Prelude.{refl, sym, ap, ap₂, ◌∙◌, Bool, true, false, cond, List, ℕ, leb, le-leb, Float, rules, not-true, not-false}
 use Rattle.lists.specs.Agreement.{never}
 use Rattle.refusal.specs.declared.Verdict.TheVariants.{Pass}
 use Rattle.two_time.specs.declared.sums.Sums.TheVariants.{Causal, LesserAdvanced}

@@ -1,6 +1,7 @@
 -- `two_runs::run_then_append` answers and leaves what the definition gives, and where it accepts what the run over all points leaves. The loop's
 -- invariant: the appends so far, from what the run left. Assumes nothing.
-use Rattle.lists.specs.Prelude.{◌≡◌, refl, ◌∙◌, List, ℕ, ◌+◌, ◌-◌, ◌≤◌, ◌<◌, le_refl, min-le_right, arith, length, Float, rules}
+use Rattle.std.specs.Prelude.{◌≡◌, ◌+◌, ◌-◌, ◌≤◌, ◌<◌}
+use Rattle.lists.specs.Prelude.{refl, ◌∙◌, List, ℕ, le_refl, min-le_right, arith, length, Float, rules}
 use Rattle.transient_run.specs.declared.Session.{Session}
 use Rattle.transient_run.specs.Calls.{Run, run_of, Outcome, transient_run, append_point}
 use Rattle.two_runs.specs.Promises.{form_with, step_in}

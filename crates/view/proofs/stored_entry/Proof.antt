@@ -1,5 +1,6 @@
 -- `view::stored_entry` meets its contract: the entry where the checks pass, and else their refusal. Assumes nothing.
-use Rattle.lists.specs.Prelude.{◌≡◌, ap₂, ◌∙◌, rules}
+use Rattle.std.specs.Prelude.{◌≡◌}
+use Rattle.lists.specs.Prelude.{ap₂, ◌∙◌, rules}
 use Rattle.refusal.specs.Verdict.{◌then◌}
 use Rattle.view.specs.Calls.{entry_checks}
 use Rattle.view.specs.EntryRead.{entry-refused, entry_read, entry_missed}

@@ -1,5 +1,6 @@
 -- `answers::blocks::copy_block` meets its contract: both slices are written where both have their lengths. Assumes nothing.
-use Rattle.lists.specs.Prelude.{◌≡◌, sym, ap₂, ◌∙◌, length, rules}
+use Rattle.std.specs.Prelude.{◌≡◌}
+use Rattle.lists.specs.Prelude.{sym, ap₂, ◌∙◌, length, rules}
 use Rattle.answers.specs.Answer.{slices}
 use Rattle.answers.specs.Stores.{all-written, two, block-fits, no-shape, no-values}
 use Rattle.answers.proofs.blocks.copy_block.Statement.{statement}

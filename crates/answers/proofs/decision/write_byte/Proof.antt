@@ -1,5 +1,6 @@
 -- `answers::decision::write_byte` meets its contract: by the case of the decision. Assumes nothing.
-use Rattle.lists.specs.Prelude.{◌≡◌, refl, sym, ap, ◌∙◌, ℕ, List, rules}
+use Rattle.std.specs.Prelude.{◌≡◌}
+use Rattle.lists.specs.Prelude.{refl, sym, ap, ◌∙◌, ℕ, List, rules}
 use Rattle.refusal.specs.declared.Decision.{Decision}
 use Rattle.answers.specs.Answer.{decision_byte}
 use Rattle.answers.specs.Stores.{one, no_byte}

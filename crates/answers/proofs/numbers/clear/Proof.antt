@@ -1,5 +1,6 @@
 -- `answers::numbers::clear` meets its contract: after i steps the first i numbers are +0. Assumes nothing.
-use Rattle.lists.specs.Prelude.{◌≡◌, ◌∙◌, ◌≤◌, ◌-◌, arith, length, length-set, rules}
+use Rattle.std.specs.Prelude.{◌≡◌, ◌≤◌, ◌-◌}
+use Rattle.lists.specs.Prelude.{◌∙◌, arith, length, length-set, rules}
 use Rattle.lists.specs.Filling.{over}
 use Rattle.lists.specs.Singles.{singles, singles-none, singles-step, singles-end, singles-same}
 use Rattle.complex.specs.Arithmetic.{plus_zero}

@@ -1,5 +1,6 @@
 -- `answers::numbers::copy` meets its contract: after i steps the first i numbers are copied. Assumes nothing.
-use Rattle.lists.specs.Prelude.{◌≡◌, sym, ◌∙◌, ◌-◌, ◌≤◌, le_antisymm, arith, length, take, length-set, take-length, nan, rules}
+use Rattle.std.specs.Prelude.{◌≡◌, ◌-◌, ◌≤◌}
+use Rattle.lists.specs.Prelude.{sym, ◌∙◌, le_antisymm, arith, length, take, length-set, take-length, nan, rules}
 use Rattle.lists.specs.Filling.{over, over_none, over_copy, over-all}
 use Rattle.answers.specs.Stores.{all-written, none_written}
 use Rattle.answers.proofs.numbers.copy.Statement.{statement}

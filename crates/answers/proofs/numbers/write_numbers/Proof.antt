@@ -1,5 +1,6 @@
 -- `answers::numbers::write_numbers` meets its contract: the slice is asked and written, and the answer is written. Assumes nothing.
-use Rattle.lists.specs.Prelude.{◌≡◌, sym, ◌∙◌, min-le_right, min-eq_left, length, length-take, rules}
+use Rattle.std.specs.Prelude.{◌≡◌}
+use Rattle.lists.specs.Prelude.{sym, ◌∙◌, min-le_right, min-eq_left, length, length-take, rules}
 use Rattle.answers.specs.Answer.{numbers_answer}
 use Rattle.answers.proofs.numbers.write_numbers.Statement.{statement}
 use Rattle.answers.proofs.numbers.write_numbers.Tie as tie

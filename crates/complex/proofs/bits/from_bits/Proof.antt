@@ -1,6 +1,7 @@
 -- `complex::bits::from_bits` meets its contract: above infinity's pattern stand the NaNs', and what reaches `from_bits` is none of
 -- them. Assumes nothing.
-use Rattle.lists.specs.Prelude.{◌≡◌, refl, sym, ◌∙◌, subst, Bool, ℕ, ◌<◌, ◌*◌, ◌%◌, ◌^◌, T, lt→ltb, Float, nan, inf, fin, binary64, is_nan, of_bits, rules}
+use Rattle.std.specs.Prelude.{◌≡◌, ◌<◌, ◌*◌, ◌%◌, ◌^◌}
+use Rattle.lists.specs.Prelude.{refl, sym, ◌∙◌, subst, Bool, ℕ, T, lt→ltb, Float, nan, inf, fin, binary64, is_nan, of_bits, rules}
 use lib.Ieee as Ieee
 use lib.Ieee.Bits.{nan_bits_above, nan_bits_is}
 use Rattle.complex.specs.Bits.{at-most-infinity}

@@ -1,5 +1,6 @@
 -- `dyson::forward::forward` meets its contract: before step t the rows before t are finite and written. Assumes nothing.
-use Rattle.lists.specs.Prelude.{◌≡◌, refl, sym, ap, ap₂, ◌∙◌, true, false, ◌&&◌, List, [], ◌∷◌, ℕ, ◌+◌, ◌-◌, ◌*◌, ◌≤◌, ◌<◌, le_refl, le_antisymm, arith, ltb, length, Float, rules}
+use Rattle.std.specs.Prelude.{◌≡◌, ◌&&◌, ◌∷◌, ◌+◌, ◌-◌, ◌*◌, ◌≤◌, ◌<◌}
+use Rattle.lists.specs.Prelude.{refl, sym, ap, ap₂, ◌∙◌, true, false, List, [], ℕ, le_refl, le_antisymm, arith, ltb, length, Float, rules}
 use Rattle.lists.specs.Prelude.{not-true, not-false, lt-ltb, le-leb, put_mid, mid_of}
 use Rattle.lists.specs.Indexed.{all_below}
 use Rattle.lists.specs.Agreement.{never}

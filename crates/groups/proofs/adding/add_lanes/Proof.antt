@@ -1,5 +1,6 @@
 -- `groups::adding::add_lanes` meets its contract: before step c the lanes from lo to before c are made. Assumes nothing.
-use Rattle.lists.specs.Prelude.{◌≡◌, refl, sym, ap, ap₂, ◌∙◌, ℕ, ◌+◌, ◌-◌, ◌*◌, ◌≤◌, ◌<◌, arith, length, length-set, Float, List, rules}
+use Rattle.std.specs.Prelude.{◌≡◌, ◌+◌, ◌-◌, ◌*◌, ◌≤◌, ◌<◌}
+use Rattle.lists.specs.Prelude.{refl, sym, ap, ap₂, ◌∙◌, ℕ, arith, length, length-set, Float, List, rules}
 use Rattle.terms.specs.declared.Factor.{Factor}
 use Rattle.complex.specs.declared.Complex.{Complex}
 use Rattle.complex.specs.Arithmetic.{czero, real, cadd, cmul}

@@ -1,5 +1,6 @@
 -- `groups::adding::add_term` meets its contract: the term by Step. Assumes nothing.
-use Rattle.lists.specs.Prelude.{◌≡◌, refl, sym, ap, ◌∙◌, List, ℕ, ◌+◌, ◌-◌, ◌*◌, ◌≤◌, ◌<◌, mul-le-mul_left, mul-one, arith, digits_lt, length, Float, rules, put_mid}
+use Rattle.std.specs.Prelude.{◌≡◌, ◌+◌, ◌-◌, ◌*◌, ◌≤◌, ◌<◌}
+use Rattle.lists.specs.Prelude.{refl, sym, ap, ◌∙◌, List, ℕ, mul-le-mul_left, mul-one, arith, digits_lt, length, Float, rules, put_mid}
 use Rattle.terms.specs.declared.Factor.{Factor}
 use Rattle.two_time.specs.Layout.{read_as}
 use Rattle.terms.specs.Kinds.{right_by}

@@ -1,5 +1,6 @@
 -- `groups::onto::group_onto` meets its contract: unfit, or what the lanes hold is written. Assumes nothing.
-use Rattle.lists.specs.Prelude.{◌≡◌, sym, ap, ◌∙◌, Bool, List, [], ◌∷◌, arith, Float, rules}
+use Rattle.std.specs.Prelude.{◌≡◌, ◌∷◌}
+use Rattle.lists.specs.Prelude.{sym, ap, ◌∙◌, Bool, List, [], arith, Float, rules}
 use Rattle.refusal.specs.declared.Verdict.{Verdict}
 use Rattle.refusal.specs.declared.Verdict.TheVariants.{Pass}
 use Rattle.two_time.specs.Calls.{size_checks}

@@ -1,5 +1,6 @@
 -- `groups::packing::pack` meets its contract: before step k the rows before k are written. Assumes nothing.
-use Rattle.lists.specs.Prelude.{◌≡◌, sym, subst, ◌∙◌, ⊎_elim, ℕ, ◌+◌, ◌-◌, ◌*◌, ◌≤◌, ◌<◌, eq-or-lt_of_le, arith, digits_lt, length, put_mid, rules}
+use Rattle.std.specs.Prelude.{◌≡◌, ◌+◌, ◌-◌, ◌*◌, ◌≤◌, ◌<◌}
+use Rattle.lists.specs.Prelude.{sym, subst, ◌∙◌, ⊎_elim, ℕ, eq-or-lt_of_le, arith, digits_lt, length, put_mid, rules}
 use Rattle.two_time.specs.Layout.{read_as}
 use Rattle.terms.specs.Kinds.{right_by}
 use Rattle.lanes.specs.Lanes.{lane_at}

@@ -1,5 +1,6 @@
 -- `groups::packing::pack_block_row` meets its contract: before step b the first b numbers are written. Assumes nothing.
-use Rattle.lists.specs.Prelude.{◌≡◌, refl, sym, ap, ◌∙◌, ℕ, ◌+◌, ◌-◌, ◌*◌, ◌≤◌, ◌<◌, arith, length, length-set, rules}
+use Rattle.std.specs.Prelude.{◌≡◌, ◌+◌, ◌-◌, ◌*◌, ◌≤◌, ◌<◌}
+use Rattle.lists.specs.Prelude.{refl, sym, ap, ◌∙◌, ℕ, arith, length, length-set, rules}
 use Rattle.complex.specs.Numbers.{entry_at}
 use Rattle.terms.specs.Kinds.{right_number}
 use Rattle.groups.specs.Right.{right_beside}

@@ -1,5 +1,6 @@
 -- `groups::packing::pack_row` meets its contract: before step p the lanes of the places before p are written. Assumes nothing.
-use Rattle.lists.specs.Prelude.{◌≡◌, sym, subst, ◌∙◌, ⊎_elim, ℕ, ◌+◌, ◌-◌, ◌*◌, ◌≤◌, ◌<◌, eq-or-lt_of_le, arith, digits_lt, length, rules}
+use Rattle.std.specs.Prelude.{◌≡◌, ◌+◌, ◌-◌, ◌*◌, ◌≤◌, ◌<◌}
+use Rattle.lists.specs.Prelude.{sym, subst, ◌∙◌, ⊎_elim, ℕ, eq-or-lt_of_le, arith, digits_lt, length, rules}
 use Rattle.two_time.specs.Layout.{read_as}
 use Rattle.terms.specs.Kinds.{right_by}
 use Rattle.two_time.specs.Places.{Placed}

@@ -1,5 +1,6 @@
 -- `langreth::checks::check_inputs` meets its contract: it asks the checks in their order. Assumes nothing.
-use Rattle.lists.specs.Prelude.{ap, ap₂, ◌∙◌, List, ◌++◌, eqb, Float, length, rules}
+use Rattle.std.specs.Prelude.{◌++◌}
+use Rattle.lists.specs.Prelude.{ap, ap₂, ◌∙◌, List, eqb, Float, length, rules}
 use Rattle.refusal.specs.declared.Verdict.{Verdict}
 use Rattle.refusal.specs.Verdict.{◌then◌}
 use Rattle.two_time.specs.SizeChecks.{sizes_asked_lem}

@@ -1,5 +1,6 @@
 -- `langreth::checks::entries` meets its contract: it asks the operands in their order. Assumes nothing.
-use Rattle.lists.specs.Prelude.{◌≡◌, ap, ◌∙◌, [], ◌∷◌, ℕ, suc, ◌+◌, arith, length, rules}
+use Rattle.std.specs.Prelude.{◌≡◌, ◌∷◌, ◌+◌}
+use Rattle.lists.specs.Prelude.{ap, ◌∙◌, [], ℕ, suc, arith, length, rules}
 use Rattle.refusal.specs.Checks.{finite_entries}
 use Rattle.two_time.specs.Checks.{operands-last, operands-more}
 use Rattle.langreth.proofs.checks.entries.Statement.{statement}

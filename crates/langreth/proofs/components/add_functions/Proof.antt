@@ -1,5 +1,6 @@
 -- `langreth::components::add_functions` meets its contract: after i steps the first i sums are tested and written. Assumes nothing.
-use Rattle.lists.specs.Prelude.{◌≡◌, refl, ◌≤◌, ◌-◌, arith, length, length-set, rules}
+use Rattle.std.specs.Prelude.{◌≡◌, ◌≤◌, ◌-◌}
+use Rattle.lists.specs.Prelude.{refl, arith, length, length-set, rules}
 use Rattle.langreth.specs.Added.{Summed, summed-none, summed-next, summed-end}
 use Rattle.langreth.proofs.components.add_functions.Statement.{statement}
 use Rattle.langreth.proofs.components.add_functions.Tie as tie

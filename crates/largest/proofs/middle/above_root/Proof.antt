@@ -1,5 +1,6 @@
 -- `largest::middle::above_root` meets its contract, by what its tests found. Assumes nothing.
-use Rattle.lists.specs.Prelude.{subst, ℕ, ◌+◌, ◌*◌, ◌/◌, ◌^◌, ◌≤◌, arith, rules, leb-true}
+use Rattle.std.specs.Prelude.{◌+◌, ◌*◌, ◌/◌, ◌^◌, ◌≤◌}
+use Rattle.lists.specs.Prelude.{subst, ℕ, arith, rules, leb-true}
 use Rattle.lists.specs.Agreement.{never}
 use Rattle.largest.proofs.Middles.{Looked, looked, middle-fits, no_wrap, root_below}
 use Rattle.largest.proofs.middle.above_root.Statement.{statement}

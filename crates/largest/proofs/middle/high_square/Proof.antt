@@ -1,5 +1,6 @@
 -- `largest::middle::high_square` meets its contract, by the columns of `Middle`. Assumes nothing.
-use Rattle.lists.specs.Prelude.{◌+◌, ◌*◌, ◌/◌, ◌%◌, ◌^◌, ◌<◌, mod-lt, arith, pow_pos, shr_lt}
+use Rattle.std.specs.Prelude.{◌+◌, ◌*◌, ◌/◌, ◌%◌, ◌^◌, ◌<◌}
+use Rattle.lists.specs.Prelude.{mod-lt, arith, pow_pos, shr_lt}
 use Rattle.norm.specs.Squares.{mul-lt-pow}
 use Rattle.largest.proofs.Middles.{high-columns}
 use Rattle.largest.proofs.middle.high_square.Statement.{statement}

@@ -1,5 +1,6 @@
 -- `matrix::DenseMatrix::from_numbers` meets its contract: numbers that pass check 3 are as many as the block's, at most 512. Assumes nothing.
-use Rattle.lists.specs.Prelude.{◌≡◌, sym, ap, ◌∙◌, ◌*◌, ◌≤◌, arith, eqb, length, rules, eqb-true}
+use Rattle.std.specs.Prelude.{◌≡◌, ◌*◌, ◌≤◌}
+use Rattle.lists.specs.Prelude.{sym, ap, ◌∙◌, arith, eqb, length, rules, eqb-true}
 use Rattle.refusal.specs.Verdict.{◌then◌}
 use Rattle.refusal.specs.Agreement.{then-pass, then-agree}
 use Rattle.refusal.specs.Checks.{finite_entries}

@@ -1,5 +1,6 @@
 -- `matrix::DenseMatrix::get` meets its contract: past check 12 the entry is one of the block. Assumes nothing.
-use Rattle.lists.specs.Prelude.{◌≡◌, sym, ◌∙◌, true, ℕ, ◌<◌, le_of_eq, le_trans, ltb, rules, ltb-true}
+use Rattle.std.specs.Prelude.{◌≡◌, ◌<◌}
+use Rattle.lists.specs.Prelude.{sym, ◌∙◌, true, ℕ, le_of_eq, le_trans, ltb, rules, ltb-true}
 use Rattle.refusal.specs.declared.Verdict.TheVariants.{Pass}
 use Rattle.refusal.specs.Verdict.{by, ◌then◌}
 use Rattle.refusal.specs.Agreement.{ask_pass, then-pass}

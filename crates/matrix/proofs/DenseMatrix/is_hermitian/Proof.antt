@@ -1,5 +1,6 @@
 -- `matrix::DenseMatrix::is_hermitian` meets its contract, by its tests. Assumes nothing.
-use Rattle.lists.specs.Prelude.{◌≡◌, sym, ap, ap₂, ◌∙◌, Bool, true, ◌&&◌, ℕ, ◌*◌, ◌≤◌, le_of_eq, arith, Float, rules, eq-eqb, ne_eqb}
+use Rattle.std.specs.Prelude.{◌≡◌, ◌&&◌, ◌*◌, ◌≤◌}
+use Rattle.lists.specs.Prelude.{sym, ap, ap₂, ◌∙◌, Bool, true, ℕ, le_of_eq, arith, Float, rules, eq-eqb, ne_eqb}
 use Rattle.refusal.specs.declared.Verdict.{Verdict}
 use Rattle.refusal.specs.declared.Verdict.TheVariants.{Pass}
 use Rattle.complex.specs.Arithmetic.{plus_zero, mul}

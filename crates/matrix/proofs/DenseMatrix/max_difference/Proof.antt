@@ -1,5 +1,6 @@
 -- `matrix::DenseMatrix::max_difference` meets its contract: blocks that pass have one shape, so their numbers stand in one order. Assumes nothing.
-use Rattle.lists.specs.Prelude.{◌≡◌, sym, ap, ◌∙◌, ℕ, ◌*◌, ◌≤◌, arith, rules}
+use Rattle.std.specs.Prelude.{◌≡◌, ◌*◌, ◌≤◌}
+use Rattle.lists.specs.Prelude.{sym, ap, ◌∙◌, ℕ, arith, rules}
 use Rattle.complex.specs.Largest.{largest_in_lem}
 use Rattle.refusal.specs.declared.Verdict.TheVariants.{Pass}
 use Rattle.refusal.specs.Verdict.{measured}

@@ -1,5 +1,6 @@
 -- `matrix::DenseMatrix::trace` meets its contract: a block that passes is square, and 10 is asked of its trace. Assumes nothing.
-use Rattle.lists.specs.Prelude.{◌≡◌, sym, ap, ◌∙◌, ℕ, le_of_eq, rules, eqb-true}
+use Rattle.std.specs.Prelude.{◌≡◌}
+use Rattle.lists.specs.Prelude.{sym, ap, ◌∙◌, ℕ, le_of_eq, rules, eqb-true}
 use Rattle.complex.specs.declared.Complex.{Complex}
 use Rattle.complex.specs.Arithmetic.{cfinite}
 use Rattle.refusal.specs.declared.Verdict.TheVariants.{Pass}

@@ -1,5 +1,6 @@
 -- `matrix::checks::count` meets its contract: cut to the limit, the product fits. Assumes nothing.
-use Rattle.lists.specs.Prelude.{ap₂, ℕ, ◌*◌, ◌≤◌, min-le_right, arith, rules}
+use Rattle.std.specs.Prelude.{◌*◌, ◌≤◌}
+use Rattle.lists.specs.Prelude.{ap₂, ℕ, min-le_right, arith, rules}
 use Rattle.matrix.proofs.Places.{entries-most}
 use Rattle.matrix.proofs.checks.count.Statement.{statement}
 use Rattle.matrix.proofs.checks.count.Tie as tie

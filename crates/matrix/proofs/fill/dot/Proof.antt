@@ -1,5 +1,6 @@
 -- `matrix::fill::dot` meets its contract: after k steps the sum has the first k terms of the product's entry. Assumes nothing.
-use Rattle.lists.specs.Prelude.{◌≡◌, sym, ◌∙◌, List, ℕ, ◌-◌, ◌≤◌, le_antisymm, arith, Float, rules}
+use Rattle.std.specs.Prelude.{◌≡◌, ◌-◌, ◌≤◌}
+use Rattle.lists.specs.Prelude.{sym, ◌∙◌, List, ℕ, le_antisymm, arith, Float, rules}
 use Rattle.complex.specs.declared.Complex.{Complex}
 use Rattle.complex.specs.Arithmetic.{czero, cmul}
 use Rattle.complex.specs.Sum.{sum, sum_from}

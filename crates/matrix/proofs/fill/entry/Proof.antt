@@ -1,5 +1,6 @@
 -- `matrix::fill::entry` meets its contract: the entry stands within the 512 numbers. Assumes nothing.
-use Rattle.lists.specs.Prelude.{◌*◌, ◌≤◌, arith}
+use Rattle.std.specs.Prelude.{◌*◌, ◌≤◌}
+use Rattle.lists.specs.Prelude.{arith}
 use Rattle.matrix.proofs.Places.{rows_before}
 use Rattle.matrix.proofs.fill.entry.Statement.{statement}
 use Rattle.matrix.proofs.fill.entry.Tie as tie

@@ -1,5 +1,6 @@
 -- `matrix::fill::fill` meets its contract: after i steps the first i rows are written and tested. Assumes nothing.
-use Rattle.lists.specs.Prelude.{◌≡◌, refl, sym, ◌∙◌, ◌+◌, ◌-◌, ◌*◌, ◌≤◌, le_antisymm, arith, length, rules}
+use Rattle.std.specs.Prelude.{◌≡◌, ◌+◌, ◌-◌, ◌*◌, ◌≤◌}
+use Rattle.lists.specs.Prelude.{refl, sym, ◌∙◌, le_antisymm, arith, length, rules}
 use Rattle.lists.specs.Indexed.{join, all_below}
 use Rattle.lists.specs.Filling.{over, over_none}
 use Rattle.block.specs.Block.{lay_out}

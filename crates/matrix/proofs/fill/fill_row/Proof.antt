@@ -1,5 +1,6 @@
 -- `matrix::fill::fill_row` meets its contract: after j steps the row's first j entries are written and tested. Assumes nothing.
-use Rattle.lists.specs.Prelude.{◌≡◌, refl, sym, ◌∙◌, ◌-◌, ◌*◌, ◌≤◌, le_antisymm, arith, length, length-set, rules}
+use Rattle.std.specs.Prelude.{◌≡◌, ◌-◌, ◌*◌, ◌≤◌}
+use Rattle.lists.specs.Prelude.{refl, sym, ◌∙◌, le_antisymm, arith, length, length-set, rules}
 use Rattle.lists.specs.Indexed.{join, all_below}
 use Rattle.lists.specs.Steps.{all_more}
 use Rattle.lists.specs.Filling.{over, over_none, over-all}

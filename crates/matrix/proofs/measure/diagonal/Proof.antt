@@ -1,5 +1,6 @@
 -- `matrix::measure::diagonal` meets its contract: after i steps the sum has the first i entries of the diagonal. Assumes nothing.
-use Rattle.lists.specs.Prelude.{◌≡◌, sym, ◌∙◌, ◌-◌, ◌≤◌, le_antisymm, arith, rules}
+use Rattle.std.specs.Prelude.{◌≡◌, ◌-◌, ◌≤◌}
+use Rattle.lists.specs.Prelude.{sym, ◌∙◌, le_antisymm, arith, rules}
 use Rattle.complex.specs.Arithmetic.{czero}
 use Rattle.complex.specs.Sum.{sum_from}
 use Rattle.complex.specs.Agreement.{sum_more, sum-none}

@@ -1,5 +1,6 @@
 -- `matrix::measure::hermitian_within` meets its contract: after i steps the first i rows are seen. Assumes nothing.
-use Rattle.lists.specs.Prelude.{◌≡◌, sym, ◌∙◌, ◌-◌, ◌≤◌, le_antisymm, arith, rules}
+use Rattle.std.specs.Prelude.{◌≡◌, ◌-◌, ◌≤◌}
+use Rattle.lists.specs.Prelude.{sym, ◌∙◌, le_antisymm, arith, rules}
 use Rattle.lists.specs.Indexed.{all_below}
 use Rattle.lists.specs.Steps.{all_more, all_none}
 use Rattle.block.specs.Block.{entries_in}

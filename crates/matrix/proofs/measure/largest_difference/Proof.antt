@@ -1,5 +1,6 @@
 -- `matrix::measure::largest_difference` meets its contract: after p steps the first p numbers are seen. Assumes nothing.
-use Rattle.lists.specs.Prelude.{◌≡◌, sym, ◌∙◌, ◌-◌, ◌*◌, ◌≤◌, le_antisymm, arith, rules}
+use Rattle.std.specs.Prelude.{◌≡◌, ◌-◌, ◌*◌, ◌≤◌}
+use Rattle.lists.specs.Prelude.{sym, ◌∙◌, le_antisymm, arith, rules}
 use Rattle.lists.specs.Steps.{fold_more, fold-none}
 use Rattle.complex.specs.Arithmetic.{plus_zero, csub}
 use Rattle.complex.specs.Numbers.{entry_at}

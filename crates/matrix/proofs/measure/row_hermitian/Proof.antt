@@ -1,5 +1,6 @@
 -- `matrix::measure::row_hermitian` meets its contract: of the columns below the diagonal's nothing is asked. Assumes nothing.
-use Rattle.lists.specs.Prelude.{◌≡◌, sym, ap, ap₂, ◌∙◌, Bool, true, not, ◌&&◌, ℕ, ◌+◌, ◌-◌, ◌≤◌, le_antisymm, arith, Float, rules, lt-ltb, le-ltb}
+use Rattle.std.specs.Prelude.{◌≡◌, ◌&&◌, ◌+◌, ◌-◌, ◌≤◌}
+use Rattle.lists.specs.Prelude.{sym, ap, ap₂, ◌∙◌, Bool, true, not, ℕ, le_antisymm, arith, Float, rules, lt-ltb, le-ltb}
 use Rattle.lists.specs.Indexed.{all_below}
 use Rattle.lists.specs.Steps.{all_more}
 use Rattle.lists.specs.Agreement.{each_all}

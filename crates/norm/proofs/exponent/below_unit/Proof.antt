@@ -1,5 +1,6 @@
 -- `norm::exponent::below_unit` meets its contract, a difference. Assumes nothing.
-use Rattle.lists.specs.Prelude.{◌-◌, arith}
+use Rattle.std.specs.Prelude.{◌-◌}
+use Rattle.lists.specs.Prelude.{arith}
 use Rattle.std.proofs.Common.{◌-ℤ◌}
 use lib.Signed.{mag}
 use Rattle.norm.proofs.Sixteen.{held, held-up_to, Made, minus}

@@ -1,5 +1,6 @@
 -- `norm::exponent::dropped` meets its contract: both ways are laws of `Exponents`. Assumes nothing.
-use Rattle.lists.specs.Prelude.{◌≡◌, refl, sym, ap, ◌∙◌, ◌-◌, ◌≤◌, leb, arith, rules, leb-true, leb-false, ℤ, pos}
+use Rattle.std.specs.Prelude.{◌≡◌, ◌-◌, ◌≤◌}
+use Rattle.lists.specs.Prelude.{refl, sym, ap, ◌∙◌, leb, arith, rules, leb-true, leb-false, ℤ, pos}
 use Rattle.std.proofs.Common.{◌-ℤ◌}
 use lib.Signed.{mag}
 use Rattle.norm.specs.Words.{two}

@@ -1,6 +1,7 @@
 -- `norm::exponent::encoded` meets its contract: the pattern is the step's field and the significand, by `Exponents`, and stands for the steps, by
 -- `Encoding`. Assumes nothing.
-use Rattle.lists.specs.Prelude.{◌≡◌, refl, sym, ap, ◌∙◌, ℕ, ◌+◌, ◌-◌, ◌*◌, ◌/◌, ◌^◌, ◌≤◌, ◌<◌, mod-lt, leb, arith, pow_pos, leb-true, leb-false, ℤ, pos}
+use Rattle.std.specs.Prelude.{◌≡◌, ◌+◌, ◌-◌, ◌*◌, ◌/◌, ◌^◌, ◌≤◌, ◌<◌}
+use Rattle.lists.specs.Prelude.{refl, sym, ap, ◌∙◌, ℕ, mod-lt, leb, arith, pow_pos, leb-true, leb-false, ℤ, pos}
 use lib.Count.{count_leading_zeros, leading_le}
 use Rattle.std.proofs.Common.{◌+ℤ◌, ◌-ℤ◌}
 use lib.Signed.{mag}

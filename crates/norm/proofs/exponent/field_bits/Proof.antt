@@ -1,5 +1,6 @@
 -- `norm::exponent::field_bits` meets its contract. Assumes nothing.
-use Rattle.lists.specs.Prelude.{ap, ◌*◌, ◌^◌, ℕ, arith}
+use Rattle.std.specs.Prelude.{◌*◌, ◌^◌}
+use Rattle.lists.specs.Prelude.{ap, ℕ, arith}
 use Rattle.std.proofs.Common.{nat_abs}
 use Rattle.norm.proofs.Sixteen.{held-up_to, word}
 use Rattle.norm.proofs.exponent.field_bits.Statement.{statement}

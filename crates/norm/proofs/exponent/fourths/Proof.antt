@@ -1,5 +1,6 @@
 -- `norm::exponent::fourths` meets its contract: twice k places are at most 54. Assumes nothing.
-use Rattle.lists.specs.Prelude.{◌≡◌, ap, ◌∙◌, ◌+◌, ◌/◌, ◌*◌, ◌^◌, ℕ, arith}
+use Rattle.std.specs.Prelude.{◌≡◌, ◌+◌, ◌/◌, ◌*◌, ◌^◌}
+use Rattle.lists.specs.Prelude.{ap, ◌∙◌, ℕ, arith}
 use Rattle.std.proofs.Common.{◌+ℤ◌}
 use lib.Signed.{mag}
 use Rattle.norm.proofs.Sixteen.{held, held-up_to, up_to, Made, plus}

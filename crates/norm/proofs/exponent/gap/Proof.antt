@@ -1,5 +1,6 @@
 -- `norm::exponent::gap` meets its contract, a difference. Assumes nothing.
-use Rattle.lists.specs.Prelude.{◌-◌, lt_of_le_of_lt, arith}
+use Rattle.std.specs.Prelude.{◌-◌}
+use Rattle.lists.specs.Prelude.{lt_of_le_of_lt, arith}
 use Rattle.std.proofs.Common.{◌-ℤ◌}
 use Rattle.norm.specs.Parts.{shift_of}
 use Rattle.norm.specs.Sizes.{shift_mono, shift_le}

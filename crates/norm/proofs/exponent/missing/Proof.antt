@@ -1,5 +1,6 @@
 -- `norm::exponent::missing` meets its contract, by the leading zeros (`Exponents`). Assumes nothing.
-use Rattle.lists.specs.Prelude.{refl, ◌-◌, arith, pos}
+use Rattle.std.specs.Prelude.{◌-◌}
+use Rattle.lists.specs.Prelude.{refl, arith, pos}
 use lib.Count.{count_leading_zeros, leading_le}
 use Rattle.std.proofs.Common.{◌-ℤ◌}
 use Rattle.norm.proofs.Sixteen.{held, held-is, up_to, Made, minus}

@@ -1,5 +1,6 @@
 -- `norm::exponent::places_beside` meets its contract, a difference. Assumes nothing.
-use Rattle.lists.specs.Prelude.{refl, ap, ◌∙◌, ◌-◌, arith, pos}
+use Rattle.std.specs.Prelude.{◌-◌}
+use Rattle.lists.specs.Prelude.{refl, ap, ◌∙◌, arith, pos}
 use Rattle.std.proofs.Common.{◌-ℤ◌}
 use lib.Signed.{mag}
 use Rattle.norm.proofs.Sixteen.{held, held-up_to, up_to, Made, minus}

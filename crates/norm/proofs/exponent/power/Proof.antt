@@ -1,5 +1,6 @@
 -- `norm::exponent::power` meets its contract: the power fits a word. Assumes nothing.
-use Rattle.lists.specs.Prelude.{◌≡◌, ap, ◌∙◌, ◌^◌, one-mul, arith, lit<, shl_exact}
+use Rattle.std.specs.Prelude.{◌≡◌, ◌^◌}
+use Rattle.lists.specs.Prelude.{ap, ◌∙◌, one-mul, arith, lit<, shl_exact}
 use lib.Signed.{mag}
 use Rattle.norm.proofs.Sixteen.{kept, passed}
 use Rattle.norm.proofs.exponent.power.Statement.{statement}

@@ -1,5 +1,6 @@
 -- `norm::exponent::shift` meets its contract: the field is at most 2046. Assumes nothing.
-use Rattle.lists.specs.Prelude.{◌≡◌, refl, ap, ◌/◌, ◌^◌, ◌<◌, arith, pos}
+use Rattle.std.specs.Prelude.{◌≡◌, ◌/◌, ◌^◌, ◌<◌}
+use Rattle.lists.specs.Prelude.{refl, ap, arith, pos}
 use Rattle.std.proofs.Common.{◌-ℤ◌, w16, to_z}
 use Rattle.norm.specs.Parts.{shift_of}
 use Rattle.norm.proofs.Sixteen.{bits_say, Made, minus}

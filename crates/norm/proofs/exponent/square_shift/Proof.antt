@@ -1,5 +1,6 @@
 -- `norm::exponent::square_shift` meets its contract. Assumes nothing.
-use Rattle.lists.specs.Prelude.{◌≡◌, refl, ap, ◌∙◌, ◌+◌, ◌*◌, arith, pos}
+use Rattle.std.specs.Prelude.{◌≡◌, ◌+◌, ◌*◌}
+use Rattle.lists.specs.Prelude.{refl, ap, ◌∙◌, arith, pos}
 use Rattle.std.proofs.Common.{◌+ℤ◌}
 use lib.Signed.{mag}
 use Rattle.norm.proofs.Sixteen.{held, held-up_to, Made, plus}

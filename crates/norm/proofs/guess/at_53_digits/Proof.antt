@@ -1,5 +1,6 @@
 -- `norm::guess::at_53_digits` meets its contract: what is returned has passed the check, and the check settles it. Assumes nothing.
-use Rattle.lists.specs.Prelude.{◌≡◌, ap₂, subst, ℕ, ◌+◌, inr, zero-le, le_of_lt, lt_of_le_of_lt, arith, rules}
+use Rattle.std.specs.Prelude.{◌≡◌, ◌+◌}
+use Rattle.lists.specs.Prelude.{ap₂, subst, ℕ, inr, zero-le, le_of_lt, lt_of_le_of_lt, arith, rules}
 use lib.Signed.{mag}
 use Rattle.norm.specs.Parts.{Encodes}
 use Rattle.norm.specs.Checked.{Covers, whole_squares}

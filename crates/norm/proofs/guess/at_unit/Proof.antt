@@ -1,5 +1,6 @@
 -- `norm::guess::at_unit` meets its contract: the raised parts fit, and what has passed the check is the norm's. Assumes nothing.
-use Rattle.lists.specs.Prelude.{◌≡◌, refl, sym, ap, subst, ◌∙◌, inl, ℕ, ◌+◌, ◌*◌, ◌%◌, ◌^◌, ◌≤◌, ◌<◌, le_refl, le_of_lt, lt_of_lt_of_le, lt_of_le_of_lt, mod-eq_of_lt, mul-le-mul_right, arith, rules, lit<, lit≤, pos}
+use Rattle.std.specs.Prelude.{◌≡◌, ◌+◌, ◌*◌, ◌%◌, ◌^◌, ◌≤◌, ◌<◌}
+use Rattle.lists.specs.Prelude.{refl, sym, ap, subst, ◌∙◌, inl, ℕ, le_refl, le_of_lt, lt_of_lt_of_le, lt_of_le_of_lt, mod-eq_of_lt, mul-le-mul_right, arith, rules, lit<, lit≤, pos}
 use lib.Signed.{mag}
 use Rattle.norm.specs.Parts.{Encodes}
 use Rattle.norm.specs.Encoding.{bits-of-step}

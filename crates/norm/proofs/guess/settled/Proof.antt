@@ -1,5 +1,6 @@
 -- `norm::guess::settled` meets its contract: what is returned has passed the check. Assumes nothing.
-use Rattle.lists.specs.Prelude.{◌+◌, ◌-◌, ◌*◌, ◌/◌, ◌^◌, ◌≤◌, mul-le-mul, arith, rules}
+use Rattle.std.specs.Prelude.{◌+◌, ◌-◌, ◌*◌, ◌/◌, ◌^◌, ◌≤◌}
+use Rattle.lists.specs.Prelude.{mul-le-mul, arith, rules}
 use Rattle.norm.proofs.Middles.{passes, none}
 use Rattle.norm.proofs.guess.settled.Statement.{statement}
 use Rattle.norm.proofs.guess.settled.Tie as tie

@@ -1,5 +1,6 @@
 -- `norm::guess::settled_at_unit` meets its contract: what is returned has passed the check. Assumes nothing.
-use Rattle.lists.specs.Prelude.{◌≡◌, sym, ap, ◌∙◌, ℕ, ◌+◌, ◌*◌, ◌/◌, ◌^◌, ◌≤◌, ◌<◌, le_trans, le-add_right, arith, rules, lit<, shr_le}
+use Rattle.std.specs.Prelude.{◌≡◌, ◌+◌, ◌*◌, ◌/◌, ◌^◌, ◌≤◌, ◌<◌}
+use Rattle.lists.specs.Prelude.{sym, ap, ◌∙◌, ℕ, le_trans, le-add_right, arith, rules, lit<, shr_le}
 use lib.Signed.{mag}
 use Rattle.norm.proofs.Sixteen.{kept, passed}
 use Rattle.norm.proofs.Middles.{some-whole, middle-fits, middle-small, two-units, short-at-unit, passes-at-unit, none}

@@ -1,5 +1,6 @@
 -- `norm::guess::summed` meets its contract: what the steps leave out of each square is less than a step. Assumes nothing.
-use Rattle.lists.specs.Prelude.{◌≡◌, arith, rules}
+use Rattle.std.specs.Prelude.{◌≡◌}
+use Rattle.lists.specs.Prelude.{arith, rules}
 use lib.Signed.{mag}
 use Rattle.norm.specs.Squares.{even_power}
 use Rattle.norm.proofs.Sixteen.{held, kept, passed}

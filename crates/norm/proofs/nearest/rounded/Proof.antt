@@ -1,5 +1,6 @@
 -- `norm::nearest::rounded` meets its contract, by `Rounding`: what the words keep is small, and the bits are the rounded root's. Assumes nothing.
-use Rattle.lists.specs.Prelude.{◌≡◌, sym, ap, ap₂, subst, ◌∙◌, false, ℕ, ◌+◌, ◌-◌, ◌*◌, ◌/◌, ◌%◌, ◌^◌, ◌≤◌, ◌<◌, arith, rules, binary64, units, pos}
+use Rattle.std.specs.Prelude.{◌≡◌, ◌+◌, ◌-◌, ◌*◌, ◌/◌, ◌%◌, ◌^◌, ◌≤◌, ◌<◌}
+use Rattle.lists.specs.Prelude.{sym, ap, ap₂, subst, ◌∙◌, false, ℕ, arith, rules, binary64, units, pos}
 use lib.Signed.{mag}
 use Rattle.norm.specs.Parts.{Rounded}
 use Rattle.norm.specs.Words.{two, Dropped}

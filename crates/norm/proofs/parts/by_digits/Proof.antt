@@ -1,5 +1,6 @@
 -- `norm::parts::by_digits` meets its contract: the sum of the squares fits three words, and its root two. Assumes nothing.
-use Rattle.lists.specs.Prelude.{◌≡◌, sym, ap, ap₂, subst, ◌∙◌, ◌⊎◌, ℕ, ◌+◌, ◌*◌, ◌^◌, ◌≤◌, ◌<◌, lt_of_lt_of_le, arith, rules, lit≤, pow-add, pos}
+use Rattle.std.specs.Prelude.{◌≡◌, ◌⊎◌, ◌+◌, ◌*◌, ◌^◌, ◌≤◌, ◌<◌}
+use Rattle.lists.specs.Prelude.{sym, ap, ap₂, subst, ◌∙◌, ℕ, lt_of_lt_of_le, arith, rules, lit≤, pow-add, pos}
 use lib.Signed.{mag}
 use Rattle.norm.specs.Words.{two, three}
 use Rattle.norm.specs.Checked.{squares}

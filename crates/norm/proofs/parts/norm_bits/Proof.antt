@@ -1,5 +1,6 @@
 -- `norm::parts::norm_bits` meets its contract: each way out is a law of `SumOfSquares`. Assumes nothing.
-use Rattle.lists.specs.Prelude.{◌≡◌, refl, sym, ap, ap₂, ◌∙◌, ℕ, ◌+◌, ◌-◌, ◌*◌, ◌^◌, ◌<◌, ◌≤◌, le_of_lt, le_trans, lt_of_le_of_lt, leb, arith, rules, leb-true, leb-false, binary64, of_bits, ℤ, pos}
+use Rattle.std.specs.Prelude.{◌≡◌, ◌+◌, ◌-◌, ◌*◌, ◌^◌, ◌<◌, ◌≤◌}
+use Rattle.lists.specs.Prelude.{refl, sym, ap, ap₂, ◌∙◌, ℕ, le_of_lt, le_trans, lt_of_le_of_lt, leb, arith, rules, leb-true, leb-false, binary64, of_bits, ℤ, pos}
 use lib.Signed.{mag}
 use Rattle.norm.specs.Norm.{rounded_root}
 use Rattle.norm.specs.Parts.{shift_of, units_of}

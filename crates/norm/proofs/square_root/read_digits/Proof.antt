@@ -1,5 +1,6 @@
 -- `norm::square_root::read_digits` meets its contract: both ways are `digit_one` and `digit_zero` of `Root`. Assumes nothing.
-use Rattle.lists.specs.Prelude.{sym, ◌∙◌, ◌^◌, ◌<◌, arith, rules, leb-true, leb-false}
+use Rattle.std.specs.Prelude.{◌^◌, ◌<◌}
+use Rattle.lists.specs.Prelude.{sym, ◌∙◌, arith, rules, leb-true, leb-false}
 use Rattle.norm.specs.Words.{two}
 use Rattle.norm.proofs.Root.{digit_one, digit_zero}
 use Rattle.norm.proofs.square_root.read_digits.Statement.{statement}

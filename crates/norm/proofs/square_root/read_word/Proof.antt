@@ -1,6 +1,7 @@
 -- `norm::square_root::read_word` meets its contract. The invariant: what will have been read, shifted by the steps made, is what has
 -- been read with the rest of the word behind it. The measure is the steps left. Assumes nothing.
-use Rattle.lists.specs.Prelude.{◌≡◌, refl, subst, ℕ, ◌+◌, ◌-◌, ◌*◌, ◌^◌, ◌<◌, ◌≤◌, le_antisymm, lt_of_lt_of_le, mod-lt, mul-one, arith, lit≤, digits_lt, pow_pos, pow_mono, shr_lt}
+use Rattle.std.specs.Prelude.{◌≡◌, ◌+◌, ◌-◌, ◌*◌, ◌^◌, ◌<◌, ◌≤◌}
+use Rattle.lists.specs.Prelude.{refl, subst, ℕ, le_antisymm, lt_of_lt_of_le, mod-lt, mul-one, arith, lit≤, digits_lt, pow_pos, pow_mono, shr_lt}
 use Rattle.norm.specs.Words.{two, read}
 use Rattle.norm.proofs.Root.{next-digits, word_read, root-small}
 use Rattle.norm.proofs.square_root.read_word.Statement.{statement}

@@ -1,5 +1,6 @@
 -- `norm::square_root::root_of` meets its contract: three words are read, the highest first. Assumes nothing.
-use Rattle.lists.specs.Prelude.{◌≡◌, ap, ◌∙◌, ℕ, ◌+◌, ◌*◌, ◌^◌, ◌≤◌, ◌<◌, lt_of_le_of_lt, arith, rules}
+use Rattle.std.specs.Prelude.{◌≡◌, ◌+◌, ◌*◌, ◌^◌, ◌≤◌, ◌<◌}
+use Rattle.lists.specs.Prelude.{ap, ◌∙◌, ℕ, lt_of_le_of_lt, arith, rules}
 use Rattle.norm.specs.Words.{read}
 use Rattle.norm.proofs.Words.{high-below}
 use Rattle.norm.proofs.square_root.root_of.Statement.{statement}

@@ -1,5 +1,6 @@
 -- `norm::wide::minus` meets its contract: with a borrow where the low word of b is the larger. Assumes nothing.
-use Rattle.lists.specs.Prelude.{◌≡◌, ◌+◌, ◌-◌, ◌*◌, ◌^◌, ◌<◌, ◌≤◌, arith, rules}
+use Rattle.std.specs.Prelude.{◌≡◌, ◌+◌, ◌-◌, ◌*◌, ◌^◌, ◌<◌, ◌≤◌}
+use Rattle.lists.specs.Prelude.{arith, rules}
 use Rattle.norm.specs.Words.{two}
 use Rattle.norm.proofs.Words.{no_borrow, borrowed}
 use Rattle.norm.proofs.wide.minus.Statement.{statement}

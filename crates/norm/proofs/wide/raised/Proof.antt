@@ -1,5 +1,6 @@
 -- `norm::wide::raised` meets its contract: the digits that leave a word come in below the next. Assumes nothing.
-use Rattle.lists.specs.Prelude.{◌≡◌, ap, ◌∙◌, ◌+◌, ◌^◌, ◌<◌, arith}
+use Rattle.std.specs.Prelude.{◌≡◌, ◌+◌, ◌^◌, ◌<◌}
+use Rattle.lists.specs.Prelude.{ap, ◌∙◌, arith}
 use lib.Signed.{mag}
 use Rattle.norm.proofs.Sixteen.{kept, passed}
 use Rattle.norm.proofs.Words.{joined-fits, spread_up}

@@ -1,5 +1,6 @@
 -- `norm::wide::square` meets its contract, by columns of 32 digits, each of which fits. Assumes nothing.
-use Rattle.lists.specs.Prelude.{◌≡◌, sym, ◌∙◌, ℕ, ◌+◌, ◌*◌, ◌/◌, ◌%◌, ◌^◌, ◌<◌, mod-lt, arith, pow_pos, shr_lt}
+use Rattle.std.specs.Prelude.{◌≡◌, ◌+◌, ◌*◌, ◌/◌, ◌%◌, ◌^◌, ◌<◌}
+use Rattle.lists.specs.Prelude.{sym, ◌∙◌, ℕ, mod-lt, arith, pow_pos, shr_lt}
 use Rattle.norm.specs.Squares.{columns, mul-lt-pow}
 use Rattle.norm.proofs.wide.square.Statement.{statement}
 use Rattle.norm.proofs.wide.square.Tie as tie

@@ -1,5 +1,6 @@
 -- `observables::answer::real_checked` meets its contract: it asks 10, then 14. Assumes nothing.
-use Rattle.lists.specs.Prelude.{◌≡◌, refl, sym, ap, ap₂, ◌∙◌, rules}
+use Rattle.std.specs.Prelude.{◌≡◌}
+use Rattle.lists.specs.Prelude.{refl, sym, ap, ap₂, ◌∙◌, rules}
 use Rattle.complex.specs.Arithmetic.{cfinite}
 use Rattle.refusal.specs.Verdict.{◌then◌}
 use Rattle.refusal.specs.Checks.{finite_work, real_within}

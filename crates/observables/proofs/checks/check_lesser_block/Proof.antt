@@ -1,5 +1,6 @@
 -- `observables::checks::check_lesser_block` meets its contract: past checks 1, 2, 3 and 16 the entries are few, and check 7 is asked. Assumes nothing.
-use Rattle.lists.specs.Prelude.{◌≡◌, sym, ap, ◌∙◌, ◌*◌, ◌≤◌, arith, le_trans, le_of_eq, rules}
+use Rattle.std.specs.Prelude.{◌≡◌, ◌*◌, ◌≤◌}
+use Rattle.lists.specs.Prelude.{sym, ap, ◌∙◌, arith, le_trans, le_of_eq, rules}
 use Rattle.refusal.specs.declared.Verdict.{Verdict}
 use Rattle.refusal.specs.Verdict.{◌then◌}
 use Rattle.matrix.specs.declared.DenseMatrix.{DenseMatrix}

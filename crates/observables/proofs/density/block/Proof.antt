@@ -1,5 +1,6 @@
 -- `observables::density::block` meets its contract: after a steps the first a rows are written. Assumes nothing.
-use Rattle.lists.specs.Prelude.{◌<◌, ◌≡◌, sym, ap, ◌∙◌, List, ℕ, ◌+◌, ◌-◌, ◌*◌, ◌≤◌, le_antisymm, le_trans, arith, Float, length, replicate, length-replicate, length-take}
+use Rattle.std.specs.Prelude.{◌<◌, ◌≡◌, ◌+◌, ◌-◌, ◌*◌, ◌≤◌}
+use Rattle.lists.specs.Prelude.{sym, ap, ◌∙◌, List, ℕ, le_antisymm, le_trans, arith, Float, length, replicate, length-replicate, length-take}
 use Rattle.lists.specs.Prelude.{length-drop, rules, same_len_mid}
 use Rattle.lists.specs.Indexed.{join}
 use Rattle.lists.specs.Steps.{join_more}

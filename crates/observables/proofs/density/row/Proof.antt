@@ -1,5 +1,6 @@
 -- `observables::density::row` meets its contract: after b steps the first b entries of the row are written. Assumes nothing.
-use Rattle.lists.specs.Prelude.{◌≡◌, refl, sym, ap, ◌∙◌, ℕ, ◌+◌, ◌-◌, ◌*◌, ◌≤◌, ◌<◌, le_antisymm, arith, length, length-set, rules}
+use Rattle.std.specs.Prelude.{◌≡◌, ◌+◌, ◌-◌, ◌*◌, ◌≤◌, ◌<◌}
+use Rattle.lists.specs.Prelude.{refl, sym, ap, ◌∙◌, ℕ, le_antisymm, arith, length, length-set, rules}
 use Rattle.lists.specs.Indexed.{join}
 use Rattle.lists.specs.Filling.{over, over_none, over-all}
 use Rattle.complex.specs.Filling.{cells, cells-next, length-cells}

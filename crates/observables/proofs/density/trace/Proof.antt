@@ -1,5 +1,6 @@
 -- `observables::density::trace` meets its contract: after a steps the sum has the first a entries of the diagonal. Assumes nothing.
-use Rattle.lists.specs.Prelude.{◌≡◌, sym, ◌∙◌, ◌-◌, ◌≤◌, le_antisymm, arith, rules}
+use Rattle.std.specs.Prelude.{◌≡◌, ◌-◌, ◌≤◌}
+use Rattle.lists.specs.Prelude.{sym, ◌∙◌, le_antisymm, arith, rules}
 use Rattle.complex.specs.Arithmetic.{czero}
 use Rattle.complex.specs.Sum.{sum_from}
 use Rattle.complex.specs.Agreement.{sum_more, sum-none}

@@ -1,5 +1,6 @@
 -- `observables::flow::flow_of` meets its contract: a flow where the questions pass, and else their refusal. Assumes nothing.
-use Rattle.lists.specs.Prelude.{◌≡◌, sym, ap, ap₂, ◌∙◌, binary64, of_bits, rules}
+use Rattle.std.specs.Prelude.{◌≡◌}
+use Rattle.lists.specs.Prelude.{sym, ap, ap₂, ◌∙◌, binary64, of_bits, rules}
 use lib.Ieee as Ieee
 use Rattle.complex.specs.declared.Complex.{Complex}
 use Rattle.complex.specs.Arithmetic.{mul, cmul, minus_i}

@@ -1,5 +1,6 @@
 -- `observables::product::is_finite` meets its contract: after a steps the first a rows are tested. Assumes nothing.
-use Rattle.lists.specs.Prelude.{◌≡◌, sym, ap₂, ◌∙◌, ◌&&◌, ◌-◌, ◌≤◌, le_antisymm, arith, rules}
+use Rattle.std.specs.Prelude.{◌≡◌, ◌&&◌, ◌-◌, ◌≤◌}
+use Rattle.lists.specs.Prelude.{sym, ap₂, ◌∙◌, le_antisymm, arith, rules}
 use Rattle.lists.specs.Indexed.{all_in}
 use Rattle.lists.specs.Steps.{all_more, all_none}
 use Rattle.complex.specs.Arithmetic.{cfinite}

@@ -1,5 +1,6 @@
 -- `observables::product::row_is_finite` meets its contract: after b steps the first b entries of the row are tested. Assumes nothing.
-use Rattle.lists.specs.Prelude.{◌≡◌, sym, ap, ap₂, ◌∙◌, ◌&&◌, ◌-◌, ◌≤◌, le_antisymm, arith, rules}
+use Rattle.std.specs.Prelude.{◌≡◌, ◌&&◌, ◌-◌, ◌≤◌}
+use Rattle.lists.specs.Prelude.{sym, ap, ap₂, ◌∙◌, le_antisymm, arith, rules}
 use Rattle.lists.specs.Indexed.{all_below}
 use Rattle.lists.specs.Steps.{all_more, all_none}
 use Rattle.complex.specs.Arithmetic.{cfinite}

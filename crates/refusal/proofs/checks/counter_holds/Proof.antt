@@ -1,5 +1,6 @@
 -- `refusal::checks::counter_holds` meets its contract: it asks the question of `counter_holds`, by a difference that does not wrap. Assumes nothing.
-use Rattle.lists.specs.Prelude.{◌≡◌, ◌∙◌, ℕ, ◌+◌, ◌-◌, ◌≤◌, arith, leb, leb-true, le-leb, rules}
+use Rattle.std.specs.Prelude.{◌≡◌, ◌+◌, ◌-◌, ◌≤◌}
+use Rattle.lists.specs.Prelude.{◌∙◌, ℕ, arith, leb, leb-true, le-leb, rules}
 use Rattle.refusal.specs.Checks.{counter_holds}
 use Rattle.refusal.specs.Agreement.{same_test}
 use Rattle.refusal.proofs.checks.counter_holds.Statement.{statement}

@@ -1,5 +1,6 @@
 -- `refusal::checks::finite_prefix` meets its contract: the numbers passed are finite, and one past the end is not. Assumes nothing.
-use Rattle.lists.specs.Prelude.{◌≡◌, sym, ◌∙◌, true, ℕ, ◌-◌, ◌≤◌, ◌<◌, ◌+◌, arith, get_or, nan, rules, not-true, not-false}
+use Rattle.std.specs.Prelude.{◌≡◌, ◌-◌, ◌≤◌, ◌<◌, ◌+◌}
+use Rattle.lists.specs.Prelude.{sym, ◌∙◌, true, ℕ, arith, get_or, nan, rules, not-true, not-false}
 use borrow.Author.Count.{below_none, below_more}
 use Rattle.complex.specs.Arithmetic.{finite}
 use Rattle.refusal.specs.Search.{past-finite}

@@ -1,5 +1,6 @@
 -- `refusal::checks::rising_prefix` meets its contract: the steps passed rise, and none rises to a time past the end. Assumes nothing.
-use Rattle.lists.specs.Prelude.{◌≡◌, true, ℕ, ◌+◌, ◌-◌, ◌≤◌, ◌<◌, arith, get_or, nan, lt, rules, not-true, not-false}
+use Rattle.std.specs.Prelude.{◌≡◌, ◌+◌, ◌-◌, ◌≤◌, ◌<◌}
+use Rattle.lists.specs.Prelude.{true, ℕ, arith, get_or, nan, lt, rules, not-true, not-false}
 use borrow.Author.Count.{below_none, below_more}
 use Rattle.refusal.specs.Search.{past_rise}
 use Rattle.refusal.proofs.checks.rising_prefix.Statement.{statement}

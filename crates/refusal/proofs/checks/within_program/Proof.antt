@@ -1,5 +1,6 @@
 -- `refusal::checks::within_program` meets its contract: N·n is at most 16 where n is 0, and where N is at most 16 / n. Assumes nothing.
-use Rattle.lists.specs.Prelude.{◌≡◌, ◌∙◌, ℕ, ◌*◌, ◌/◌, ◌<◌, le-div_iff_mul-le, mul-zero, arith, leb, rules, leb-true, le-leb}
+use Rattle.std.specs.Prelude.{◌≡◌, ◌*◌, ◌/◌, ◌<◌}
+use Rattle.lists.specs.Prelude.{◌∙◌, ℕ, le-div_iff_mul-le, mul-zero, arith, leb, rules, leb-true, le-leb}
 use Rattle.refusal.specs.Checks.{within_program}
 use Rattle.refusal.specs.Agreement.{same_test}
 use Rattle.refusal.proofs.checks.within_program.Statement.{statement}

@@ -1,5 +1,6 @@
 -- `report::checks::check_inputs` meets its contract: it asks the checks in their order. Assumes nothing.
-use Rattle.lists.specs.Prelude.{◌≡◌, ap₂, ◌∙◌, true, [], ◌∷◌, rules}
+use Rattle.std.specs.Prelude.{◌≡◌, ◌∷◌}
+use Rattle.lists.specs.Prelude.{ap₂, ◌∙◌, true, [], rules}
 use Rattle.refusal.specs.Verdict.{◌then◌}
 use Rattle.two_time.specs.Calls.{size_checks, operand_checks}
 use Rattle.two_time.specs.SizeChecks.{sizes_asked_lem}

@@ -1,5 +1,6 @@
 -- `report::checks::difference_finite` meets its contract: after i steps the first i numbers are tested. Assumes nothing.
-use Rattle.lists.specs.Prelude.{◌≡◌, sym, ap₂, ◌∙◌, ◌&&◌, ◌-◌, ◌≤◌, le_antisymm, arith, length, rules}
+use Rattle.std.specs.Prelude.{◌≡◌, ◌&&◌, ◌-◌, ◌≤◌}
+use Rattle.lists.specs.Prelude.{sym, ap₂, ◌∙◌, le_antisymm, arith, length, rules}
 use Rattle.lists.specs.Steps.{all_more, all_none}
 use Rattle.report.specs.Differences.{difference_finite}
 use Rattle.report.proofs.checks.difference_finite.Statement.{statement}

@@ -1,5 +1,6 @@
 -- `report::identities::counts` meets its contract, identity by identity. Assumes nothing.
-use Rattle.lists.specs.Prelude.{◌≡◌, refl, Bool, ℕ, rules}
+use Rattle.std.specs.Prelude.{◌≡◌}
+use Rattle.lists.specs.Prelude.{refl, Bool, ℕ, rules}
 use Rattle.report.specs.declared.identities.Identity.{Identity}
 use Rattle.report.specs.Residuals.{counted}
 use Rattle.report.proofs.identities.counts.Statement.{statement}

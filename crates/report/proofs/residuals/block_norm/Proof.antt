@@ -1,5 +1,6 @@
 -- `report::residuals::block_norm` meets its contract: after a steps the first a rows of the block are seen. Assumes nothing.
-use Rattle.lists.specs.Prelude.{◌≡◌, sym, ◌∙◌, ◌-◌, ◌≤◌, le_antisymm, arith, rules}
+use Rattle.std.specs.Prelude.{◌≡◌, ◌-◌, ◌≤◌}
+use Rattle.lists.specs.Prelude.{sym, ◌∙◌, le_antisymm, arith, rules}
 use Rattle.lists.specs.Indexed.{fold}
 use Rattle.lists.specs.Steps.{fold-none, fold_more}
 use Rattle.complex.specs.Sum.{largest_from}

@@ -1,5 +1,6 @@
 -- `report::residuals::residual` meets its contract: after t steps the places of the first t times are seen. Assumes nothing.
-use Rattle.lists.specs.Prelude.{◌≡◌, sym, subst, ◌∙◌, ◌-◌, ◌≤◌, le_antisymm, arith, rules}
+use Rattle.std.specs.Prelude.{◌≡◌, ◌-◌, ◌≤◌}
+use Rattle.lists.specs.Prelude.{sym, subst, ◌∙◌, le_antisymm, arith, rules}
 use Rattle.lists.specs.Steps.{fold-none, fold_more}
 use Rattle.complex.specs.Sum.{largest_in}
 use Rattle.largest.specs.Larger.{FromZero, raised_in}

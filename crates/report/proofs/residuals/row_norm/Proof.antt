@@ -1,5 +1,6 @@
 -- `report::residuals::row_norm` meets its contract: after b steps the first b entries of the row are seen. Assumes nothing.
-use Rattle.lists.specs.Prelude.{◌≡◌, sym, ◌∙◌, ◌-◌, ◌≤◌, le_antisymm, arith, rules}
+use Rattle.std.specs.Prelude.{◌≡◌, ◌-◌, ◌≤◌}
+use Rattle.lists.specs.Prelude.{sym, ◌∙◌, le_antisymm, arith, rules}
 use Rattle.lists.specs.Steps.{fold-none, fold_more}
 use Rattle.complex.specs.Sum.{largest_from}
 use Rattle.block.specs.Operations.{cnorm}

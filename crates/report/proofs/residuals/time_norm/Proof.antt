@@ -1,5 +1,6 @@
 -- `report::residuals::time_norm` meets its contract: after u steps the first u places are seen. Assumes nothing.
-use Rattle.lists.specs.Prelude.{◌≡◌, sym, subst, ◌∙◌, ◌-◌, ◌≤◌, le_antisymm, arith, rules}
+use Rattle.std.specs.Prelude.{◌≡◌, ◌-◌, ◌≤◌}
+use Rattle.lists.specs.Prelude.{sym, subst, ◌∙◌, le_antisymm, arith, rules}
 use Rattle.lists.specs.Steps.{fold-none, fold_more}
 use Rattle.complex.specs.Sum.{largest_from}
 use Rattle.largest.specs.Larger.{FromZero, raised-from}

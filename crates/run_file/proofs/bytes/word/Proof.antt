@@ -1,5 +1,6 @@
 -- `run_file::bytes::word` meets its contract: after k steps it has the number of the last k bytes. Assumes nothing.
-use Rattle.lists.specs.Prelude.{◌≡◌, ap₂, ◌∙◌, ℕ, ◌+◌, ◌-◌, ◌*◌, ◌^◌, ◌≤◌, ◌<◌, arith, rules}
+use Rattle.std.specs.Prelude.{◌≡◌, ◌+◌, ◌-◌, ◌*◌, ◌^◌, ◌≤◌, ◌<◌}
+use Rattle.lists.specs.Prelude.{ap₂, ◌∙◌, ℕ, arith, rules}
 use Rattle.run_file.specs.Bytes.{little_endian}
 use Rattle.run_file.specs.LittleEndian.{no_bytes, byte_below, all_bytes, byte_more, bytes_fit}
 use Rattle.run_file.proofs.bytes.word.Statement.{statement}

@@ -1,5 +1,6 @@
 -- `run_file::decoding::check_file` meets its contract. Assumes nothing.
-use Rattle.lists.specs.Prelude.{◌≡◌, sym, ap, ◌∙◌, rules}
+use Rattle.std.specs.Prelude.{◌≡◌}
+use Rattle.lists.specs.Prelude.{sym, ap, ◌∙◌, rules}
 use Rattle.refusal.specs.Checks.{well_formed}
 use Rattle.run_file.specs.File.{head_checks}
 use Rattle.run_file.specs.Table.{head_is, head_refused, head_passed, head_sized}

@@ -1,5 +1,6 @@
 -- `run_file::decoding::numbers` meets its contract: after k steps the first k numbers are written over. Assumes nothing.
-use Rattle.lists.specs.Prelude.{◌≡◌, ◌≤◌, ◌+◌, ◌-◌, ◌*◌, arith, length, length-set, rules}
+use Rattle.std.specs.Prelude.{◌≡◌, ◌≤◌, ◌+◌, ◌-◌, ◌*◌}
+use Rattle.lists.specs.Prelude.{arith, length, length-set, rules}
 use Rattle.lists.specs.Filling.{over}
 use Rattle.lists.specs.Singles.{singles, singles-none, singles-step}
 use Rattle.run_file.specs.Bytes.{number}

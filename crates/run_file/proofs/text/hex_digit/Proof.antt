@@ -1,5 +1,6 @@
 -- `run_file::text::hex_digit` meets its contract. Assumes nothing.
-use Rattle.lists.specs.Prelude.{◌≡◌, ℕ, ◌+◌, ◌≤◌, ◌<◌, rules, lt-ltb, le-ltb}
+use Rattle.std.specs.Prelude.{◌≡◌, ◌+◌, ◌≤◌, ◌<◌}
+use Rattle.lists.specs.Prelude.{ℕ, rules, lt-ltb, le-ltb}
 use Rattle.run_file.specs.Text.{hex_digit}
 use Rattle.run_file.proofs.text.hex_digit.Statement.{statement}
 use Rattle.run_file.proofs.text.hex_digit.Tie as tie

@@ -1,5 +1,6 @@
 -- `run_file::text::hexadecimal` meets its contract: after k steps the k highest digits are written. Assumes nothing.
-use Rattle.lists.specs.Prelude.{◌≡◌, refl, ap, ◌∙◌, ℕ, ◌+◌, ◌-◌, ◌/◌, ◌^◌, ◌≤◌, ◌<◌, arith, length, length-set, rules}
+use Rattle.std.specs.Prelude.{◌≡◌, ◌+◌, ◌-◌, ◌/◌, ◌^◌, ◌≤◌, ◌<◌}
+use Rattle.lists.specs.Prelude.{refl, ap, ◌∙◌, ℕ, arith, length, length-set, rules}
 use Rattle.run_file.specs.Text.{hexadecimal}
 use Rattle.run_file.specs.Appended.{Appended}
 use Rattle.run_file.specs.Digits.{unit-above_0, next-unit, hex_none, hex_more, hex_all}

@@ -1,5 +1,6 @@
 -- `run_file::text::letters` meets its contract: after i steps the first i letters are written. Assumes nothing.
-use Rattle.lists.specs.Prelude.{◌≡◌, refl, ◌+◌, ◌-◌, ◌≤◌, arith, length, take, length-set, rules}
+use Rattle.std.specs.Prelude.{◌≡◌, ◌+◌, ◌-◌, ◌≤◌}
+use Rattle.lists.specs.Prelude.{refl, arith, length, take, length-set, rules}
 use Rattle.run_file.specs.Appended.{Appended, no_letter, letter_more, letters_all}
 use Rattle.run_file.proofs.text.letters.Statement.{statement}
 use Rattle.run_file.proofs.text.letters.Tie as tie

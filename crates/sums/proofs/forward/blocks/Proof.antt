@@ -1,6 +1,7 @@
 -- `sums::forward::blocks` meets its contract: after the groups before u the first u blocks of row t are finite and written, and the rows before are as they were.
 -- Assumes nothing.
-use Rattle.lists.specs.Prelude.{◌≡◌, refl, sym, ap, ◌∙◌, true, List, [], ◌∷◌, ℕ, ◌+◌, ◌-◌, ◌*◌, ◌≤◌, le_refl, le_antisymm, mul-le-mul_right, zero-mul, arith, length, Float, nan, rules, not-true}
+use Rattle.std.specs.Prelude.{◌≡◌, ◌∷◌, ◌+◌, ◌-◌, ◌*◌, ◌≤◌}
+use Rattle.lists.specs.Prelude.{refl, sym, ap, ◌∙◌, true, List, [], ℕ, le_refl, le_antisymm, mul-le-mul_right, zero-mul, arith, length, Float, nan, rules, not-true}
 use Rattle.lists.specs.Prelude.{not-false, put_mid, put_same}
 use Rattle.lists.specs.Indexed.{all_below, join}
 use Rattle.lists.specs.Agreement.{never, all_agree, join_agree}

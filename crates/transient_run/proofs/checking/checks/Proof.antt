@@ -1,5 +1,6 @@
 -- `transient_run::checking::checks` meets its contract: it makes the checks in their order. Assumes nothing.
-use Rattle.lists.specs.Prelude.{◌≡◌, sym, ap, ap₂, ◌∙◌, ℕ, ◌≤◌, List, [], ◌∷◌, eqb, length, ltb-true, Float, rules}
+use Rattle.std.specs.Prelude.{◌≡◌, ◌≤◌, ◌∷◌}
+use Rattle.lists.specs.Prelude.{sym, ap, ap₂, ◌∙◌, ℕ, List, [], eqb, length, ltb-true, Float, rules}
 use Rattle.refusal.specs.declared.Verdict.TheVariants.{Pass}
 use Rattle.refusal.specs.Verdict.{by}
 use Rattle.refusal.specs.Checks.{counter_holds, desk_known}

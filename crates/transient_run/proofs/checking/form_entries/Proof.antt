@@ -1,5 +1,6 @@
 -- `transient_run::checking::form_entries` meets its contract: a block has at most 256 entries. Assumes nothing.
-use Rattle.lists.specs.Prelude.{◌*◌, ◌≤◌, arith, rules}
+use Rattle.std.specs.Prelude.{◌*◌, ◌≤◌}
+use Rattle.lists.specs.Prelude.{arith, rules}
 use Rattle.two_time.specs.Places.{product-most}
 use Rattle.transient_run.specs.Form.{form_by, form_entries}
 use Rattle.transient_run.proofs.checking.form_entries.Statement.{statement}

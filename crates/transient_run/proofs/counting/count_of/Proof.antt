@@ -1,5 +1,6 @@
 -- `transient_run::counting::count_of` meets its contract: every step of the formula fits. Assumes nothing.
-use Rattle.lists.specs.Prelude.{ap, ◌+◌, ◌*◌, ◌≤◌, min-le_right, arith, rules}
+use Rattle.std.specs.Prelude.{◌+◌, ◌*◌, ◌≤◌}
+use Rattle.lists.specs.Prelude.{ap, min-le_right, arith, rules}
 use Rattle.two_time.specs.Places.{product-most}
 use Rattle.transient_run.specs.Products.{count_of, Steps, steps}
 use Rattle.transient_run.proofs.counting.count_of.Statement.{statement}

@@ -1,5 +1,6 @@
 -- `transient_run::counting::formed` meets its contract: the counts of two runs, and what lies between. Assumes nothing.
-use Rattle.lists.specs.Prelude.{◌≡◌, sym, ap, ◌∙◌, ℕ, ◌+◌, ◌≤◌, min, min-eq_left, le_trans, arith}
+use Rattle.std.specs.Prelude.{◌≡◌, ◌+◌, ◌≤◌}
+use Rattle.lists.specs.Prelude.{sym, ap, ◌∙◌, ℕ, min, min-eq_left, le_trans, arith}
 use Rattle.transient_run.specs.Products.{formed, count_of, formed-count, formed-on}
 use Rattle.transient_run.proofs.counting.formed.Statement.{statement}
 use Rattle.transient_run.proofs.counting.formed.Tie as tie

@@ -1,5 +1,6 @@
 -- `two_time::capacity::check_points` meets its contract: 7 is asked where the checks before it pass. Assumes nothing.
-use Rattle.lists.specs.Prelude.{◌≡◌, sym, ◌∙◌, true, [], ◌∷◌, rules}
+use Rattle.std.specs.Prelude.{◌≡◌, ◌∷◌}
+use Rattle.lists.specs.Prelude.{sym, ◌∙◌, true, [], rules}
 use Rattle.refusal.specs.Agreement.{then-after, then-refused}
 use Rattle.two_time.specs.Calls.{capacity_checks, point_checks}
 use Rattle.two_time.specs.CapacityChecks.{capacity-asked, capacity-passed}

@@ -1,5 +1,6 @@
 -- `two_time::capacity::clear_new` meets its contract, by its test. Assumes nothing.
-use Rattle.lists.specs.Prelude.{◌≡◌, sym, ap, ◌∙◌, Bool, true, false, ◌&&◌, leb, leb-true, rules}
+use Rattle.std.specs.Prelude.{◌≡◌, ◌&&◌}
+use Rattle.lists.specs.Prelude.{sym, ap, ◌∙◌, Bool, true, false, leb, leb-true, rules}
 use Rattle.lists.specs.Agreement.{both}
 use Rattle.two_time.specs.New.{fits_new}
 use Rattle.two_time.specs.SizeChecks.{fit_said}

@@ -1,5 +1,6 @@
 -- `two_time::capacity::clear_rows` meets its contract: before step t the new places of the first t rows are +0. Assumes nothing.
-use Rattle.lists.specs.Prelude.{◌≡◌, refl, sym, ap, ◌∙◌, List, ℕ, ◌+◌, ◌*◌, ◌-◌, ◌≤◌, le_antisymm, arith, length, length-take, length-drop, replicate, Float, mid_of, rules}
+use Rattle.std.specs.Prelude.{◌≡◌, ◌+◌, ◌*◌, ◌-◌, ◌≤◌}
+use Rattle.lists.specs.Prelude.{refl, sym, ap, ◌∙◌, List, ℕ, le_antisymm, arith, length, length-take, length-drop, replicate, Float, mid_of, rules}
 use Rattle.lists.specs.Indexed.{join}
 use Rattle.lists.specs.Agreement.{join_agree}
 use Rattle.complex.specs.Arithmetic.{plus_zero}

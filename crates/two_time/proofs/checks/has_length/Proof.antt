@@ -1,5 +1,6 @@
 -- `two_time::checks::has_length` meets its contract. Assumes nothing.
-use Rattle.lists.specs.Prelude.{ap, ◌∙◌, ◌&&◌, eqb, leb, ℕ, length, rules}
+use Rattle.std.specs.Prelude.{◌&&◌}
+use Rattle.lists.specs.Prelude.{ap, ◌∙◌, eqb, leb, ℕ, length, rules}
 use Rattle.two_time.specs.SizeChecks.{fits_one}
 use Rattle.two_time.proofs.checks.has_length.Statement.{statement}
 use Rattle.two_time.proofs.checks.has_length.Tie as tie

@@ -1,5 +1,6 @@
 -- `two_time::checks::holds_block` meets its contract. Assumes nothing.
-use Rattle.lists.specs.Prelude.{◌*◌, ◌≤◌, arith, le-leb, lt-leb}
+use Rattle.std.specs.Prelude.{◌*◌, ◌≤◌}
+use Rattle.lists.specs.Prelude.{arith, le-leb, lt-leb}
 use Rattle.two_time.specs.Places.{product-most}
 use Rattle.two_time.specs.Start.{holds_block}
 use Rattle.two_time.proofs.checks.holds_block.Statement.{statement}

@@ -1,5 +1,6 @@
 -- `two_time::layout::read` meets its contract. Assumes nothing.
-use Rattle.lists.specs.Prelude.{◌≡◌, sym, ap, ◌∙◌, Bool, true, false, ◌&&◌, ◌≤◌, leb, length, rules, leb-true}
+use Rattle.std.specs.Prelude.{◌≡◌, ◌&&◌, ◌≤◌}
+use Rattle.lists.specs.Prelude.{sym, ap, ◌∙◌, Bool, true, false, leb, length, rules, leb-true}
 use Rattle.lists.specs.Agreement.{both}
 use Rattle.two_time.specs.declared.layout.Stored.TheVariants.{Entry}
 use Rattle.two_time.specs.Layout.{length_of, is_place, stored_at}

@@ -1,5 +1,6 @@
 -- `two_time_exports::keldysh::decision_over` meets its contract: 3, or the question over the seven. Assumes nothing.
-use Rattle.lists.specs.Prelude.{◌≡◌, sym, ◌∙◌, ℕ, eqb, eqb-true, arith, length, rules}
+use Rattle.std.specs.Prelude.{◌≡◌}
+use Rattle.lists.specs.Prelude.{sym, ◌∙◌, ℕ, eqb, eqb-true, arith, length, rules}
 use Rattle.refusal.specs.declared.Verdict.TheVariants.{Pass}
 use Rattle.refusal.specs.Verdict.{by}
 use Rattle.refusal.specs.Checks.{fitting}
