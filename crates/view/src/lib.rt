@@ -1,5 +1,5 @@
-// A view of one two-time function (document 01, "Where the Rust leans on heap and closures"). The borrow checker covers no
-// function over such a struct, so each is thin: it takes the view apart and calls a covered function with plain parameters.
+// A view of one two-time function (document 01, "Where the Rust leans on heap and closures"). Each function over it is thin: it takes
+// the view apart and calls a function with plain parameters.
 #![tactic(auto)]
 
 mod lent;
