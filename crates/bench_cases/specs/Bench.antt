@@ -19,6 +19,7 @@ use Rattle.dyson.specs.Cases.{dyson_computation}
 use Rattle.transient_run.specs.declared.Solved.TheVariants.{Accepted}
 use Rattle.transient_run.specs.Calls.{transient_run}
 use Rattle.transient_run.specs.P12 as P12
+use Rattle.transient_run.proofs.P12 as P12Made
 use Rattle.observables.specs.declared.Observed.TheVariants.{Number, NotReal}
 use Rattle.observables.specs.Density.{density}
 use Rattle.observables.specs.Calls.{observed_number, observed, lesser_checks, particle_number}
@@ -93,7 +94,7 @@ dyson-outcome = rw (dyson_verdict_lem, P12.kernel_stage, P12.retarded_stage)
 
 run-outcome : transient_run (P12.run default_tolerance before)
     ≡ record { answer = Accepted 41; retarded = floats P12.retarded_bits; lesser = floats P12.lesser_bits; kernel = floats P12.kernel_bits; lesser_advanced = floats P12.lesser_advanced_bits }
-run-outcome = P12.outcome default_tolerance before refl retarded-inputs
+run-outcome = P12Made.outcome default_tolerance before refl retarded-inputs
 
 pub bench_cases : BenchCases
 unfolding dyson_computation check_times grid_call_checks check_support particle_number observed observed_number lesser_checks point_checks capacity_checks within_capacity point_entries density Ieee.of_int

@@ -12,6 +12,7 @@ use Rattle.two_time.specs.Example.{floats}
 use Rattle.dyson.specs.Calls.{support_checks, default_tolerance}
 use Rattle.dyson.specs.Cases.{dyson_computation}
 use Rattle.transient_run.specs.P12 as P12
+use Rattle.transient_run.proofs.P12 as P12Made
 use Rattle.observables.specs.Density.{density}
 use Rattle.observables.specs.Calls.{observed, lesser_checks, particle_number}
 use Rattle.run_file.specs.Bytes.{little_endian, numbers}
@@ -40,4 +41,4 @@ run_text_lem = refl
 -- what the program prints
 pub prints : printed File.file ≡ File.text
 unfolding printed file_text run_answer solved_text
-prints = rw (file-passes, file_run_lem, P12.outcome default_tolerance (replicate 18 plus_zero) refl retarded-inputs) run_text_lem
+prints = rw (file-passes, file_run_lem, P12Made.outcome default_tolerance (replicate 18 plus_zero) refl retarded-inputs) run_text_lem

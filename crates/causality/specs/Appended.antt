@@ -9,6 +9,7 @@ use Rattle.transient_run.specs.Form.Form.{empty}
 use Rattle.transient_run.specs.Calls.{Run, run_of, transient_run, append_point}
 use Rattle.transient_run.specs.Computation.{run_computation}
 use Rattle.transient_run.specs.P12 as P12
+use Rattle.transient_run.proofs.P12 as P12Made
 use Rattle.causality.specs.Statement.{of, SameTo}
 use Rattle.causality.specs.Sessions.{opened}
 use Rattle.causality.specs.History.{History, together}
@@ -56,4 +57,4 @@ history =
 -- count like it, and leave what it leaves
 pub appended_p12 : together (11 + 30) (append_point next)
     ≡ record { answer = Accepted 41; retarded = floats P12.retarded_bits; lesser = floats P12.lesser_bits; kernel = floats P12.kernel_bits; lesser_advanced = floats P12.lesser_advanced_bits }
-appended_p12 = sym (in-opened (append_law history) 0 (omega arith)) ∙ P12.outcome one (replicate 18 one) refl inputs_pass
+appended_p12 = sym (in-opened (append_law history) 0 (omega arith)) ∙ P12Made.outcome one (replicate 18 one) refl inputs_pass

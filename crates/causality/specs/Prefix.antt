@@ -17,6 +17,7 @@ use Rattle.transient_run.specs.Form.Form.{empty, occupied}
 use Rattle.transient_run.specs.Calls.{Run, run_of, solved, is_accepted, verdict_of, worked, transient_run}
 use Rattle.transient_run.specs.Computation.{run_computation}
 use Rattle.transient_run.specs.P12 as P12
+use Rattle.transient_run.proofs.P12 as P12Made
 use Rattle.causality.specs.Statement.{of, SameTo, Comparable}
 use Rattle.causality.specs.Stages.{SquareTo}
 
@@ -29,7 +30,7 @@ unfolding dyson_computation
 inputs_pass = refl
 
 pub passes : verdict_of 0 3 run ≡ Pass
-passes = P12.verdict one (replicate 18 one) refl inputs_pass
+passes = P12Made.verdict one (replicate 18 one) refl inputs_pass
 
 -- the run of its first two points, with x for free's last entry
 abbrev pub short : Float → Run

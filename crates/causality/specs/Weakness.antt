@@ -13,6 +13,7 @@ use Rattle.two_time.specs.New.{is_new, written}
 use Rattle.support.specs.Support.{retarded}
 use Rattle.transient_run.specs.Calls.{Run, Outcome, verdict_of, transient_run}
 use Rattle.transient_run.specs.P12 as P12
+use Rattle.transient_run.proofs.P12 as P12Made
 use Rattle.causality.specs.Statement.{Solver, of, SameTo, Demand3}
 use Rattle.causality.specs.Stages.{RowsTo}
 use Rattle.causality.specs.Made.{with_orbitals}
@@ -71,7 +72,7 @@ seen o = to_bits binary64 (get_or o.retarded 12 nan)
 
 definition_sees : seen (transient_run run) ≡ 0x400c_0000_0000_0000
 unfolding Ieee.of_bits to_bits
-definition_sees = rw (P12.outcome one (replicate 18 one) refl inputs_pass)
+definition_sees = rw (P12Made.outcome one (replicate 18 one) refl inputs_pass)
 
 all_zero_sees : seen (all_zero run) ≡ 0
 unfolding solver_of is_new written lay_out_all lay_out join Ieee.of_bits to_bits

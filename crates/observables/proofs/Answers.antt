@@ -2,20 +2,15 @@
 use Rattle.std.specs.Prelude.{◌≡◌}
 use Rattle.lists.specs.Prelude.{refl, sym, ap, ◌∙◌, List, ℕ, Float}
 use Rattle.complex.specs.declared.Complex.{Complex}
-use Rattle.complex.specs.Arithmetic.{cfinite}
 use Rattle.refusal.specs.declared.Refusal.{Refusal}
 use Rattle.refusal.specs.declared.Verdict.{Verdict}
 use Rattle.refusal.specs.declared.Verdict.TheVariants.{Pass, Refused}
-use Rattle.refusal.specs.Verdict.{◌then◌}
-use Rattle.refusal.specs.Agreement.{then-assoc, then-after, then-refused}
-use Rattle.refusal.specs.Checks.{time_below, valid_tolerance, real_within, finite_work}
+use Rattle.refusal.specs.Agreement.{then-after, then-refused}
+use Rattle.refusal.specs.Checks.{finite_work}
 use Rattle.matrix.specs.declared.DenseMatrix.{DenseMatrix}
-use Rattle.matrix.specs.declared.Checked.{Checked}
 use Rattle.block.specs.Block.{Entries, entries_in}
-use Rattle.matrix.specs.Dense.{entries_of, no_block, checked}
-use Rattle.block.specs.Operations.{product, trace, finite_trace, all_finite}
-use Rattle.observables.specs.declared.Observed.{Observed}
-use Rattle.observables.specs.declared.Observed.TheVariants.{Number}
+use Rattle.matrix.specs.Dense.{entries_of}
+use Rattle.block.specs.Operations.{trace, all_finite}
 use Rattle.observables.specs.Density.{density_of, product_of}
 use Rattle.observables.specs.Calls.{observed, lesser_checks, lesser_block_checks, particle_number, one_body_expectation}
 use Rattle.observables.specs.Passed.{ends-passed}

@@ -19,6 +19,7 @@ use Rattle.transient_run.specs.Form.Form.{empty}
 use Rattle.transient_run.specs.Calls.{Run, counter_of, run_of, booked, transient_run, append_point}
 use Rattle.transient_run.specs.Computation.{run_computation}
 use Rattle.transient_run.specs.P12 as P12
+use Rattle.transient_run.proofs.P12 as P12Made
 
 -- the largest word
 abbrev most : ℕ
@@ -48,7 +49,7 @@ after session desk = booked session desk (transient_run (P12.run_in session desk
 
 counts : (session : Session) (desk : ℕ) → desk_known desk ≡ Pass → counter_holds (counter_of session desk) (formed 0 0 3) ≡ Pass → after session desk ≡ record { products = set session.products desk (counter_of session desk + 41) }
 unfolding booked
-counts session desk known holds = rw (P12.outcome_in one (replicate 18 one) refl passed session desk known holds)
+counts session desk known holds = rw (P12Made.outcome_in one (replicate 18 one) refl passed session desk known holds)
 
 -- a counter with room for 41 and no more: accepted, and it stands at the largest word
 accepted : after (at (most - 41)) 3 ≡ at most

@@ -121,22 +121,22 @@ unfolding computation point_operands point_entries
 inputs = (refl, refl)
 
 -- "N(N+1)(2N+1)/6 + N·N·(N+1) − 3N" at three points, which a counter at 0 holds; desk 0 is a desk
-counted : (formed 0 0 3 ≡ 41) × (counter_holds 0 (formed 0 0 3) ≡ Pass) × (desk_known 0 ≡ Pass)
+pub counted : (formed 0 0 3 ≡ 41) × (counter_holds 0 (formed 0 0 3) ≡ Pass) × (desk_known 0 ≡ Pass)
 unfolding computation counter_holds desk_known formed over_new total is_new
 counted = (refl, refl, refl)
 
 module _ (tolerance : Float) (before : List Float) (long : length before ≡ 18) (passed : support_checks 3 1 tolerance (read_as 3 1 lower) (read_as 3 1 lower) ≡ Pass) where
   -- all places of slices laid out for the points
-  kernel_made_lem : new_numbers Causal 3 1 0 3 times lower lower before ≡ floats kernel_bits
+  pub kernel_made_lem : new_numbers Causal 3 1 0 3 times lower lower before ≡ floats kernel_bits
   kernel_made_lem = all-numbers Causal 3 1 times lower lower before ∙ kernel_stage
 
-  retarded_made_lem : new_green 3 1 0 3 times lower lower before before ≡ floats retarded_bits
+  pub retarded_made_lem : new_green 3 1 0 3 times lower lower before before ≡ floats retarded_bits
   retarded_made_lem = green-all 3 1 times lower lower before before ∙ ap (retarded_numbers 3 1 times lower) kernel_stage ∙ retarded_stage
 
-  lesser_advanced_made_lem : new_numbers LesserAdvanced 3 1 0 3 times imaginary (floats retarded_bits) before ≡ floats lesser_advanced_bits
+  pub lesser_advanced_made_lem : new_numbers LesserAdvanced 3 1 0 3 times imaginary (floats retarded_bits) before ≡ floats lesser_advanced_bits
   lesser_advanced_made_lem = all-numbers LesserAdvanced 3 1 times imaginary (floats retarded_bits) before ∙ lesser_advanced_stage
 
-  lesser_made_lem : new_lesser_numbers from_nothing 3 1 0 3 times (floats retarded_bits) (floats lesser_advanced_bits) before ≡ floats lesser_bits
+  pub lesser_made_lem : new_lesser_numbers from_nothing 3 1 0 3 times (floats retarded_bits) (floats lesser_advanced_bits) before ≡ floats lesser_bits
   lesser_made_lem = empty-numbers 3 1 0 3 times (floats retarded_bits) (floats lesser_advanced_bits) before ∙ all-numbers Lesser 3 1 times (floats retarded_bits) (floats lesser_advanced_bits) before ∙ lesser_stage
 
   finite : (session : Session) (desk : ℕ) → made_finite 0 3 (run_in session desk tolerance before) ≡ true
@@ -145,22 +145,9 @@ module _ (tolerance : Float) (before : List Float) (long : length before ≡ 18)
       rw (retarded_made_lem, lesser_advanced_made_lem, finite-all 3 1 times lower lower before before, all_finite_lem LesserAdvanced 3 1 times imaginary (floats retarded_bits) before)
       (rw (empty-finite 3 1 0 3 times (floats retarded_bits) (floats lesser_advanced_bits), all_finite_lem Lesser 3 1 times (floats retarded_bits) (floats lesser_advanced_bits) before, kernel-finite, kernel_stage, retarded_finite_lem, lesser_advanced-finite, lesser_finite_lem))
 
-  verdict_in : (session : Session) (desk : ℕ) → desk_known desk ≡ Pass → counter_holds (counter_of session desk) (formed 0 0 3) ≡ Pass → verdict_of 0 3 (run_in session desk tolerance before) ≡ Pass
+  pub verdict_in : (session : Session) (desk : ℕ) → desk_known desk ≡ Pass → counter_holds (counter_of session desk) (formed 0 0 3) ≡ Pass → verdict_of 0 3 (run_in session desk tolerance before) ≡ Pass
   unfolding verdict_of checks_of ◌then◌ finite_work ask form_sizes form_entries start_products
   verdict_in session desk known room = rw (finite session desk, known, sizes before long, inputs.0, inputs.1, passed, room)
-
-  pub verdict : verdict_of 0 3 (run tolerance before) ≡ Pass
-  verdict = verdict_in opened 0 counted.2 counted.1
-
-  -- "G^<(1,1) = 1.5625i, G^<(2,2) = 14.0625i", whatever tolerance passes checks 8 and 9, wherever the counter has room
-  pub outcome_in : (session : Session) (desk : ℕ) → desk_known desk ≡ Pass → counter_holds (counter_of session desk) (formed 0 0 3) ≡ Pass → transient_run (run_in session desk tolerance before)
-      ≡ record { answer = Accepted 41; retarded = floats retarded_bits; lesser = floats lesser_bits; kernel = floats kernel_bits; lesser_advanced = floats lesser_advanced_bits }
-  unfolding transient_run worked afterwards solved start_of start_products
-  outcome_in session desk known room = rw (verdict_in session desk known room, counted.0, retarded_made_lem, lesser_advanced_made_lem, lesser_made_lem, kernel_made_lem)
-
-  pub outcome : transient_run (run tolerance before)
-      ≡ record { answer = Accepted 41; retarded = floats retarded_bits; lesser = floats lesser_bits; kernel = floats kernel_bits; lesser_advanced = floats lesser_advanced_bits }
-  outcome = outcome_in opened 0 counted.2 counted.1
 
   -- and 17 where it has none: every slice is as it was
   pub full : (session : Session) (desk : ℕ) → desk_known desk ≡ Pass → counter_holds (counter_of session desk) (formed 0 0 3) ≡ Refused (by 17) → transient_run (run_in session desk tolerance before)

@@ -1,11 +1,9 @@
 -- Slices written at new places: each place is read again, and a slice written twice is the slice written at once. Assumes nothing.
 use Rattle.std.specs.Prelude.{◌≡◌, ◌≤◌, ◌<◌}
-use Rattle.lists.specs.Prelude.{sym, ◌∙◌, Bool, true, List, ℕ, max, dec_lt, arith, Float}
-use Rattle.lists.specs.Indexed.{all_in}
-use Rattle.lists.specs.Agreement.{all-each, each_all}
+use Rattle.lists.specs.Prelude.{sym, ◌∙◌, List, ℕ, max, dec_lt, arith, Float}
 use Rattle.block.specs.Agreement.{Agree}
 use Rattle.two_time.specs.Layout.{TwoTime, read_as}
-use Rattle.two_time.specs.New.{written, every_new}
+use Rattle.two_time.specs.New.{written}
 use Rattle.two_time.specs.Written.{laid_read, laid_agree, length-written, new_is, old-is, past_is}
 use Rattle.two_time.proofs.Written.{read-written}
 
