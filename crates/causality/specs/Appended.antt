@@ -14,29 +14,28 @@ use Rattle.causality.specs.Statement.{of, SameTo}
 use Rattle.causality.specs.Sessions.{opened}
 use Rattle.causality.specs.History.{History, together}
 use Rattle.causality.specs.History.History.{ran, appended}
-use Rattle.causality.specs.Appends.{in-opened, append_law}
 use Rattle.causality.specs.Prefix.{run, inputs_pass, two, to_one, square}
 
 -- two rows of two points in a capacity of 3
 abbrev in_room : Float → Float → Float → Float → Float → Float → Float → Float → List Float
 in_room a b c d e f g h = a ∷ b ∷ c ∷ d ∷ nan ∷ nan ∷ e ∷ f ∷ g ∷ h ∷ nan ∷ nan ∷ replicate 6 nan
 
-abbrev first : Run
+abbrev pub first : Run
 first =
     let lower = in_room one plus_zero plus_zero plus_zero one plus_zero one plus_zero in
     let before = replicate 18 one in
     run_of empty opened 0 (record { points = 2; capacity = 3; orbitals = 1 }) two (plus_zero ∷ one ∷ nan ∷ []) lower lower (in_room plus_zero one plus_zero one plus_zero one plus_zero one) before before before before
 
-abbrev next : Run
+abbrev pub next : Run
 next =
     let o = transient_run first in
     run_of empty (record { products = replicate 8 7 }) 5 (record { points = 2; capacity = 3; orbitals = 1 }) one P12.times P12.lower P12.lower P12.imaginary o.retarded o.lesser o.kernel o.lesser_advanced
 
-accepted : ((transient_run first).answer ≡ Accepted 11) × ((append_point next).answer ≡ Accepted 30)
+pub accepted : ((transient_run first).answer ≡ Accepted 11) × ((append_point next).answer ≡ Accepted 30)
 unfolding run_computation
 accepted = (refl, refl)
 
-inputs : (k : ℕ) → k < 2 → SameTo k first next
+pub inputs : (k : ℕ) → k < 2 → SameTo k first next
 inputs k hk =
     record {
       orbitals = refl;
@@ -46,15 +45,3 @@ inputs k hk =
       lesser_self_energy = λ t u ht hu. square (of first first.lesser_self_energy) (of next next.lesser_self_energy) refl refl refl refl t u (omega arith) (omega arith);
       start = λ a b ha hb. refl;
     }
-
--- they are the calls of P12's run
-pub history : History run (append_point next) (11 + 30)
-history =
-    appended (ran first accepted.0) next
-    (record { points = refl; capacity = refl; form = tt; inputs = inputs; retarded = refl; lesser = refl; kernel = refl; lesser_advanced = refl })
-    accepted.1
-
--- count like it, and leave what it leaves
-pub appended_p12 : together (11 + 30) (append_point next)
-    ≡ record { answer = Accepted 41; retarded = floats P12.retarded_bits; lesser = floats P12.lesser_bits; kernel = floats P12.kernel_bits; lesser_advanced = floats P12.lesser_advanced_bits }
-appended_p12 = sym (in-opened (append_law history) 0 (omega arith)) ∙ P12Made.outcome one (replicate 18 one) refl inputs_pass

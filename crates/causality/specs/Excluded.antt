@@ -24,16 +24,16 @@ abbrev pub late_start : Solver
 late_start = solver_of late_retarded (λ r. call_lesser 0 r.points r) (λ r. kernel_made 0 r.points r) (λ r. lesser_advanced_made 0 r.points r)
 
 -- what it leaves at G(0,0)
-starts-late : (r : Run) → verdict_of 0 r.points r ≡ Pass → 0 < r.points → 0 < r.orbitals → of r (late_start r).retarded 0 0 0 0 ≡ of r r.free (last r) (last r) 0 0
+pub starts-late : (r : Run) → verdict_of 0 r.points r ≡ Pass → 0 < r.points → 0 < r.orbitals → of r (late_start r).retarded 0 0 0 0 ≡ of r r.free (last r) (last r) 0 0
 unfolding solver_of
 starts-late r v hp ho = rw (left-made zeroed (verdict_of 0 r.points r) _ r.retarded v) (read_left r (late_retarded r) r.retarded (sizes 0 r.points r v).1 0 0 hp hp 0 0 ho ho)
 
-accepted : (r : Run) → verdict_of 0 r.points r ≡ Pass → is_accepted (late_start r).answer ≡ true
+pub accepted : (r : Run) → verdict_of 0 r.points r ≡ Pass → is_accepted (late_start r).answer ≡ true
 unfolding solver_of solved is_accepted
 accepted r v = rw v
 
 -- two accepted runs that agree up to 0; free's last entries are 1 and 2
-start-same : SameTo 0 run (short two)
+pub start-same : SameTo 0 run (short two)
 start-same =
     record {
       orbitals = refl;
@@ -46,14 +46,3 @@ start-same =
   where
     at-start : (y z : TwoTime) → y 0 0 0 0 ≡ z 0 0 0 0 → SquareTo 1 0 y z
     at-start y z h t u ht hu = to_zero (λ i. Agree 1 (y i u) (z i u)) (to_zero (λ j. Agree 1 (y 0 j) (z 0 j)) (one_entry (y 0 0) (z 0 0) h) u hu) t ht
-
-pub late_start_excluded : Demand3 late_start → ⊥
-unfolding Ieee.of_bits to_bits
-late_start_excluded demand =
-    let rows = (demand run (short two)).blind 0
-    (record { within = omega arith; within' = omega arith; accepted = accepted run passes; accepted' = accepted (short two) short-passes.1; same = start-same }) in
-    let same : of run run.free 2 2 0 0 ≡ of (short two) (short two).free 1 1 0 0 =
-    sym (starts-late run passes (omega arith) (omega arith)) ∙ rows.retarded 0 0 (omega arith) (omega arith) (omega arith) 0 0 (omega arith) (omega arith)
-    ∙ starts-late (short two) short-passes.1 (omega arith) (omega arith) in
-    let bits : ◌≡◌ {A = ℕ} 0x3ff0_0000_0000_0000 0x4000_0000_0000_0000 = ap (λ (z : Complex). to_bits binary64 z.re) same in
-    omega arith

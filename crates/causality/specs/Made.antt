@@ -134,7 +134,7 @@ module _ (R : Relation) (k old points points' : ℕ) (r r₀ : Run) (kept : Kept
   abbrev r' : Run
   r' = with_orbitals r₀ n
 
-  kernel_terms_lem : (t u : ℕ) → t ≤ k → RelatedTerms n R (kernel_terms old points r t u) (kernel_terms 0 points' r' t u)
+  pub kernel_terms_lem : (t u : ℕ) → t ≤ k → RelatedTerms n R (kernel_terms old points r t u) (kernel_terms 0 points' r' t u)
   kernel_terms_lem t u ht = causal_stage n R kept k _ _ same.times r.capacity r'.capacity t u ht _ _ _ _ same.free same.self_energy
 
   kernels-related : RelatedSquare n R k (of r (kernel_made old points r)) (of r' (kernel_made 0 points' r'))
@@ -151,7 +151,7 @@ module _ (R : Relation) (k old points points' : ℕ) (r r₀ : Run) (kept : Kept
       by_equals R a b refl (sym (read-new r'.capacity n 0 points' (call_retarded 0 points' r') r'.retarded room' t u (omega arith) (omega arith) (omega arith) a b ha hb))
       (held.retarded t u ht (le_trans hu ht) l (omega arith) a b ha hb))
 
-  retarded_terms_lem : (t u : ℕ) → t ≤ k → u ≤ t → RelatedTerms n R (retarded_terms old points r t u) (retarded_terms 0 points' r' t u)
+  pub retarded_terms_lem : (t u : ℕ) → t ≤ k → u ≤ t → RelatedTerms n R (retarded_terms old points r t u) (retarded_terms 0 points' r' t u)
   retarded_terms_lem t u ht hu =
       dyson_stage n R kept k _ _ same.times _ _ _ _ same.free (λ s v hs hv. kernels-related s v hs (le_trans hv hs)) (call_retarded old points r) (call_retarded 0 points' r') t u ht hu
       (λ s lo hi. rows-related s u (omega arith))
@@ -161,7 +161,7 @@ module _ (R : Relation) (k old points points' : ℕ) (r r₀ : Run) (kept : Kept
   retardeds-related =
       written-related n R k r.capacity r'.capacity old points points' _ _ r.retarded r'.retarded hk room hk' room' held.retarded (λ t u ht hu. rows-related t u ht)
 
-  lesser_advanced_terms_lem : (t u : ℕ) → t ≤ k → u ≤ k → RelatedTerms n R (lesser_advanced_terms old points r t u) (lesser_advanced_terms 0 points' r' t u)
+  pub lesser_advanced_terms_lem : (t u : ℕ) → t ≤ k → u ≤ k → RelatedTerms n R (lesser_advanced_terms old points r t u) (lesser_advanced_terms 0 points' r' t u)
   lesser_advanced_terms_lem t u ht hu =
       lesser_advanced_stage n R kept k _ _ same.times r.capacity r'.capacity t u ht _ _ _ _ same.lesser_self_energy retardeds-related hu
 
@@ -173,7 +173,7 @@ module _ (R : Relation) (k old points points' : ℕ) (r r₀ : Run) (kept : Kept
 
   -- where what G^< starts from is related
   module _ (starts : (t u : ℕ) → t ≤ k → u ≤ k → Related n R ((lesser_start old points r).block t u) ((lesser_start 0 points' r').block t u)) where
-    lesser_terms_lem : (t u : ℕ) → t ≤ k → u ≤ k → RelatedTerms n R (lesser_terms old points r t u) (lesser_terms 0 points' r' t u)
+    pub lesser_terms_lem : (t u : ℕ) → t ≤ k → u ≤ k → RelatedTerms n R (lesser_terms old points r t u) (lesser_terms 0 points' r' t u)
     lesser_terms_lem t u ht hu =
         started n R ((lesser_start old points r).block t u) ((lesser_start 0 points' r').block t u) _ _ (starts t u ht hu)
         (lesser_stage n R kept k _ _ same.times r.capacity r'.capacity t u ht _ _ _ _ retardeds-related lesser_advanceds_related hu)
@@ -196,53 +196,6 @@ pub record Fine (old points : ℕ) (r : Run) (t u a b : ℕ) : Type 0 where
   pub retarded : finite_sum r.orbitals (retarded_terms old points r t u) a b ≡ true
   pub lesser_advanced : finite_sum r.orbitals (lesser_advanced_terms old points r t u) a b ≡ true
   pub lesser : (lesser_start old points r).finite t u a b && finite_sum r.orbitals (lesser_terms old points r t u) a b ≡ true
-
-module _ (k old points points' : ℕ) (r r₀ : Run) (hk : k < points) (room : points ≤ r.capacity) (hk' : k < points') (room' : points' ≤ r₀.capacity)
-    (same : SameTo k r (with_orbitals r₀ r.orbitals)) (held : HeldTo k old points' r (with_orbitals r₀ r.orbitals)) where
-  abbrev m : ℕ
-  m = r.orbitals
-
-  abbrev s' : Run
-  s' = with_orbitals r₀ m
-
-  equal : RelatedTo Equal k r s'
-  equal = record { times = same.times; free = same.free; self_energy = same.self_energy; lesser_self_energy = same.lesser_self_energy }
-
-  pub retarded-rows : RowsTo m k (call_retarded old points r) (call_retarded 0 points' s')
-  retarded-rows = rows-related Equal k old points points' r r₀ (equal-kept m) hk room hk' room' equal held
-
-  pub retardeds : SquareTo m k (of r (retarded_made old points r)) (of s' (retarded_made 0 points' s'))
-  retardeds = retardeds-related Equal k old points points' r r₀ (equal-kept m) hk room hk' room' equal held
-
-  -- above the diagonal G^R has no term
-  retarded-fine : (t u a b : ℕ) → t ≤ k → a < m → b < m → Fine old points r t u a b → finite_sum m (retarded_terms 0 points' s' t u) a b ≡ true
-  unfolding finite_sum all_below
-  retarded-fine t u a b ht ha hb f =
-      elim (dec_lt t u) [
-        | yes less ↦ rw (let none : t - u ≡ 0 = omega arith in none)
-        | no l ↦ sym (finite_agree m _ _ (retarded_terms_lem Equal k old points points' r r₀ (equal-kept m) hk room hk' room' equal held t u ht (omega arith)) a b ha hb) ∙ f.retarded
-      ]
-
-  -- where G^< starts from the same
-  module _ (starts : (t u : ℕ) → t ≤ k → u ≤ k → SameStart m (lesser_start old points r) (lesser_start 0 points' s') t u) where
-    pub lesser-square : SquareTo m k (call_lesser old points r) (call_lesser 0 points' s')
-    lesser-square = lesser-related Equal k old points points' r r₀ (equal-kept m) hk room hk' room' equal held (λ t u ht hu. (starts t u ht hu).block)
-
-    pub made_agree : MadeTo k old points points' r s'
-    made_agree = made-related Equal k old points points' r r₀ (equal-kept m) hk room hk' room' equal held (λ t u ht hu. (starts t u ht hu).block)
-
-    pub fine_agree : (t u a b : ℕ) → t ≤ k → u ≤ k → a < m → b < m → Fine old points r t u a b → Fine 0 points' s' t u a b
-    fine_agree t u a b ht hu ha hb f =
-        record {
-          kernel = sym (finite_agree m _ _ (kernel_terms_lem Equal k old points points' r r₀ (equal-kept m) hk room hk' room' equal held t u ht) a b ha hb) ∙ f.kernel;
-          retarded = retarded-fine t u a b ht ha hb f;
-          lesser_advanced =
-              sym (finite_agree m _ _ (lesser_advanced_terms_lem Equal k old points points' r r₀ (equal-kept m) hk room hk' room' equal held t u ht hu) a b ha hb) ∙ f.lesser_advanced;
-          lesser =
-              sym (ap₂ ◌&&◌ ((starts t u ht hu).finite a b ha hb)
-              (finite_agree m _ _ (lesser_terms_lem Equal k old points points' r r₀ (equal-kept m) hk room hk' room' equal held (λ v w hv hw. (starts v w hv hw).block) t u ht hu) a b ha hb))
-              ∙ f.lesser;
-        }
 
 -- ---- all that a call makes is finite where it is at each new place
 

@@ -46,7 +46,7 @@ pub short-passes : (verdict_of 0 2 (short one) ≡ Pass) × (verdict_of 0 2 (sho
 unfolding run_computation
 short-passes = (refl, refl)
 
-answered : (r : Run) → verdict_of 0 r.points r ≡ Pass → is_accepted (transient_run r).answer ≡ true
+pub answered : (r : Run) → verdict_of 0 r.points r ≡ Pass → is_accepted (transient_run r).answer ≡ true
 unfolding transient_run worked solved is_accepted
 answered r e = rw e
 
@@ -71,7 +71,7 @@ square x y p q r s t u ht hu =
     (to_one (λ j. Agree 1 (x 0 j) (y 0 j)) (one_entry (x 0 0) (y 0 0) p) (one_entry (x 0 1) (y 0 1) q) u hu)
     (to_one (λ j. Agree 1 (x 1 j) (y 1 j)) (one_entry (x 1 0) (y 1 0) r) (one_entry (x 1 1) (y 1 1) s) u hu) t ht
 
-prefix_same : SameTo 1 run (short one)
+pub prefix_same : SameTo 1 run (short one)
 prefix_same =
     record {
       orbitals = refl;
@@ -81,9 +81,6 @@ prefix_same =
       lesser_self_energy = square (of run run.lesser_self_energy) (of (short one) (short one).lesser_self_energy) refl refl refl refl;
       start = λ a b ha hb. refl;
     }
-
-pub prefix : Comparable 1 run (short one) (is_accepted (transient_run run).answer ≡ true) (is_accepted (transient_run (short one)).answer ≡ true)
-prefix = record { within = omega arith; within' = omega arith; accepted = answered run passes; accepted' = answered (short one) short-passes.0; same = prefix_same }
 
 -- ---- "the old form counts as g0 at +0": the same two points with a block of +0
 
@@ -95,22 +92,6 @@ short_from form =
     let r = short one in
     run_of form r.session r.desk (record { points = 2; capacity = 2; orbitals = 1 }) r.tolerance r.times r.free r.self_energy r.lesser_self_energy r.retarded r.lesser r.kernel r.lesser_advanced
 
-occupied-passes : verdict_of 0 2 (short_from zero_block) ≡ Pass
+pub occupied-passes : verdict_of 0 2 (short_from zero_block) ≡ Pass
 unfolding run_computation not_empty within_block
 occupied-passes = refl
-
-occupied-same : SameTo 1 run (short_from zero_block)
-unfolding g0_of
-occupied-same =
-    record {
-      orbitals = refl;
-      times = prefix_same.times;
-      free = prefix_same.free;
-      self_energy = prefix_same.self_energy;
-      lesser_self_energy = prefix_same.lesser_self_energy;
-      start = one_entry zeros (entries_in 1 (plus_zero ∷ plus_zero ∷ [])) refl;
-    }
-
-pub prefix-occupied : Comparable 1 run (short_from zero_block) (is_accepted (transient_run run).answer ≡ true) (is_accepted (transient_run (short_from zero_block)).answer ≡ true)
-prefix-occupied =
-    record { within = omega arith; within' = omega arith; accepted = answered run passes; accepted' = answered (short_from zero_block) occupied-passes; same = occupied-same }

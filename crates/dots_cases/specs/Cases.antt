@@ -22,7 +22,7 @@ use Rattle.transient_run.specs.Computation.{run_computation}
 use Rattle.causality.specs.Statement.{of}
 use Rattle.causality.specs.Solvers.{left-made}
 use Rattle.two_dots.specs.Statement.{Split, ZeroAcross, SameFirst, Uncoupled, SameGiven, SameLeft}
-use Rattle.two_dots.specs.Theorem.{two_dots}
+use Rattle.two_dots.proofs.Theorem.{two_dots}
 
 -- orbital 0 is the first dot
 abbrev first : Split

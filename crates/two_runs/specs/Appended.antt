@@ -12,7 +12,7 @@ use Rattle.causality.specs.Sessions.{Room}
 use Rattle.causality.specs.Counter.{room, books_both, room_for-both}
 use Rattle.causality.specs.History.{History, together}
 use Rattle.causality.specs.History.History.{ran, appended}
-use Rattle.causality.specs.Appends.{own-kind, append_law}
+use Rattle.causality.proofs.Appends.{own-kind, append_law}
 use Rattle.two_runs.specs.Promises.{Step, run_step}
 use Rattle.two_runs.specs.Appending.{over, onto, append_step, next, appends, run_then_append, AllPoints}
 

@@ -6,8 +6,9 @@ use Rattle.dyson.specs.Calls.{Solved}
 use Rattle.transient_run.specs.declared.Session.{Session}
 use Rattle.transient_run.specs.Calls.{Run, Outcome, booked}
 use Rattle.causality.specs.Statement.{DysonDemanded}
-use Rattle.causality.specs.Theorem.{demand_3}
-use Rattle.causality.specs.Dyson.{dyson_of, dyson_demand}
+use Rattle.causality.proofs.Theorem.{demand_3}
+use Rattle.causality.specs.Dyson.{dyson_of}
+use Rattle.causality.proofs.Dyson.{dyson_demand}
 use Rattle.two_runs.specs.declared.Question.{Question}
 use Rattle.two_runs.specs.Promises.{Step, step_of, run_step, Answered, answers_of, run_answers, Blind}
 

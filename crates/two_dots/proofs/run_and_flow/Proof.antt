@@ -1,6 +1,6 @@
 -- `two_dots::run_and_flow` answers and leaves what the definitions give: the contracts of the two calls. Assumes nothing.
 use Rattle.two_runs.specs.Demand.{one-step}
-use Rattle.two_dots.specs.Code.{one-flow}
+use Rattle.two_dots.proofs.TwoCalls.{one-flow}
 use Rattle.two_dots.proofs.run_and_flow.Statement.{statement}
 use Rattle.two_dots.proofs.run_and_flow.Tie as tie
 

@@ -1,5 +1,5 @@
 -- `two_dots::two_dots`: L12 of the contracts of two runs and of the flow that is asked of them. Assumes nothing.
-use Rattle.two_dots.specs.Code.{separate}
+use Rattle.two_dots.proofs.TwoCalls.{separate}
 use Rattle.two_dots.proofs.two_dots.Statement.{statement}
 use Rattle.two_dots.proofs.two_dots.Tie as tie
 

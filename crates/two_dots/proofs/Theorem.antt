@@ -23,7 +23,7 @@ use Rattle.causality.specs.Made.{with_orbitals, call_retarded, call_lesser, reta
 use Rattle.causality.specs.Starts.{sum-finite as finite-from}
 use Rattle.causality.specs.Observables.{Left, flow_agree}
 use Rattle.causality.specs.Solvers.{left-made, sizes, equal-n, leaves, read_left, left}
-use Rattle.causality.specs.Theorem.{all_finite_lem, numbers, reads-no-later}
+use Rattle.causality.proofs.Theorem.{all_finite_lem, numbers, reads-no-later}
 use Rattle.two_dots.specs.Statement.{Split, ZeroAcross, SameFirst, Uncoupled, SameGiven, SameLeft, StaysUncoupled, TwoDots}
 use Rattle.two_dots.specs.Bound.{BySplit, split-kept, bound_given, within_first, across_groups}
 use Rattle.two_dots.specs.Starts.{starts-related}

@@ -5,7 +5,7 @@ use Rattle.transient_run.specs.Calls.{Run}
 use Rattle.two_runs.specs.Promises.{run_step}
 use Rattle.two_dots.specs.declared.Bond.{Bond}
 use Rattle.two_dots.specs.Promises.{Flowed, flow_of, run_flow, Separate}
-use Rattle.two_dots.specs.Theorem.{two_dots}
+use Rattle.two_dots.proofs.Theorem.{two_dots}
 
 pub one-flow : (r : Run) (q : Bond) (x : Flowed) → x.ran ≡ run_step r → x.flow ≡ (flow_of r q x.ran).flow → x ≡ run_flow r q
 one-flow r q x o f = (λ i. record { ran = x.ran; flow = f i }) ∙ ap (flow_of r q) o

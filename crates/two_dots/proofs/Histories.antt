@@ -4,9 +4,9 @@ use Rattle.lists.specs.Prelude.{refl, ℕ, arith}
 use Rattle.transient_run.specs.Calls.{Run, Outcome, is_accepted}
 use Rattle.causality.specs.Sessions.{opened, in_session}
 use Rattle.causality.specs.History.{History, together}
-use Rattle.causality.specs.Appends.{append_law, in-opened}
+use Rattle.causality.proofs.Appends.{append_law, in-opened}
 use Rattle.two_dots.specs.Statement.{Split, Uncoupled, SameGiven, TwoDots}
-use Rattle.two_dots.specs.Theorem.{two_dots}
+use Rattle.two_dots.proofs.Theorem.{two_dots}
 
 -- at desk 0 of a session opened at zero
 abbrev alone : Run → Run

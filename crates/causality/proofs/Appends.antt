@@ -17,17 +17,18 @@ use Rattle.dyson.specs.Retarded.{new_retarded}
 use Rattle.transient_run.specs.declared.Solved.TheVariants.{Accepted}
 use Rattle.transient_run.specs.declared.Session.{Session}
 use Rattle.transient_run.specs.Products.{formed, count_of, formed-count, formed-on, steps}
-use Rattle.transient_run.specs.Form.{Form, start_products, form_sizes}
+use Rattle.transient_run.specs.Form.{Form, start_products}
 use Rattle.transient_run.specs.Form.Form.{empty, occupied}
 use Rattle.transient_run.specs.Calls.{Run, counter_of, run_of, Outcome, is_accepted, kernel_made, retarded_made, lesser_advanced_made, lesser_start, lesser_made, made_finite, checks_of, verdict_of, worked, transient_run, append_point}
 use Rattle.transient_run.specs.Checks.{accepted, accepted_with, sizes_asked, slices, all_lent}
 use Rattle.transient_run.specs.FormChecks.{sizes-there, sizes-again}
 use Rattle.transient_run.specs.Ends.{work-end}
 use Rattle.causality.specs.Statement.{SameTo, SameKind, Demanded}
-use Rattle.causality.specs.Made.{HeldTo, none-held, MadeTo, retardeds, made_agree, fine_agree, made-fine, fine-made}
+use Rattle.causality.specs.Made.{HeldTo, none-held, MadeTo, made-fine, fine-made}
+use Rattle.causality.proofs.Made.{retardeds, made_agree, fine_agree}
 use Rattle.causality.specs.Starts.{one_form}
 use Rattle.causality.specs.Solvers.{sizes}
-use Rattle.causality.specs.Theorem.{all_finite_lem, demand_3}
+use Rattle.causality.proofs.Theorem.{all_finite_lem, demand_3}
 use Rattle.causality.specs.Sessions.{opened, in_session, Room}
 use Rattle.causality.specs.History.{Onto, longer, History, together, LikeRun}
 use Rattle.causality.specs.History.History.{ran, appended}

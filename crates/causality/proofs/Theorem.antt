@@ -1,6 +1,6 @@
 -- Demand 3 of the transient run. Assumes nothing.
 use Rattle.std.specs.Prelude.{◌≡◌, ◌<◌}
-use Rattle.lists.specs.Prelude.{◌∙◌, true, ℕ, arith}
+use Rattle.lists.specs.Prelude.{true, ℕ, arith}
 use Rattle.lists.specs.Agreement.{both}
 use Rattle.complex.specs.Arithmetic.{cfinite}
 use Rattle.refusal.specs.declared.Verdict.TheVariants.{Pass}
@@ -16,7 +16,8 @@ use Rattle.transient_run.specs.Calls.{Run, kernel_made, retarded_made, lesser_ad
 use Rattle.transient_run.specs.Checks.{sizes_asked}
 use Rattle.transient_run.specs.Column.{first_block, retarded-column}
 use Rattle.causality.specs.Statement.{of, Demand3}
-use Rattle.causality.specs.Made.{call_retarded, lesser_terms, call_lesser, none-held, retarded-rows, retardeds, lesser-square, made-fine}
+use Rattle.causality.specs.Made.{call_retarded, lesser_terms, call_lesser, none-held, made-fine}
+use Rattle.causality.proofs.Made.{retarded-rows, retardeds, lesser-square}
 use Rattle.causality.specs.Starts.{either-form, start-finite, sum-finite}
 use Rattle.causality.specs.Solvers.{sizes, solver_of, ReadsNoLater, meets}
 
