@@ -16,7 +16,7 @@ mod xorshift;
 
 use lent::{Head, Places};
 use norm::norm;
-use std::io::{self, BufReader, BufWriter, Read, Write};
+use std::io::{self, Read, Write};
 use words::Word;
 
 // The call of a function, and whether the function is one.
@@ -79,9 +79,6 @@ fn run(input: &mut impl Read, out: &mut impl Write, numbers: &mut [f64]) -> io::
 
 // Room for the times and a function of the most numbers.
 fn main(rt: HostRuntime) -> io::Result<()> {
-    let mut input = BufReader::new(rt.alloc(), rt.stdin())?;
-    let mut out = BufWriter::new(rt.alloc(), io::writer(&rt))?;
     let mut numbers = [0.0; 131328];
-    run(&mut input, &mut out, &mut numbers)?;
-    out.flush()
+    run(&mut rt.stdin(), &mut rt.stdout(), &mut numbers)
 }
