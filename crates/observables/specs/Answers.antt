@@ -68,7 +68,7 @@ module _ (capacity points orbitals : ℕ) (lesser : List Float) (time : ℕ) (to
       → observed (lesser_checks capacity points orbitals lesser then valid_tolerance tolerance then time_below time points then finite_work (cfinite z) then real_within tolerance z.im) z.re
       ≡ particle_number capacity points orbitals lesser time tolerance
   unfolding particle_number
-  number-order z e = rw e
+  number-order z e = rw e refl
 
 -- the trace of the product by a matrix
 module _ (capacity points orbitals : ℕ) (lesser : List Float) (time : ℕ) (x : DenseMatrix) (tolerance : Float) where
@@ -80,4 +80,4 @@ module _ (capacity points orbitals : ℕ) (lesser : List Float) (time : ℕ) (x 
       → observed (lesser_block_checks capacity points orbitals lesser x then valid_tolerance tolerance then time_below time points then asks (product orbitals o rho)) (trace orbitals (product orbitals o rho)).re
       ≡ one_body_expectation capacity points orbitals lesser time x tolerance
   unfolding one_body_expectation
-  product-order o rho e d = rw (e, d)
+  product-order o rho e d = rw (e, d) refl

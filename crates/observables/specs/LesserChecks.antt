@@ -88,6 +88,6 @@ module _ (capacity points orbitals : ℕ) (lesser : List Float) (x : DenseMatrix
   block_at time l t =
       let s = block-passed (then-pass _ _ (sizes-first ∙ l)).0 in
       let z = s.sized in (
-        record { time_below_lem = lt_of_lt_of_le (below time points t) s.within; capacity-most = z.points-most; orbitals-most = z.orbitals-most; room = le_of_eq (sym (long-first _ _ _ z.long).0) },
+        record { time_inside = lt_of_lt_of_le (below time points t) s.within; capacity-most = z.points-most; orbitals-most = z.orbitals-most; room = le_of_eq (sym (long-first _ _ _ z.long).0) },
         s.square-columns,
       )

@@ -18,7 +18,7 @@ use Rattle.two_time.specs.CapacityChecks.{capacity-passed}
 use Rattle.observables.specs.Calls.{lesser_checks}
 
 pub record Passed (capacity orbitals : ℕ) (lesser : List Float) (time : ℕ) : Type 0 where
-  pub time_below_lem : time < capacity
+  pub time_inside : time < capacity
   pub capacity-most : capacity ≤ 256
   pub orbitals-most : orbitals ≤ 16
   pub room : length_of capacity orbitals ≤ length lesser
@@ -43,7 +43,7 @@ module _ (capacity points orbitals : ℕ) (lesser : List Float) (time : ℕ) whe
   unfolding lesser_checks point_checks
   passed l t =
       let s = capacity-passed capacity points orbitals true (lesser ∷ []) (then-pass _ _ l).0 in
-      record { time_below_lem = lt_of_lt_of_le (below time points t) s.1; capacity-most = s.2.points-most; orbitals-most = s.2.orbitals-most; room = le_of_eq (sym (long-first _ _ _ s.2.long).0) }
+      record { time_inside = lt_of_lt_of_le (below time points t) s.1; capacity-most = s.2.points-most; orbitals-most = s.2.orbitals-most; room = le_of_eq (sym (long-first _ _ _ s.2.long).0) }
 
   pub time_passed : {v : Verdict} → v ≡ (lesser_checks capacity points orbitals lesser then time_below time points) → v ≡ Pass → Passed capacity orbitals lesser time
   time_passed e p = let both = then-pass _ _ (sym e ∙ p) in passed both.0 both.1
@@ -64,7 +64,7 @@ module _ (capacity points orbitals : ℕ) (lesser : List Float) (time : ℕ) whe
 
 -- where an entry of its block stands
 pub passed-placed : {capacity orbitals time a b : ℕ} {lesser : List Float} → Passed capacity orbitals lesser time → a < orbitals → b < orbitals → Placed capacity orbitals time time a b
-passed-placed l ha hb = record { first = l.time_below_lem; second = l.time_below_lem; row = ha; column = hb; stride_most = l.capacity-most; orbitals-most = l.orbitals-most }
+passed-placed l ha hb = record { first = l.time_inside; second = l.time_inside; row = ha; column = hb; stride_most = l.capacity-most; orbitals-most = l.orbitals-most }
 
 -- a block is read as a two-time function of one time
 pub block-placed : {orbitals a b : ℕ} → a < orbitals → b < orbitals → orbitals ≤ 16 → Placed 1 orbitals 0 0 a b

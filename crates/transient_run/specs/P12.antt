@@ -147,7 +147,7 @@ module _ (tolerance : Float) (before : List Float) (long : length before ≡ 18)
 
   pub verdict_in : (session : Session) (desk : ℕ) → desk_known desk ≡ Pass → counter_holds (counter_of session desk) (formed 0 0 3) ≡ Pass → verdict_of 0 3 (run_in session desk tolerance before) ≡ Pass
   unfolding verdict_of checks_of ◌then◌ finite_work ask form_sizes form_entries start_products
-  verdict_in session desk known room = rw (finite session desk, known, sizes before long, inputs.0, inputs.1, passed, room)
+  verdict_in session desk known room = simp (finite session desk, known, sizes before long, inputs.0, inputs.1, passed, room) refl
 
   -- and 17 where it has none: every slice is as it was
   pub full : (session : Session) (desk : ℕ) → desk_known desk ≡ Pass → counter_holds (counter_of session desk) (formed 0 0 3) ≡ Refused (by 17) → transient_run (run_in session desk tolerance before)

@@ -25,7 +25,7 @@ module _ (points orbitals : ℕ) (numbers : List Float) (t u a b : ℕ) where
       let entry = then-pass _ _ last.1 in
       let l = passed points points orbitals numbers t first.0 times.0 in
       let p : Placed points orbitals t u a b = record {
-        first = l.time_below_lem;
+        first = l.time_inside;
         second = below u points times.1;
         row = orbital a orbitals entry.0;
         column = orbital b orbitals entry.1;
