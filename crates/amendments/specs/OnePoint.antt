@@ -8,8 +8,7 @@ use Rattle.complex.specs.declared.Complex.{Complex}
 use Rattle.complex.specs.Arithmetic.{plus_zero, czero, real, cadd, cmul, cfinite}
 use Rattle.complex.specs.Numbers.{pair}
 use Rattle.complex.specs.Zeros.{weightless}
-use Rattle.refusal.specs.declared.Verdict.TheVariants.{Pass}
-use Rattle.refusal.specs.Verdict.{ask, ◌then◌, afterwards}
+use Rattle.refusal.specs.Verdict.{pass, ask, ◌then◌, afterwards}
 use Rattle.refusal.specs.Checks.{finite_work}
 use Rattle.refusal.specs.Agreement.{ask_pass, then-pass}
 use Rattle.block.specs.Block.{Entries, lay_out}
@@ -141,9 +140,9 @@ module _ (sums : Sums) (points n : ℕ) (times left right : List Float) (h : fin
 
 -- `causal_volterra_convolution`, and the full convolution, whose sums are as they were
 module _ (sums : Sums) (points n : ℕ) (times left right out : List Float) where
-  pub convolution_kept : (input_checks points n times (left ∷ right ∷ []) (out ∷ []) then finite_work (finite_before sums points n times left right)) ≡ Pass
-      → convolved_by sums points n times left right out ≡ record { answer = Pass; out = numbers_before sums points n times left right }
-  unfolding convolved_by ◌then◌ finite_work ask afterwards
+  pub convolution_kept : (input_checks points n times (left ∷ right ∷ []) (out ∷ []) then finite_work (finite_before sums points n times left right)) ≡ pass
+      → convolved_by sums points n times left right out ≡ record { answer = pass; out = numbers_before sums points n times left right }
+  unfolding convolved_by finite_work ask afterwards
   convolution_kept h =
       let p = then-pass (input_checks points n times (left ∷ right ∷ []) (out ∷ [])) _ h in
       let e = ask_pass _ _ p.1 in
@@ -175,10 +174,10 @@ module _ (points n : ℕ) (tolerance : Float) (times free self_energy retarded k
   abbrev equation : Equation
   equation = equation_of points n times free self_energy
 
-  pub dyson-kept : (checks_before equation tolerance [] (retarded ∷ kernel ∷ []) then finite_work (solved_before equation)) ≡ Pass
+  pub dyson-kept : (checks_before equation tolerance [] (retarded ∷ kernel ∷ []) then finite_work (solved_before equation)) ≡ pass
       → dyson_with_tolerance points n tolerance times free self_energy retarded kernel
-      ≡ record { answer = Pass; retarded = retarded_before equation; kernel = kernel_before equation }
-  unfolding dyson_with_tolerance dyson_verdict ◌then◌ finite_work ask afterwards
+      ≡ record { answer = pass; retarded = retarded_before equation; kernel = kernel_before equation }
+  unfolding dyson_with_tolerance dyson_verdict finite_work ask afterwards
   dyson-kept h =
       let p = then-pass (checks_before equation tolerance [] (retarded ∷ kernel ∷ [])) _ h in
       let e = ask_pass (solved_before equation) _ p.1 in
@@ -199,9 +198,9 @@ module _ (points n : ℕ) (times : List Float) (left right out : Components) whe
       finite_before Causal points n times left.retarded right.retarded
       && (finite_before AntiCausal points n times left.advanced right.advanced && (finite left.lesser right.lesser && finite left.greater right.greater))
 
-  pub product-kept : (input_checks points n times (listed left ++ listed right) (listed out) then finite_work product_finite_before) ≡ Pass
-      → langreth_product points n times left right out ≡ record { answer = Pass; out = product_before }
-  unfolding langreth_product product_verdict product_finite ◌then◌ finite_work ask afterwards
+  pub product-kept : (input_checks points n times (listed left ++ listed right) (listed out) then finite_work product_finite_before) ≡ pass
+      → langreth_product points n times left right out ≡ record { answer = pass; out = product_before }
+  unfolding langreth_product product_verdict product_finite finite_work ask afterwards
   product-kept h =
       let p = then-pass (input_checks points n times (listed left ++ listed right) (listed out)) _ h in
       let f = both (finite_before Causal points n times left.retarded right.retarded) _ (ask_pass product_finite_before _ p.1) in

@@ -1,11 +1,10 @@
 -- Document 02, L2: "Runs that had an answer keep it." A transient run in a capacity, as it was where the term was formed also at an interval of one
 -- point (OnePoint): accepted then, it is accepted now and leaves the same bits. Assumes nothing.
-use Rattle.std.specs.Prelude.{◌≡◌, ◌&&◌, ◌||◌, ◌<◌}
+use Rattle.std.specs.Prelude.{Ok, ◌≡◌, ◌&&◌, ◌||◌, ◌<◌}
 use Rattle.lists.specs.Prelude.{refl, sym, ap, ap₂, ◌∙◌, Bool, true, false, not, cond, List, ℕ, max, arith, leb, ltb-true, Float}
 use Rattle.lists.specs.Indexed.{all_in}
 use Rattle.lists.specs.Agreement.{both, all-each, each_all}
-use Rattle.refusal.specs.declared.Verdict.TheVariants.{Pass}
-use Rattle.refusal.specs.Verdict.{ask, ◌then◌, zeroed, afterwards}
+use Rattle.refusal.specs.Verdict.{pass, ask, ◌then◌, zeroed, afterwards}
 use Rattle.refusal.specs.Checks.{finite_work}
 use Rattle.refusal.specs.Agreement.{ask_pass, then-pass}
 use Rattle.two_time.specs.declared.sums.Sums.{Sums}
@@ -19,7 +18,6 @@ use Rattle.two_time.specs.Start.{new_lesser_numbers, new_lesser_finite}
 use Rattle.two_time.specs.Started.{empty-numbers, empty-finite}
 use Rattle.dyson.specs.Retarded.{new_retarded, new_retarded_finite}
 use Rattle.dyson.specs.Calls.{solved_new_finite}
-use Rattle.transient_run.specs.declared.Solved.TheVariants.{Accepted}
 use Rattle.transient_run.specs.Products.{formed}
 use Rattle.transient_run.specs.Form.{Form, start_of, start_products}
 use Rattle.transient_run.specs.Form.Form.{empty}
@@ -151,17 +149,17 @@ module _ (old points : ℕ) (r : Run) where
         (empty-lesser_finite old points r start ∙ sym (ap₂ (new_finite Lesser r.capacity r.orbitals old points r.times) retarded-kept lesser_advanced-kept)
         ∙ new_finite-kept Lesser r.capacity r.orbitals old points r.times retarded_before lesser_advanced_before second.1))
 
-  worked_kept : r.form ≡ empty → (cleared : List Float → List Float) → (checks_of old points r then finite_work made_before) ≡ Pass
-      → worked old points r cleared ≡ record { answer = Accepted (formed 0 old points); retarded = retarded_before; lesser = lesser_before; kernel = kernel_before; lesser_advanced = lesser_advanced_before }
-  unfolding worked verdict_of solved ◌then◌ finite_work ask afterwards start_products
+  worked_kept : r.form ≡ empty → (cleared : List Float → List Float) → (checks_of old points r then finite_work made_before) ≡ pass
+      → worked old points r cleared ≡ record { answer = Ok (formed 0 old points); retarded = retarded_before; lesser = lesser_before; kernel = kernel_before; lesser_advanced = lesser_advanced_before }
+  unfolding worked verdict_of solved finite_work ask afterwards start_products
   worked_kept start cleared h =
       let p = then-pass (checks_of old points r) _ h in
       let e = ask_pass made_before _ p.1 in
-      rw (p.0, finite-kept start e, lesser-kept start e, lesser_advanced-kept start e, retarded-kept start e, kernel-kept start e) (ap (λ (form : Form). record { answer = Accepted (formed (start_products form) old points); retarded = retarded_made old points r; lesser = lesser_made old points r; kernel = kernel_made old points r; lesser_advanced = lesser_advanced_made old points r }) start)
+      rw (p.0, finite-kept start e, lesser-kept start e, lesser_advanced-kept start e, retarded-kept start e, kernel-kept start e) (ap (λ (form : Form). record { answer = Ok (formed (start_products form) old points); retarded = retarded_made old points r; lesser = lesser_made old points r; kernel = kernel_made old points r; lesser_advanced = lesser_advanced_made old points r }) start)
 
 -- `transient_run`
-pub run-kept : (r : Run) → r.form ≡ empty → (checks_of 0 r.points r then finite_work (made_before 0 r.points r)) ≡ Pass
+pub run-kept : (r : Run) → r.form ≡ empty → (checks_of 0 r.points r then finite_work (made_before 0 r.points r)) ≡ pass
     → transient_run r
-    ≡ record { answer = Accepted (formed 0 0 r.points); retarded = retarded_before 0 r.points r; lesser = lesser_before 0 r.points r; kernel = kernel_before 0 r.points r; lesser_advanced = lesser_advanced_before 0 r.points r }
+    ≡ record { answer = Ok (formed 0 0 r.points); retarded = retarded_before 0 r.points r; lesser = lesser_before 0 r.points r; kernel = kernel_before 0 r.points r; lesser_advanced = lesser_advanced_before 0 r.points r }
 unfolding transient_run
 run-kept r start h = worked_kept 0 r.points r start zeroed h

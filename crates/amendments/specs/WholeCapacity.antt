@@ -4,12 +4,12 @@
 use Rattle.std.specs.Prelude.{◌≡◌, ◌&&◌, ◌∷◌, ◌+◌, ◌*◌, ◌<◌, ◌≤◌}
 use Rattle.lists.specs.Prelude.{refl, sym, ap, ap₂, ◌∙◌, Bool, true, List, [], ℕ, zero, suc, le_refl, zero-add, suc-add, add_comm, suc-mul, zero-mul, eqb, length, le-leb, eqb-true, Float, leb, ltb, lt-ltb}
 use Rattle.lists.specs.Agreement.{both}
-use Rattle.refusal.specs.declared.Verdict.{Verdict}
-use Rattle.refusal.specs.Verdict.{by, ◌then◌, ask_all, zeroed, afterwards}
+use Rattle.refusal.specs.Verdict.{pass, Verdict, by, ◌then◌, ask_all, zeroed, afterwards}
 use Rattle.refusal.specs.Checks.{large_enough, not_empty, within_limits, within_block, fitting, finite_at, finite_entries, finite_work, within_capacity, counter_holds, desk_known}
 use Rattle.refusal.specs.Agreement.{ask_pass, ask_yes, then-agree, then-assoc, then-after, then-end}
 use Rattle.matrix.specs.declared.DenseMatrix.{DenseMatrix}
 use Rattle.matrix.specs.Dense.{count_of}
+use Rattle.grid.specs.Calls.{grid_checks}
 use Rattle.two_time.specs.declared.sums.Sums.TheVariants.{Causal, LesserAdvanced, Lesser}
 use Rattle.two_time.specs.Layout.{length_of}
 use Rattle.two_time.specs.Sums.{sums_numbers, sums_finite, new_numbers, new_finite}
@@ -71,9 +71,13 @@ module _ (points n : ℕ) (lesser : List Float) where
       then (finite_entries 0 lesser (length lesser) then finite_entries 1 x.values (count_of x)))
   unfolding lesser_block_checks within_capacity fitting
   block_checks-all x =
-      then-agree _ _ _ _ refl (λ a. then-agree _ _ _ _ refl (λ b. then-agree _ _ _ _ refl (λ c.
-      let fits = both (eqb (length lesser) (length_of points n)) _ (ask_pass _ (by 3) c) in
-      then-after _ _ (ask_yes _ (by 16) (le-leb points points (le_refl points)))
+      let held = eqb (length lesser) (length_of points n) in
+      let block = eqb x.rows n && eqb x.columns n in
+      then-agree (large_enough points n then not_empty x.rows x.columns) _ _ _ refl (λ a.
+      then-agree (within_limits points n then within_block x.rows x.columns) _ _ _ refl (λ b.
+      then-agree (fitting (held && block)) _ _ _ refl (λ c.
+      let fits = both held block (ask_pass _ (by 3) c) in
+      then-after (within_capacity points points) _ (ask_yes _ (by 16) (le-leb points points (le_refl points)))
       ∙ ap (λ (v : Verdict). v then finite_entries 1 x.values (count_of x)) (entries-all points n 0 lesser (eqb-true _ _ fits.0)))))
 
 -- ---- the run
@@ -120,10 +124,12 @@ module _ (session : Session) (desk points n : ℕ) (tolerance : Float) (times fr
   checks-all =
       then-assoc (desk_known desk) _ _
       ∙ ap (λ (v : Verdict). desk_known desk then v)
-      (then-agree _ _ _ _ (capacity-points points n (eqb (length times) points) slices) (λ p.
+      (then-agree (capacity_checks points points n (eqb (length times) points) slices) _ _ _ (capacity-points points n (eqb (length times) points) slices) (λ p.
       let z = sizes-passed points n (eqb (length times) points) slices (sym (capacity-points points n (eqb (length times) points) slices) ∙ p) in
       let l = lengths z in
-      then-agree _ _ _ _ refl (λ g. then-agree _ _ _ _ (then-end _ ∙ operands-all points n 0 (free ∷ self_energy ∷ lesser_self_energy ∷ []) (l.0, (l.1.0, (l.1.1.0, tt)))) (λ o. refl)))
+      let operands = free ∷ self_energy ∷ lesser_self_energy ∷ [] in
+      let entries = point_operands points points n 0 operands in
+      then-agree (grid_checks points times) _ _ _ refl (λ g. then-agree (entries then pass) _ _ _ (then-end entries ∙ operands-all points n 0 operands (l.0, (l.1.0, (l.1.1.0, tt)))) (λ o. refl)))
       ∙ simp then-assoc)
 
   green : retarded_made 0 points run ≡ retarded_of q

@@ -1,8 +1,7 @@
 -- What a slice holds after a store at each of its places, and after none. Assumes nothing.
-use Rattle.std.specs.Prelude.{◌≡◌, ◌&&◌, ◌∷◌}
-use Rattle.lists.specs.Prelude.{refl, ℕ, List, [], arith, eqb, length, set, Float, eq-eqb, ne_eqb}
-use Rattle.refusal.specs.declared.Decision.{Decision}
-use Rattle.refusal.specs.declared.Decision.TheVariants.{Yes, No, Refused as Undecided}
+use Rattle.refusal.specs.declared.Refusal.{Refusal}
+use Rattle.std.specs.Prelude.{Result, Ok, Err, ◌≡◌, ◌∷◌}
+use Rattle.lists.specs.Prelude.{Bool, true, false, refl, ℕ, List, [], arith, length, set, Float, eq-eqb, ne_eqb}
 use Rattle.matrix.specs.declared.DenseMatrix.{DenseMatrix}
 use Rattle.answers.specs.Answer.{written, decision_byte, slices, block_written}
 
@@ -36,11 +35,11 @@ module _ {A : Type 0} where
   three (x ∷ y ∷ z ∷ w ∷ xs) a b c h = absurd (omega arith)
 
 -- a decision leaves a slice of another length as it was
-pub no_byte : (d : Decision) (xs : List ℕ) → (length xs ≡ 1 → ⊥) → xs ≡ decision_byte d xs
+pub no_byte : (d : Result Bool Refusal) (xs : List ℕ) → (length xs ≡ 1 → ⊥) → xs ≡ decision_byte d xs
 unfolding decision_byte
-no_byte Yes xs h = none_written (1 ∷ []) xs h
-no_byte No xs h = none_written (0 ∷ []) xs h
-no_byte (Undecided r) xs h = refl
+no_byte (Ok true) xs h = none_written (1 ∷ []) xs h
+no_byte (Ok false) xs h = none_written (0 ∷ []) xs h
+no_byte (Err r) xs h = refl
 
 -- a block in slices of two and 512, and in others
 module _ (x : DenseMatrix) (shape : List ℕ) (out : List Float) where

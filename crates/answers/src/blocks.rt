@@ -1,10 +1,10 @@
 // A block as it is passed, and one that is made, by its rows and columns and its 512 numbers, also beside a refusal: there it has no rows and is +0 throughout.
 ghost use Rattle.std.specs.Prelude.{◌≡◌};
-ghost use Rattle.answers.specs.Answer.{block, slices, block_written, after_block, answers_block};
+ghost use Rattle.answers.specs.Answer.{block, after_block, answers_block};
 
-use crate::numbers::copy;
-use crate::{with_output, write_answer};
-use matrix::{Checked, DenseMatrix};
+use crate::{copy, with_output, write_answer};
+use matrix::DenseMatrix;
+use refusal::Refusal;
 
 // A block as it is passed: rows, columns and 512 numbers.
 pub fn block(rows: usize, columns: usize, values: &[f64; 512]) -> DenseMatrix
@@ -17,23 +17,10 @@ pub fn block(rows: usize, columns: usize, values: &[f64; 512]) -> DenseMatrix
     }
 }
 
-// Writes a block to slices of two and 512, and nothing if either has another length.
-fn copy_block(block: DenseMatrix, shape: &mut [usize], out: &mut [f64])
-    ensures { slices shape.new out.new ≡ block_written block shape.old out.old }
-{
-    let values = block.values;
-    if shape.len() == 2 {
-        if out.len() == 512 {
-            shape[0] = block.rows;
-            shape[1] = block.columns;
-            copy(&values, out);
-        }
-    }
-}
-
-// The refusal's number, with the block in `shape` and `out`.
+// The refusal's number, with the block in `shape` and `out`, where they are slices of two and 512; otherwise both stay as they were.
+#[tactic(auto, unfolding(crate::specs::Answer::block_answer, crate::specs::Answer::block_written, crate::specs::Answer::written))]
 pub fn write_block(
-    made: Checked,
+    made: Result<DenseMatrix, Refusal>,
     shape: &mut [usize],
     out: &mut [f64],
     places: &mut [usize],
@@ -41,9 +28,12 @@ pub fn write_block(
 ) -> u8
     ensures { after_block result shape out places part ≡ answers_block made shape out places part }
 {
-    let asked = made.verdict;
-    let block = made.block;
-    let verdict = with_output((shape.len() == 2) & (out.len() == 512), asked);
-    copy_block(block, shape, out);
+    let fits = shape.len() == 2 && out.len() == 512;
+    let verdict = with_output(fits, made.and(Ok(())));
+    if fits {
+        let block = made.unwrap_or(DenseMatrix::NONE);
+        copy(&[block.rows, block.columns], shape);
+        copy(&block.values, out);
+    }
     write_answer(verdict, places, part)
 }

@@ -7,59 +7,47 @@ pub mod blocks;
 pub mod decision;
 pub mod numbers;
 
-ghost use Rattle.std.specs.Prelude.{◌≡◌, ◌∷◌};
-ghost use Rattle.lists.specs.Prelude.{[]};
+ghost use Rattle.std.specs.Prelude.{◌≡◌};
 ghost use Rattle.answers.specs.Answer.{written, after, answers, with_output};
 
 use refusal::checks::fitting;
 use refusal::{Refusal, Verdict};
 
-// Writes the operand, the first and the second place to a slice of three.
-fn write_places(r: Refusal, places: &mut [usize])
-    ensures { places.new ≡ written (r.operand ∷ r.first ∷ r.second ∷ []) places.old }
+// Copies the items to a slice of as many, and nothing to another.
+#[tactic(auto, unfolding(crate::specs::Answer::written))]
+fn copy<T: Copy>(items: &[T], out: &mut [T])
+    ensures { out.new ≡ written items.now out.old }
 {
-    if places.len() == 3 {
-        places[0] = r.operand;
-        places[1] = r.first;
-        places[2] = r.second;
-    }
-}
-
-// Writes the part to a slice of one.
-fn write_part(r: Refusal, part: &mut [f64])
-    ensures { part.new ≡ written (r.part ∷ []) part.old }
-{
-    if part.len() == 1 {
-        part[0] = r.part;
+    if out.len() == items.len() {
+        out.copy_from_slice(items);
     }
 }
 
 // The refusal's number, with what it carries in `places` and `part`.
+#[tactic(auto, unfolding(crate::specs::Answer::answer_of))]
 pub fn write_answer(verdict: Verdict, places: &mut [usize], part: &mut [f64]) -> u8
     ensures { after result places part ≡ answers verdict places part }
 {
     match verdict {
-        Verdict::Pass => 0,
-        Verdict::Refused(r) => {
-            write_places(r, places);
-            write_part(r, part);
+        Ok(()) => 0,
+        Err(r) => {
+            copy(&[r.operand, r.first, r.second], places);
+            copy(&[r.part], part);
             r.number
         }
     }
 }
 
 // The verdict of a call once check 3 asks its output too: a refusal by 1 or 2 stands, all others come after 3.
+#[tactic(auto, unfolding(crate::specs::Answer::with_output))]
 fn with_output(fits: bool, verdict: Verdict) -> Verdict
     ensures { result ≡ with_output fits verdict }
 {
     match verdict {
-        Verdict::Pass => fitting(fits),
-        Verdict::Refused(r) => {
-            if (r.number == 1) | (r.number == 2) {
-                verdict
-            } else {
-                fitting(fits).then(verdict)
-            }
+        Err(r) if r.number == 1 || r.number == 2 => verdict,
+        _ => {
+            fitting(fits)?;
+            verdict
         }
     }
 }

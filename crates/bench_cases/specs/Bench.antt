@@ -1,12 +1,11 @@
 -- Document 01, "Bench cases (P is proved)". Assumes nothing.
-use Rattle.std.specs.Prelude.{◌≡◌, ◌∷◌, ◌+◌, ◌-◌, ◌*◌, ◌^◌}
+use Rattle.std.specs.Prelude.{Ok, Err, ◌≡◌, ◌∷◌, ◌+◌, ◌-◌, ◌*◌, ◌^◌}
 use Rattle.lists.specs.Prelude.{refl, false, List, [], suc, replicate, Float, inf, binary64, of_bits, to_bits}
 use Rattle.std.specs.Float.Ieee as Ieee
 use Rattle.complex.specs.declared.Complex.{Complex}
 use Rattle.complex.specs.Arithmetic.{plus_zero, one, real}
 use Rattle.norm.specs.Norm.{norm}
-use Rattle.refusal.specs.declared.Verdict.TheVariants.{Pass, Refused}
-use Rattle.refusal.specs.Verdict.{by, ask, ◌then◌, afterwards}
+use Rattle.refusal.specs.Verdict.{pass, by, ask, ◌then◌, afterwards}
 use Rattle.refusal.specs.Checks.{finite_work, within_capacity}
 use Rattle.grid.specs.Calls.{grid_call_checks, check_times}
 use Rattle.two_time.specs.Layout.{read_as}
@@ -16,7 +15,6 @@ use Rattle.two_time.specs.Computation.{checks}
 use Rattle.two_time.specs.Example.{floats}
 use Rattle.dyson.specs.Calls.{Equation, Solved, equation_of, default_tolerance, solved_finite, dyson_verdict, dyson_with_tolerance, dyson}
 use Rattle.dyson.specs.Cases.{dyson_computation}
-use Rattle.transient_run.specs.declared.Solved.TheVariants.{Accepted}
 use Rattle.transient_run.specs.Calls.{transient_run}
 use Rattle.transient_run.specs.P12 as P12
 use Rattle.transient_run.proofs.P12 as P12Made
@@ -52,48 +50,48 @@ pub record BenchCases : Type 0 where
   pub p5-beside : to_bits binary64 (whole (10 * 2 ^ 50 + 2 ^ 26 + 2)) ≡ suc (to_bits binary64 (whole (10 * 2 ^ 50 + 2 ^ 26)))
   pub p5 : norm (whole (2 ^ 53 - 2 ^ 26 - 1)) (whole (6 * 2 ^ 50 + 6 * 2 ^ 25)) ≡ whole (10 * 2 ^ 50 + 2 ^ 26)
   -- "P6 times 0,0: 5 at 1. P7 times −largest, largest: 6."
-  pub p6 : check_times 2 (whole 0 ∷ whole 0 ∷ []) ≡ Refused (record { number = 5; operand = 0; first = 1; second = 0; part = plus_zero })
-  pub p7 : check_times 2 (Ieee.neg largest ∷ largest ∷ []) ≡ Refused (by 6)
+  pub p6 : check_times 2 (whole 0 ∷ whole 0 ∷ []) ≡ Err (record { number = 5; operand = 0; first = 1; second = 0; part = plus_zero })
+  pub p7 : check_times 2 (Ieee.neg largest ∷ largest ∷ []) ≡ Err (by 6)
   -- "P8 ... tolerance 0.5: with entry (0,1) 0.5 retarded; with entry (0,1) 0.75 number 9 at (0,1)."
-  pub p8-retarded : check_support 2 1 (above half) half ≡ Pass
-  pub p8-refused : check_support 2 1 (above three_quarters) half ≡ Refused (record { number = 9; operand = 0; first = 0; second = 1; part = three_quarters })
+  pub p8-retarded : check_support 2 1 (above half) half ≡ pass
+  pub p8-refused : check_support 2 1 (above three_quarters) half ≡ Err (record { number = 9; operand = 0; first = 0; second = 1; part = three_quarters })
   -- "P9 entry (1,0) with both parts largest, entry (0,1) 1: residual 0, retarded."
   pub p9-residual : residual 2 1 (read_as 2 1 huge) 0 1 ≡ plus_zero
-  pub p9 : check_support 2 1 huge half ≡ Pass
+  pub p9 : check_support 2 1 huge half ≡ pass
   -- "P10 imaginary 0.5, tolerance 0.5: a number; 0.75: 14."
   pub p10-number : particle_number 2 2 1 (lesser_with half) 0 half ≡ Number (whole 2)
   pub p10-refused : particle_number 2 2 1 (lesser_with three_quarters) 0 half ≡ NotReal three_quarters
   pub p10-answers : observed_number (particle_number 2 2 1 (lesser_with half) 0 half) ∷ observed_number (particle_number 2 2 1 (lesser_with three_quarters) 0 half) ∷ [] ≡ 0 ∷ 14 ∷ []
   -- "P11 times 0,1,2, n=1, free and self-energy 1 on and below the diagonal, +0 above: K(2,0) = 2, G(1,0) = 1.5, G(2,0) = 3.5."
-  pub p11-answer : p11-run.answer ≡ Pass
+  pub p11-answer : p11-run.answer ≡ pass
   pub p11-kernel : entry p11-run.kernel 2 0 ≡ real (whole 2)
   pub p11-first : entry p11-run.retarded 1 0 ≡ real (of_bits binary64 0x3ff8_0000_0000_0000)
   pub p11-second : entry p11-run.retarded 2 0 ≡ real (of_bits binary64 0x400c_0000_0000_0000)
   -- "P12 the same with Σ^< = i everywhere: G^<(1,1) = 1.5625i, G^<(2,2) = 14.0625i. The program prints:" the text of its four lines
-  pub p12_answer : (transient_run (P12.run default_tolerance before)).answer ≡ Accepted 41
+  pub p12_answer : (transient_run (P12.run default_tolerance before)).answer ≡ Ok 41
   pub p12_first : entry (transient_run (P12.run default_tolerance before)).lesser 1 1 ≡ imaginary (of_bits binary64 0x3ff9_0000_0000_0000)
   pub p12_second : entry (transient_run (P12.run default_tolerance before)).lesser 2 2 ≡ imaginary (of_bits binary64 0x402c_2000_0000_0000)
   pub p12_text : printed File.file ≡ File.text
 
 -- ---- the cases, by computation; P11 and P12 from the stages of the run (specs/P12.antt of `transient_run`) and Printing.antt
 
-dyson-inputs : input_checks 3 1 P12.times (P12.lower ∷ P12.lower ∷ []) (before ∷ before ∷ []) ≡ Pass
+dyson-inputs : input_checks 3 1 P12.times (P12.lower ∷ P12.lower ∷ []) (before ∷ before ∷ []) ≡ pass
 unfolding checks
 dyson-inputs = refl
 
 abbrev equation : Equation
 equation = equation_of 3 1 P12.times P12.lower P12.lower
 
-dyson_verdict_lem : dyson_verdict equation default_tolerance before before ≡ Pass
-unfolding dyson_verdict solved_finite finite_work ask ◌then◌
+dyson_verdict_lem : dyson_verdict equation default_tolerance before before ≡ pass
+unfolding dyson_verdict solved_finite finite_work ask
 dyson_verdict_lem = rw (dyson-inputs, retarded-inputs, P12.kernel-finite, P12.kernel_stage, P12.retarded_finite_lem)
 
-dyson-outcome : p11-run ≡ record { answer = Pass; retarded = floats P12.retarded_bits; kernel = floats P12.kernel_bits }
+dyson-outcome : p11-run ≡ record { answer = pass; retarded = floats P12.retarded_bits; kernel = floats P12.kernel_bits }
 unfolding dyson dyson_with_tolerance afterwards
 dyson-outcome = rw (dyson_verdict_lem, P12.kernel_stage, P12.retarded_stage)
 
 run-outcome : transient_run (P12.run default_tolerance before)
-    ≡ record { answer = Accepted 41; retarded = floats P12.retarded_bits; lesser = floats P12.lesser_bits; kernel = floats P12.kernel_bits; lesser_advanced = floats P12.lesser_advanced_bits }
+    ≡ record { answer = Ok 41; retarded = floats P12.retarded_bits; lesser = floats P12.lesser_bits; kernel = floats P12.kernel_bits; lesser_advanced = floats P12.lesser_advanced_bits }
 run-outcome = P12Made.outcome default_tolerance before refl retarded-inputs
 
 pub bench_cases : BenchCases

@@ -1,9 +1,9 @@
 -- P12's run file makes the program print P12's text: the file passes, its run is P12's, and the text is that of the run's numbers. Assumes
 -- nothing.
+use Rattle.refusal.specs.Verdict.{pass}
 use Rattle.std.specs.Prelude.{◌≡◌}
 use Rattle.lists.specs.Prelude.{refl, replicate}
 use Rattle.complex.specs.Arithmetic.{plus_zero}
-use Rattle.refusal.specs.declared.Verdict.TheVariants.{Pass}
 use Rattle.refusal.specs.Checks.{within_program, well_formed, within_capacity}
 use Rattle.two_time.specs.Layout.{read_as}
 use Rattle.two_time.specs.Calls.{capacity_checks, point_entries, point_checks}
@@ -22,11 +22,11 @@ use Rattle.run_file.specs.Program.{run_text, solved_text, run_answer, file_text,
 use Rattle.run_file.specs.P12 as File
 
 -- P11's and P12's inputs are retarded
-pub retarded-inputs : support_checks 3 1 default_tolerance (read_as 3 1 P12.lower) (read_as 3 1 P12.lower) ≡ Pass
+pub retarded-inputs : support_checks 3 1 default_tolerance (read_as 3 1 P12.lower) (read_as 3 1 P12.lower) ≡ pass
 unfolding dyson_computation
 retarded-inputs = refl
 
-file-passes : file_checks File.file ≡ Pass
+file-passes : file_checks File.file ≡ pass
 unfolding checks file_checks table_fits little_endian well_formed within_program
 file-passes = refl
 

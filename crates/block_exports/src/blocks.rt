@@ -1,5 +1,5 @@
 // The operations on blocks. A block is passed by its rows, its columns and 512 numbers, of which the first 2·rows·columns are its entries; one
-// that is made is written to `shape` and `out`, also beside a refusal.
+// that is made is written to `shape` and `out`, also beside a refusal. That the parts of a block stand one by one in each function is the interface in C.
 ghost use Rattle.std.specs.Prelude.{◌≡◌};
 ghost use Rattle.matrix.specs.Calls.{from_numbers, from_scalar, zero_of, identity_of, adjoint_of, product_of, scale_of, add_of, subtract_of, trace_of, entry_of, max_difference_of, is_hermitian};
 ghost use Rattle.answers.specs.Answer.{after_with, complex_numbers, measured_numbers, answers_numbers, answers_decision, block, after_block, answers_block};

@@ -16,20 +16,17 @@ pub extern "C" fn leechgrommet_norm(re: f64, im: f64) -> f64
     norm::norm(re, im)
 }
 
-// For measuring, x ← x·y, so that no product can be left out: the first number of a·b·..·b, `steps` products of size by size blocks; of a
+// For measuring, x ← x·y, so that no product can be left out: the first number of a·b·..·b, `turns` products of size by size blocks; of a
 // block that was refused it is +0.
+#[tactic(auto, using(crate::proofs::Steps::chain_none))]
 #[unsafe(no_mangle)]
 pub extern "C" fn leechgrommet_product_chain(a: &[f64], b: &[f64], size: usize, turns: usize) -> f64
     ensures { result ≡ chained a.now b.now size turns }
 {
-    let left = DenseMatrix::from_numbers(size, size, a);
-    let right = DenseMatrix::from_numbers(size, size, b);
-    let mut x = left.block;
-    let y = right.block;
-    for k in 0..turns {
-        let product = x.multiply(y);
-        x = product.block;
+    let mut x = DenseMatrix::from_numbers(size, size, a).unwrap_or(DenseMatrix::NONE);
+    let y = DenseMatrix::from_numbers(size, size, b).unwrap_or(DenseMatrix::NONE);
+    for _ in 0..turns {
+        x = x.multiply(y).unwrap_or(DenseMatrix::NONE);
     }
-    let values = x.values;
-    values[0]
+    x.values[0]
 }

@@ -1,9 +1,8 @@
 -- A run with an append to which the law of appends does: P12. Assumes nothing.
-use Rattle.std.specs.Prelude.{◌≡◌, ◌+◌}
+use Rattle.std.specs.Prelude.{Ok, ◌≡◌, ◌+◌}
 use Rattle.lists.specs.Prelude.{refl, sym, ◌∙◌, arith, replicate}
 use Rattle.complex.specs.Arithmetic.{one}
 use Rattle.two_time.specs.Example.{floats}
-use Rattle.transient_run.specs.declared.Solved.TheVariants.{Accepted}
 use Rattle.transient_run.specs.Calls.{append_point}
 use Rattle.transient_run.specs.P12 as P12
 use Rattle.transient_run.proofs.P12 as P12Made
@@ -22,5 +21,5 @@ history =
 
 -- count like it, and leave what it leaves
 pub appended_p12 : together (11 + 30) (append_point next)
-    ≡ record { answer = Accepted 41; retarded = floats P12.retarded_bits; lesser = floats P12.lesser_bits; kernel = floats P12.kernel_bits; lesser_advanced = floats P12.lesser_advanced_bits }
+    ≡ record { answer = Ok 41; retarded = floats P12.retarded_bits; lesser = floats P12.lesser_bits; kernel = floats P12.kernel_bits; lesser_advanced = floats P12.lesser_advanced_bits }
 appended_p12 = sym (in-opened (append_law history) 0 (omega arith)) ∙ P12Made.outcome one (replicate 18 one) refl inputs_pass

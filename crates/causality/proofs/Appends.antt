@@ -1,12 +1,11 @@
 -- The law of appends: calls leave what the run over all points leaves, and count like it. What an append reads at old places is what that run makes there,
 -- by the theorem on which demand 3 rests. Assumes nothing.
-use Rattle.std.specs.Prelude.{◌≡◌, ◌-◌, ◌*◌, ◌≤◌, ◌<◌}
+use Rattle.std.specs.Prelude.{Ok, ◌≡◌, ◌-◌, ◌*◌, ◌≤◌, ◌<◌}
 use Rattle.lists.specs.Prelude.{refl, sym, ap, subst, ◌∙◌, true, List, ℕ, suc, zero-mul, eqb, length, max, le_refl, le-leb, lt-ltb, dec_lt, arith, get_or-replicate, Float}
-use Rattle.refusal.specs.declared.Verdict.{Verdict}
-use Rattle.refusal.specs.declared.Verdict.TheVariants.{Pass}
-use Rattle.refusal.specs.Verdict.{by, zeroed, ◌then◌}
+use Rattle.refusal.specs.Verdict.{pass, Verdict, by, zeroed, ◌then◌}
 use Rattle.refusal.specs.Checks.{finite_work, counter_holds, desk_known}
 use Rattle.refusal.specs.Agreement.{ask_yes, then-pass, then-after}
+use Rattle.grid.specs.Calls.{grid_checks}
 use Rattle.two_time.specs.Sums.{new_numbers}
 use Rattle.two_time.specs.Start.{new_lesser_numbers}
 use Rattle.two_time.specs.Started.{SameStart}
@@ -14,13 +13,12 @@ use Rattle.two_time.proofs.NewPlaces.{at_once}
 use Rattle.two_time.specs.SizeChecks.{SizesPassed}
 use Rattle.two_time.specs.Lengths.{lengths, none-asked, also_asked}
 use Rattle.dyson.specs.Retarded.{new_retarded}
-use Rattle.transient_run.specs.declared.Solved.TheVariants.{Accepted}
 use Rattle.transient_run.specs.declared.Session.{Session}
 use Rattle.transient_run.specs.Products.{formed, count_of, formed-count, formed-on, steps}
 use Rattle.transient_run.specs.Form.{Form, start_products}
 use Rattle.transient_run.specs.Form.Form.{empty, occupied}
 use Rattle.transient_run.specs.Calls.{Run, counter_of, run_of, Outcome, is_accepted, kernel_made, retarded_made, lesser_advanced_made, lesser_start, lesser_made, made_finite, checks_of, verdict_of, worked, transient_run, append_point}
-use Rattle.transient_run.specs.Checks.{accepted, accepted_with, sizes_asked, slices, all_lent}
+use Rattle.transient_run.specs.Checks.{accepted, accepted_with, sizes_asked, support_asked, slices, all_lent}
 use Rattle.transient_run.specs.FormChecks.{sizes-there, sizes-again}
 use Rattle.transient_run.specs.Ends.{work-end}
 use Rattle.causality.specs.Statement.{SameTo, SameKind, Demanded}
@@ -28,7 +26,7 @@ use Rattle.causality.specs.Made.{HeldTo, none-held, MadeTo, made-fine, fine-made
 use Rattle.causality.proofs.Made.{retardeds, made_agree, fine_agree}
 use Rattle.causality.specs.Starts.{one_form}
 use Rattle.causality.specs.Solvers.{sizes}
-use Rattle.causality.proofs.Theorem.{all_finite_lem, demand_3}
+use Rattle.causality.proofs.Theorem.{all_finite_lem, entries_asked, demand_3}
 use Rattle.causality.specs.Sessions.{opened, in_session, Room}
 use Rattle.causality.specs.History.{Onto, longer, History, together, LikeRun}
 use Rattle.causality.specs.History.History.{ran, appended}
@@ -36,7 +34,7 @@ use Rattle.causality.specs.History.History.{ran, appended}
 -- ---- two accepted calls
 
 -- questions that pass, of which the first and the last are asked otherwise
-otherwise : (a a' b c d e e' : Verdict) → (a then b then c then d then e) ≡ Pass → a' ≡ Pass → e' ≡ Pass → (a' then b then c then d then e') ≡ Pass
+otherwise : (a a' b c d e e' : Verdict) → (a then b then c then d then e) ≡ pass → a' ≡ pass → e' ≡ pass → (a' then b then c then d then e') ≡ pass
 otherwise a a' b c d e e' h ha he =
     let z = then-pass a _ h in
     let y = then-pass b _ z.1 in
@@ -46,11 +44,11 @@ otherwise a a' b c d e e' h ha he =
 
 -- 22 and 17 of a desk with room
 module _ (session : Session) (desk count : ℕ) (space : Room session desk count) where
-  known : desk_known desk ≡ Pass
+  known : desk_known desk ≡ pass
   unfolding desk_known
   known = ask_yes _ (by 22) (lt-ltb _ _ space.known)
 
-  holds : counter_holds (counter_of session desk) count ≡ Pass
+  holds : counter_holds (counter_of session desk) count ≡ pass
   unfolding counter_holds
   holds = ask_yes _ (by 17) (le-leb _ _ space.fits)
 
@@ -59,27 +57,27 @@ module _ (old points : ℕ) (r : Run) where
   abbrev made_by : Outcome
   made_by =
       record {
-        answer = Accepted (formed (start_products r.form) old points);
+        answer = Ok (formed (start_products r.form) old points);
         retarded = retarded_made old points r;
         lesser = lesser_made old points r;
         kernel = kernel_made old points r;
         lesser_advanced = lesser_advanced_made old points r;
       }
 
-  made-left : (cleared : List Float → List Float) → verdict_of old points r ≡ Pass → worked old points r cleared ≡ made_by
+  made-left : (cleared : List Float → List Float) → verdict_of old points r ≡ pass → worked old points r cleared ≡ made_by
   unfolding verdict_of
   made-left cleared passed = work-end old points r cleared (then-pass (checks_of old points r) _ passed).0 (all_finite_lem old points r passed)
 
 -- ---- a run at another desk
 
-module _ (r : Run) (passed : verdict_of 0 r.points r ≡ Pass) (session : Session) (desk : ℕ) (space : Room session desk (formed (start_products r.form) 0 r.points)) where
-  again : verdict_of 0 r.points (in_session session desk r) ≡ Pass
+module _ (r : Run) (passed : verdict_of 0 r.points r ≡ pass) (session : Session) (desk : ℕ) (space : Room session desk (formed (start_products r.form) 0 r.points)) where
+  again : verdict_of 0 r.points (in_session session desk r) ≡ pass
   unfolding verdict_of checks_of finite_work made_finite
   again =
       let asked = then-pass (checks_of 0 r.points r) _ passed in
       let sized = (then-pass (desk_known r.desk) _ (then-pass (sizes_asked r.points r) _ asked.0).0).1 in
       then-after (checks_of 0 r.points (in_session session desk r)) _
-      (otherwise (sizes_asked r.points r) (sizes_asked r.points (in_session session desk r)) _ _ _ _ _ asked.0 (then-after (desk_known desk) _ (known session desk _ space) ∙ sized) (holds session desk _ space)) ∙ asked.1
+      (otherwise (sizes_asked r.points r) (sizes_asked r.points (in_session session desk r)) (grid_checks r.points r.times) (entries_asked r.points r) (support_asked r.points r) (counter_holds (counter_of r.session r.desk) (formed (start_products r.form) 0 r.points)) _ asked.0 (then-after (desk_known desk) _ (known session desk _ space) ∙ sized) (holds session desk _ space)) ∙ asked.1
 
   any_desk : transient_run (in_session session desk r) ≡ together (formed (start_products r.form) 0 r.points) (transient_run r)
   unfolding transient_run
@@ -103,7 +101,7 @@ module _ (r c : Run) (session : Session) (desk : ℕ) where
   abbrev whole : Run
   whole = in_session session desk (longer r append)
 
-  module _ (passed : verdict_of 0 p r ≡ Pass) (inputs : (k : ℕ) → k < p → SameTo k r append) (passed' : verdict_of p (suc p) append ≡ Pass)
+  module _ (passed : verdict_of 0 p r ≡ pass) (inputs : (k : ℕ) → k < p → SameTo k r append) (passed' : verdict_of p (suc p) append ≡ pass)
       (kind : SameKind r.form c.form) (space : Room session desk (formed (start_products c.form) 0 (suc p))) where
     room : p ≤ r.capacity
     room = (sizes 0 p r passed).1
@@ -176,7 +174,7 @@ module _ (r c : Run) (session : Session) (desk : ℕ) where
         ])
 
     -- its questions are the append's but the last: they ask inputs and lengths, and the lengths of outputs and scratch are r's
-    checks : checks_of 0 (suc p) whole ≡ Pass
+    checks : checks_of 0 (suc p) whole ≡ pass
     unfolding verdict_of checks_of
     checks =
         let asked = (then-pass (checks_of p (suc p) append) _ passed').0 in
@@ -186,10 +184,10 @@ module _ (r c : Run) (session : Session) (desk : ℕ) where
         let i = lengths z.2 in
         let o = (lengths (sizes 0 p r passed).2).1.1.1 in
         let long : SizesPassed r.capacity r.orbitals true (slices (suc p) whole) = also_asked i.0 (also_asked i.1.0 (also_asked i.1.1.0 (also_asked o.0 (also_asked o.1.0 (also_asked o.1.1.0 (also_asked o.1.1.1.0 (none-asked z.2))))))) in
-        let sized : sizes_asked (suc p) whole ≡ Pass = then-after (desk_known desk) _ (known session desk _ space) ∙ sizes-again r.capacity (suc p) r.orbitals c.form (all_lent (suc p) append) (all_lent (suc p) whole) asked-sizes (rw (there, long.long)) in
-        otherwise (sizes_asked (suc p) append) (sizes_asked (suc p) whole) _ _ _ _ _ asked sized (holds session desk _ space)
+        let sized : sizes_asked (suc p) whole ≡ pass = then-after (desk_known desk) _ (known session desk _ space) ∙ sizes-again r.capacity (suc p) r.orbitals c.form (all_lent (suc p) append) (all_lent (suc p) whole) asked-sizes (rw (there, long.long)) in
+        otherwise (sizes_asked (suc p) append) (sizes_asked (suc p) whole) (grid_checks (suc p) c.times) (entries_asked (suc p) append) (support_asked (suc p) append) (counter_holds (counter_of c.session c.desk) (formed (start_products c.form) p (suc p))) _ asked sized (holds session desk _ space)
 
-    verdict : verdict_of 0 (suc p) whole ≡ Pass
+    verdict : verdict_of 0 (suc p) whole ≡ pass
     unfolding verdict_of finite_work
     verdict = then-after (checks_of 0 (suc p) whole) _ checks ∙ ask_yes (made_finite 0 (suc p) whole) (by 10) finite
 
@@ -200,7 +198,7 @@ module _ (r c : Run) (session : Session) (desk : ℕ) where
         let m = all_made in
         let alike : made_by 0 (suc p) whole ≡ together (formed (start_products c.form) 0 (suc p)) (made_by p (suc p) append) = λ i.
         record {
-          answer = Accepted (formed (start_products c.form) 0 (suc p));
+          answer = Ok (formed (start_products c.form) 0 (suc p));
           retarded = sym (at_once r.capacity r.orbitals p (suc p) (omega arith) _ _ _ r.retarded (λ t u ht hu. m.retarded t u (omega arith) (omega arith))) i;
           lesser = sym (at_once r.capacity r.orbitals p (suc p) (omega arith) _ _ _ r.lesser (λ t u ht hu. m.lesser t u (omega arith) (omega arith))) i;
           kernel = sym (at_once r.capacity r.orbitals p (suc p) (omega arith) _ _ _ r.kernel (λ t u ht hu. m.kernel t u (omega arith) (omega arith))) i;
@@ -219,13 +217,13 @@ abbrev alone : Run → Run
 alone = in_session opened 0
 
 -- an accepted append onto what an accepted run left: the run over one point more leaves what it leaves
-append-one : {r : Run} {o : Outcome} {c : Run} {count more : ℕ} → transient_run (alone r) ≡ together count o → Onto r o c → (append_point c).answer ≡ Accepted more
+append-one : {r : Run} {o : Outcome} {c : Run} {count more : ℕ} → transient_run (alone r) ≡ together count o → Onto r o c → (append_point c).answer ≡ Ok more
     → (session : Session) (desk : ℕ) → Room session desk (formed (start_products c.form) 0 (suc r.points))
     → transient_run (in_session session desk (longer r c)) ≡ together (formed (start_products c.form) 0 (suc r.points)) (append_point c)
 unfolding transient_run append_point worked is_accepted
 append-one {r} {o} {c} {count} {more} e f ok session desk space =
     let r' = alone r in
-    let passed : verdict_of 0 r.points r' ≡ Pass = accepted _ _ (ap (λ (x : Outcome). is_accepted x.answer) e) in
+    let passed : verdict_of 0 r.points r' ≡ pass = accepted _ _ (ap (λ (x : Outcome). is_accepted x.answer) e) in
     let least = (sizes 0 r.points r' passed).0 in
     let made = sym (made-left 0 r.points r' zeroed passed) ∙ e in
     let it : append r' c session desk ≡ c = λ i.
@@ -246,7 +244,7 @@ append-one {r} {o} {c} {count} {more} e f ok session desk space =
       kernel = (ap (λ (x : Outcome). x.kernel) made ∙ f.kernel) i;
       lesser_advanced = (ap (λ (x : Outcome). x.lesser_advanced) made ∙ f.lesser_advanced) i;
     } in
-    subst (λ (x : Run). ((k : ℕ) → k < r.points → SameTo k r' x) → (append_point x).answer ≡ Accepted more → transient_run (in_session session desk (longer r x)) ≡ together (formed (start_products c.form) 0 (suc r.points)) (append_point x)) it
+    subst (λ (x : Run). ((k : ℕ) → k < r.points → SameTo k r' x) → (append_point x).answer ≡ Ok more → transient_run (in_session session desk (longer r x)) ≡ together (formed (start_products c.form) 0 (suc r.points)) (append_point x)) it
     (λ inputs ok'. one_more r' c session desk passed inputs (accepted_with (verdict_of r.points (suc r.points) (append r' c session desk)) _ _ ok').0 f.form space) (λ k l. same_in opened c.session 0 c.desk (f.inputs k l)) ok
 
 -- to 256 points a counter at 0 has room

@@ -1,10 +1,9 @@
 -- P12's first two points in a capacity of 3, and its third appended: what the law of appends supposes can be met. The run's own inputs hold NaN past its
 -- points, and its tolerance, session and desk are others. Assumes nothing.
-use Rattle.std.specs.Prelude.{◌≡◌, ◌∷◌, ◌+◌, ◌<◌}
+use Rattle.std.specs.Prelude.{Ok, ◌≡◌, ◌∷◌, ◌+◌, ◌<◌}
 use Rattle.lists.specs.Prelude.{refl, sym, ◌∙◌, List, [], ℕ, arith, get_or, replicate, Float, nan}
 use Rattle.complex.specs.Arithmetic.{plus_zero, one}
 use Rattle.two_time.specs.Example.{floats}
-use Rattle.transient_run.specs.declared.Solved.TheVariants.{Accepted}
 use Rattle.transient_run.specs.Form.Form.{empty}
 use Rattle.transient_run.specs.Calls.{Run, run_of, transient_run, append_point}
 use Rattle.transient_run.specs.Computation.{run_computation}
@@ -31,7 +30,7 @@ next =
     let o = transient_run first in
     run_of empty (record { products = replicate 8 7 }) 5 (record { points = 2; capacity = 3; orbitals = 1 }) one P12.times P12.lower P12.lower P12.imaginary o.retarded o.lesser o.kernel o.lesser_advanced
 
-pub accepted : ((transient_run first).answer ≡ Accepted 11) × ((append_point next).answer ≡ Accepted 30)
+pub accepted : ((transient_run first).answer ≡ Ok 11) × ((append_point next).answer ≡ Ok 30)
 unfolding run_computation
 accepted = (refl, refl)
 

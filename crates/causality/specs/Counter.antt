@@ -1,10 +1,9 @@
 -- Whatever calls are made in a session: each desk's counter is the total that it was opened at and the counts of the accepted calls at that desk; the eight
 -- together are the opening totals and the counts of all accepted calls; and none passes 2^64 − 1. Assumes nothing.
-use Rattle.std.specs.Prelude.{◌≡◌, ◌∷◌, ◌+◌, ◌≤◌, ◌<◌}
+use Rattle.std.specs.Prelude.{Result, Ok, Err, ◌≡◌, ◌∷◌, ◌+◌, ◌≤◌, ◌<◌}
 use Rattle.lists.specs.Prelude.{refl, sym, ap, ap₂, ◌∙◌, Bool, true, false, cond, List, [], ℕ, zero, suc, add-zero, zero-add, add_assoc, arith, dec_lt, eqb-true, eqb-false, length, get_or, set, length-set, get_or-set_same, get_or-set_other}
+use Rattle.refusal.specs.declared.Refusal.{Refusal}
 use Rattle.refusal.specs.Agreement.{then-pass}
-use Rattle.transient_run.specs.declared.Solved.{Solved}
-use Rattle.transient_run.specs.declared.Solved.TheVariants.{Accepted, Refused as NotSolved}
 use Rattle.transient_run.specs.declared.Session.{Session}
 use Rattle.transient_run.specs.Products.{total, formed}
 use Rattle.transient_run.specs.Form.{start_products}
@@ -16,23 +15,23 @@ use Rattle.causality.specs.Sessions.Call.{run, append}
 -- ---- what an answer books
 
 module _ (session : Session) (desk : ℕ) where
-  books_length : (answer : Solved) → length (booked session desk answer).products ≡ length session.products
+  books_length : (answer : Result ℕ Refusal) → length (booked session desk answer).products ≡ length session.products
   unfolding booked
-  books_length (Accepted count) = length-set session.products desk _
-  books_length (NotSolved r) = refl
+  books_length (Ok count) = length-set session.products desk _
+  books_length (Err r) = refl
 
-  pub books_own : (count : ℕ) → desk < length session.products → counter_of (booked session desk (Accepted count)) desk ≡ counter_of session desk + count
+  pub books_own : (count : ℕ) → desk < length session.products → counter_of (booked session desk (Ok count)) desk ≡ counter_of session desk + count
   unfolding booked
   books_own count below = get_or-set_same session.products desk _ 0 below
 
-  pub books_no-other : (answer : Solved) (other : ℕ) → (other ≡ desk → ⊥) → counter_of (booked session desk answer) other ≡ counter_of session other
+  pub books_no-other : (answer : Result ℕ Refusal) (other : ℕ) → (other ≡ desk → ⊥) → counter_of (booked session desk answer) other ≡ counter_of session other
   unfolding booked
-  books_no-other (Accepted count) other h = get_or-set_other session.products desk other _ 0 h
-  books_no-other (NotSolved r) other h = refl
+  books_no-other (Ok count) other h = get_or-set_other session.products desk other _ 0 h
+  books_no-other (Err r) other h = refl
 
   -- two counts at one desk are booked like their sum
   module _ (first second : ℕ) where
-    pub books_both : booked (booked session desk (Accepted first)) desk (Accepted second) ≡ booked session desk (Accepted (first + second))
+    pub books_both : booked (booked session desk (Ok first)) desk (Ok second) ≡ booked session desk (Ok (first + second))
     unfolding booked
     books_both = ap (λ (xs : List ℕ). record { products = xs }) (stored session.products desk)
       where
@@ -41,7 +40,7 @@ module _ (session : Session) (desk : ℕ) where
         stored (x ∷ xs) zero = ap (λ (y : ℕ). y ∷ xs) (add_assoc x first second)
         stored (x ∷ xs) (suc i) = ap (λ (ys : List ℕ). x ∷ ys) (stored xs i)
 
-    pub room_for-both : first + second ≤ 0xffff_ffff_ffff_ffff → Room (booked session desk (Accepted first)) desk second → Room session desk (first + second)
+    pub room_for-both : first + second ≤ 0xffff_ffff_ffff_ffff → Room (booked session desk (Ok first)) desk second → Room session desk (first + second)
     unfolding booked
     room_for-both most space = record { known = space.known; fits = fits session.products desk space.fits }
       where
@@ -53,7 +52,7 @@ module _ (session : Session) (desk : ℕ) where
 -- ---- one call
 
 -- an accepted call is made at a desk of the eight, whose counter has room for the count that it carries
-pub room : (old points : ℕ) (r : Run) {k : ℕ} → solved (verdict_of old points r) (formed (start_products r.form) old points) ≡ Accepted k → Room r.session r.desk k
+pub room : (old points : ℕ) (r : Run) {k : ℕ} → solved (verdict_of old points r) (formed (start_products r.form) old points) ≡ Ok k → Room r.session r.desk k
 unfolding verdict_of
 room old points r ok =
     let passed = accepted_with (verdict_of old points r) _ _ ok in
@@ -62,7 +61,7 @@ room old points r ok =
     let holds = counter_room points r old checks in
     record { known = desk-below points r old checks; fits = omega arith }
 
-call-room : (session : Session) (c : Call) {k : ℕ} → answer_in session c ≡ Accepted k → Room session (desk_of c) k
+call-room : (session : Session) (c : Call) {k : ℕ} → answer_in session c ≡ Ok k → Room session (desk_of c) k
 unfolding answer_in desk_of transient_run append_point worked
 call-room session (run r) e = room 0 r.points (in_session session r.desk r) e
 call-room session (append r) e = room r.points _ (in_session session r.desk r) e
@@ -80,9 +79,9 @@ module _ (session : Session) (long : length session.products ≡ 8) (c : Call) w
   unfolding booked carried
   own = of-answer (answer_in session c) refl
     where
-      of-answer : (answer : Solved) → answer_in session c ≡ answer → counter_of (booked session (desk_of c) answer) (desk_of c) ≡ counter_of session (desk_of c) + carried answer
-      of-answer (Accepted k) e = let known = (call-room session c e).known in books_own session (desk_of c) k (omega arith)
-      of-answer (NotSolved r) e = sym (add-zero _)
+      of-answer : (answer : Result ℕ Refusal) → answer_in session c ≡ answer → counter_of (booked session (desk_of c) answer) (desk_of c) ≡ counter_of session (desk_of c) + carried answer
+      of-answer (Ok k) e = let known = (call-room session c e).known in books_own session (desk_of c) k (omega arith)
+      of-answer (Err r) e = sym (add-zero _)
 
   adds : (desk : ℕ) → counter_of (after_call session c) desk ≡ counter_of session desk + cond (at desk c) (carried (answer_in session c)) 0
   adds desk = by-desk (at desk c) refl
@@ -136,10 +135,10 @@ summed session long (c ∷ calls) =
     let this = of-answer (answer_in session c) refl in
     omega arith
   where
-    of-answer : (answer : Solved) → answer_in session c ≡ answer → eight (after_call session c) ≡ eight session + carried answer
-    of-answer (Accepted k) e =
+    of-answer : (answer : Result ℕ Refusal) → answer_in session c ≡ answer → eight (after_call session c) ≡ eight session + carried answer
+    of-answer (Ok k) e =
         moved (λ desk. counter_of session desk) (λ desk. counter_of (after_call session c) desk) (desk_of c) k (own session long c ∙ rw e) (kept session c) 8 (call-room session c e).known
-    of-answer (NotSolved r) e = rw e (sym (add-zero _))
+    of-answer (Err r) e = rw e (sym (add-zero _))
 
 -- "over any list of calls from zero the eight sum to the counts of the accepted ones"
 pub from_zero : (calls : List Call) → eight (after opened calls) ≡ counts all opened calls
@@ -160,6 +159,6 @@ never-past session (c ∷ calls) h = never-past (after_call session c) calls (of
     stored (y ∷ xs) (suc i) zero new old = old
     stored (y ∷ xs) (suc i) (suc j) new old = stored xs i j new old
 
-    of-answer : (answer : Solved) → answer_in session c ≡ answer → (desk : ℕ) → counter_of (booked session (desk_of c) answer) desk ≤ 0xffff_ffff_ffff_ffff
-    of-answer (Accepted k) e desk = stored session.products (desk_of c) desk (call-room session c e).fits (h desk)
-    of-answer (NotSolved r) e desk = h desk
+    of-answer : (answer : Result ℕ Refusal) → answer_in session c ≡ answer → (desk : ℕ) → counter_of (booked session (desk_of c) answer) desk ≤ 0xffff_ffff_ffff_ffff
+    of-answer (Ok k) e desk = stored session.products (desk_of c) desk (call-room session c e).fits (h desk)
+    of-answer (Err r) e desk = h desk

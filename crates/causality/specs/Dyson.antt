@@ -1,8 +1,7 @@
 -- Demand 3 of Dyson calls: in slices laid out for its points, G is the G^R of a run that is given the same. Assumes nothing.
 use Rattle.std.specs.Prelude.{◌≡◌}
 use Rattle.lists.specs.Prelude.{sym, subst, ◌∙◌, List, [], ℕ, le_refl, arith, replicate, Float}
-use Rattle.refusal.specs.declared.Verdict.TheVariants.{Pass}
-use Rattle.refusal.specs.Verdict.{zeroed}
+use Rattle.refusal.specs.Verdict.{pass, zeroed}
 use Rattle.dyson.specs.Retarded.{new_retarded}
 use Rattle.dyson.specs.Recursion.{above}
 use Rattle.dyson.specs.Calls.{Solved, dyson_with_tolerance}
@@ -29,15 +28,15 @@ abbrev pub within : Run → Run
 within r = with_capacity r r.points
 
 -- what an accepted call leaves
-pub left : (r : Run) → (dyson_of r).answer ≡ Pass → (dyson_of r).retarded ≡ retarded_made 0 r.points (within r)
+pub left : (r : Run) → (dyson_of r).answer ≡ pass → (dyson_of r).retarded ≡ retarded_made 0 r.points (within r)
 unfolding dyson_with_tolerance
 left r accepted = left-made zeroed _ _ r.retarded accepted ∙ sym (green-all r.points r.orbitals r.times r.free r.self_energy r.retarded r.kernel)
 
 unfoldable pub Blind : Run → Run → Type 0
 Blind r r' =
-    (k : ℕ) → Comparable k (within r) (within r') ((dyson_of r).answer ≡ Pass) ((dyson_of r').answer ≡ Pass) → SameRetarded k (within r) (within r') (dyson_of r).retarded (dyson_of r').retarded
+    (k : ℕ) → Comparable k (within r) (within r') ((dyson_of r).answer ≡ pass) ((dyson_of r').answer ≡ pass) → SameRetarded k (within r) (within r') (dyson_of r).retarded (dyson_of r').retarded
 
-pub zero-above : (r : Run) → (dyson_of r).answer ≡ Pass → ZeroAbove (within r) (dyson_of r).retarded
+pub zero-above : (r : Run) → (dyson_of r).answer ≡ pass → ZeroAbove (within r) (dyson_of r).retarded
 unfolding new_retarded
 zero-above r accepted t u a b less hu ha hb =
     rw (left r accepted)

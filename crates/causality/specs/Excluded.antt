@@ -3,8 +3,7 @@ use Rattle.std.specs.Prelude.{◌≡◌, ◌&&◌, ◌-◌, ◌<◌}
 use Rattle.lists.specs.Prelude.{refl, sym, ap, ◌∙◌, true, cond, ℕ, arith, eqb, get_or, nan, binary64, to_bits}
 use Rattle.std.specs.Float.Ieee as Ieee
 use Rattle.complex.specs.declared.Complex.{Complex}
-use Rattle.refusal.specs.declared.Verdict.TheVariants.{Pass}
-use Rattle.refusal.specs.Verdict.{zeroed}
+use Rattle.refusal.specs.Verdict.{pass, zeroed}
 use Rattle.block.specs.Agreement.{Agree}
 use Rattle.two_time.specs.Layout.{TwoTime}
 use Rattle.transient_run.specs.Calls.{Run, solved, is_accepted, kernel_made, lesser_advanced_made, verdict_of}
@@ -24,11 +23,11 @@ abbrev pub late_start : Solver
 late_start = solver_of late_retarded (λ r. call_lesser 0 r.points r) (λ r. kernel_made 0 r.points r) (λ r. lesser_advanced_made 0 r.points r)
 
 -- what it leaves at G(0,0)
-pub starts-late : (r : Run) → verdict_of 0 r.points r ≡ Pass → 0 < r.points → 0 < r.orbitals → of r (late_start r).retarded 0 0 0 0 ≡ of r r.free (last r) (last r) 0 0
+pub starts-late : (r : Run) → verdict_of 0 r.points r ≡ pass → 0 < r.points → 0 < r.orbitals → of r (late_start r).retarded 0 0 0 0 ≡ of r r.free (last r) (last r) 0 0
 unfolding solver_of
 starts-late r v hp ho = rw (left-made zeroed (verdict_of 0 r.points r) _ r.retarded v) (read_left r (late_retarded r) r.retarded (sizes 0 r.points r v).1 0 0 hp hp 0 0 ho ho)
 
-pub accepted : (r : Run) → verdict_of 0 r.points r ≡ Pass → is_accepted (late_start r).answer ≡ true
+pub accepted : (r : Run) → verdict_of 0 r.points r ≡ pass → is_accepted (late_start r).answer ≡ true
 unfolding solver_of solved is_accepted
 accepted r v = rw v
 

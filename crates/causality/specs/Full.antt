@@ -1,10 +1,9 @@
 -- A desk's counter that is filled: "17 if the session counter would pass 2^64 − 1", which exactly 2^64 − 1 does not; "Number 17 then concerns that desk's
 -- counter"; "22 if the desk is above 7, before line 1". Assumes nothing.
-use Rattle.std.specs.Prelude.{◌≡◌, ◌∷◌, ◌-◌}
+use Rattle.std.specs.Prelude.{Ok, Err, ◌≡◌, ◌∷◌, ◌-◌}
 use Rattle.lists.specs.Prelude.{refl, List, [], ℕ, replicate, set}
 use Rattle.complex.specs.Arithmetic.{one}
-use Rattle.refusal.specs.Verdict.{by}
-use Rattle.transient_run.specs.declared.Solved.TheVariants.{Accepted, Refused as NotSolved}
+use Rattle.refusal.specs.Verdict.{pass, by}
 use Rattle.transient_run.specs.declared.Session.{Session}
 use Rattle.transient_run.specs.Calls.{booked}
 use Rattle.transient_run.specs.Computation.{run_computation}
@@ -22,8 +21,8 @@ standing products = record { products = set (replicate 8 0) 2 products }
 
 -- with room for that run at desk 2 and for no product more: the run is accepted there and fills the counter, then refused there, and accepted at desk 5; 8 is
 -- no desk
-pub filled : (answer_in (standing (0xffff_ffff_ffff_ffff - 11)) (at_desk 2) ≡ Accepted 11) × (answer_in (standing 0xffff_ffff_ffff_ffff) (at_desk 2) ≡ NotSolved (by 17))
-    × (answer_in (standing 0xffff_ffff_ffff_ffff) (at_desk 5) ≡ Accepted 11) × (answer_in (standing 0xffff_ffff_ffff_ffff) (at_desk 8) ≡ NotSolved (by 22))
+pub filled : (answer_in (standing (0xffff_ffff_ffff_ffff - 11)) (at_desk 2) ≡ Ok 11) × (answer_in (standing 0xffff_ffff_ffff_ffff) (at_desk 2) ≡ Err (by 17))
+    × (answer_in (standing 0xffff_ffff_ffff_ffff) (at_desk 5) ≡ Ok 11) × (answer_in (standing 0xffff_ffff_ffff_ffff) (at_desk 8) ≡ Err (by 22))
 unfolding run_computation answer_in
 filled = (refl, refl, refl, refl)
 

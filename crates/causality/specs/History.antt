@@ -1,9 +1,8 @@
 -- Document 02, L1: "After an accepted run and any list of accepted appends, each told the n and capacity of the call before and the points it left, with
 -- inputs at old points, outputs and scratch untouched between calls, the buffers hold the run over all points, and demand 3 holds of them as of that run."
 -- L3: "A run and its appends count like the run over all points."
-use Rattle.std.specs.Prelude.{◌≡◌, ◌+◌, ◌≤◌, ◌<◌}
+use Rattle.std.specs.Prelude.{Ok, ◌≡◌, ◌+◌, ◌≤◌, ◌<◌}
 use Rattle.lists.specs.Prelude.{ℕ, suc}
-use Rattle.transient_run.specs.declared.Solved.TheVariants.{Accepted}
 use Rattle.transient_run.specs.declared.Session.{Session}
 use Rattle.transient_run.specs.Products.{count_of}
 use Rattle.transient_run.specs.Form.{start_products}
@@ -34,12 +33,12 @@ longer r c =
 -- An accepted run and any list of accepted appends, which left o and whose counts sum to `count`. They are the calls of the run r: over all points, with the
 -- last call's inputs and tolerance, on what the outputs and the scratch held before the first call, in the first call's session and at its desk.
 pub data History : Run → Outcome → ℕ → Type 0 where
-  ran : (r : Run) {count : ℕ} → (transient_run r).answer ≡ Accepted count → History r (transient_run r) count
-  appended : {r : Run} {o : Outcome} {count more : ℕ} → History r o count → (c : Run) → Onto r o c → (append_point c).answer ≡ Accepted more → History (longer r c) (append_point c) (count + more)
+  ran : (r : Run) {count : ℕ} → (transient_run r).answer ≡ Ok count → History r (transient_run r) count
+  appended : {r : Run} {o : Outcome} {count more : ℕ} → History r o count → (c : Run) → Onto r o c → (append_point c).answer ≡ Ok more → History (longer r c) (append_point c) (count + more)
 
 -- what accepted calls that left o answer and leave together
 abbrev pub together : ℕ → Outcome → Outcome
-together count o = record { answer = Accepted count; retarded = o.retarded; lesser = o.lesser; kernel = o.kernel; lesser_advanced = o.lesser_advanced }
+together count o = record { answer = Ok count; retarded = o.retarded; lesser = o.lesser; kernel = o.kernel; lesser_advanced = o.lesser_advanced }
 
 -- The law of appends, of such calls: they count like the run over all points, and that run, at any desk with room for its count (each desk of a session
 -- opened at zero has), is accepted, carries that count and leaves what they left.

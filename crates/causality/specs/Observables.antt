@@ -1,15 +1,13 @@
 -- Observables asked of the lesser functions that two runs left: where the functions agree at the index, the answers are the same.
 -- Assumes nothing.
-use Rattle.std.specs.Prelude.{◌≡◌, ◌&&◌, ◌∷◌, ◌+◌, ◌*◌, ◌/◌, ◌%◌, ◌≤◌, ◌<◌}
+use Rattle.std.specs.Prelude.{Ok, Err, ◌≡◌, ◌&&◌, ◌∷◌, ◌+◌, ◌*◌, ◌/◌, ◌%◌, ◌≤◌, ◌<◌}
 use Rattle.lists.specs.Prelude.{refl, sym, ap, ap₂, ◌∙◌, true, List, [], ℕ, zero, suc, div-add-mod', mod-lt, div-lt_iff_lt-mul, mul-zero}
 use Rattle.lists.specs.Prelude.{dec_lt, arith, ltb, eqb, length, get_or, Float, nan, binary64, of_bits, lt-ltb, ltb-true, eq-eqb, eqb-true, le-leb}
 use Rattle.lists.specs.Agreement.{both, all_agree}
 use Rattle.complex.specs.declared.Complex.{Complex}
 use Rattle.complex.specs.Arithmetic.{plus_zero, mul, finite, cfinite, cmul, minus_i}
 use Rattle.refusal.specs.declared.Refusal.{Refusal}
-use Rattle.refusal.specs.declared.Verdict.{Verdict}
-use Rattle.refusal.specs.declared.Verdict.TheVariants.{Pass, Refused}
-use Rattle.refusal.specs.Verdict.{by, ask, ◌then◌, ask_all}
+use Rattle.refusal.specs.Verdict.{pass, Verdict, by, ask, ◌then◌, ask_all}
 use Rattle.refusal.specs.Agreement.{ask_pass, ask_yes, then-pass, then-agree, asked_agree}
 use Rattle.refusal.specs.Checks.{large_enough, within_limits, fitting, finite_entries, time_below, orbital_below, finite_factors, within_capacity}
 use Rattle.matrix.specs.declared.DenseMatrix.{DenseMatrix}
@@ -35,44 +33,44 @@ pub record Left (capacity points n : ℕ) (xs : List Float) : Type 0 where
   pub numbers : (t u a b : ℕ) → t < points → u < points → a < n → b < n → cfinite (read_as capacity n xs t u a b) ≡ true
 
 module _ (capacity points n : ℕ) (xs : List Float) (left : Left capacity points n xs) where
-  entries_pass : point_entries capacity points n 0 xs ≡ Pass
+  entries_pass : point_entries capacity points n 0 xs ≡ pass
   entries_pass = points-finite capacity points n xs left.sizes.orbitals-least left.numbers 0
 
-  checks_pass : lesser_checks capacity points n xs ≡ Pass
-  unfolding lesser_checks point_checks ◌then◌
+  checks_pass : lesser_checks capacity points n xs ≡ pass
+  unfolding lesser_checks point_checks
   checks_pass = rw (capacity_pass left.least left.within left.sizes, entries_pass)
 
   -- checks 1, 2, 3 and 16, each by itself
-  large : large_enough points n ≡ Pass
+  large : large_enough points n ≡ pass
   unfolding large_enough
   large = ask_yes _ _ (rw (le-leb 2 points left.least, le-leb 1 n left.sizes.orbitals-least))
 
-  small : within_limits capacity n ≡ Pass
+  small : within_limits capacity n ≡ pass
   unfolding within_limits
   small = ask_yes _ _ (rw (le-leb capacity 256 left.sizes.points-most, le-leb n 16 left.sizes.orbitals-most))
 
   long : eqb (length xs) (length_of capacity n) ≡ true
   long = eq-eqb (length xs) (length_of capacity n) (lengths left.sizes).0
 
-  room : within_capacity points capacity ≡ Pass
+  room : within_capacity points capacity ≡ pass
   unfolding within_capacity
   room = ask_yes _ _ (le-leb points capacity left.within)
 
-below_pass : (t points : ℕ) → t < points → time_below t points ≡ Pass
+below_pass : (t points : ℕ) → t < points → time_below t points ≡ pass
 unfolding time_below
 below_pass t points h = ask_yes (ltb t points) (by 11) (lt-ltb t points h)
 
-orbital_below_lem : (a n : ℕ) → orbital_below a n ≡ Pass → a < n
+orbital_below_lem : (a n : ℕ) → orbital_below a n ≡ pass → a < n
 unfolding orbital_below
 orbital_below_lem a n h = ltb-true a n (ask_pass (ltb a n) (by 12) h)
 
-pub observed_agree : (v v' : Verdict) (x x' : Float) → v ≡ v' → (v ≡ Pass → x ≡ x') → observed v x ≡ observed v' x'
+pub observed_agree : (v v' : Verdict) (x x' : Float) → v ≡ v' → (v ≡ pass → x ≡ x') → observed v x ≡ observed v' x'
 unfolding observed
 observed_agree v v' x x' e h = ap (λ (w : Verdict). observed w x) e ∙ by_case v' (λ p. h (e ∙ p))
   where
-    by_case : (w : Verdict) → (w ≡ Pass → x ≡ x') → observed w x ≡ observed w x'
-    by_case Pass k = rw (k refl)
-    by_case (Refused r) k = refl
+    by_case : (w : Verdict) → (w ≡ pass → x ≡ x') → observed w x ≡ observed w x'
+    by_case (Ok tt) k = rw (k refl)
+    by_case (Err r) k = refl
 
 -- a bond flow reads one entry, and asks of the time only whether it is one of the points
 module _ (n capacity capacity' points points' : ℕ) (xs xs' : List Float) (left : Left capacity points n xs) (left' : Left capacity' points' n xs') (t : ℕ)
@@ -167,7 +165,7 @@ module _ (n capacity capacity' points points' : ℕ) (xs xs' : List Float) (left
         s.columns,
       )
 
-  module _ (x x' : DenseMatrix) (s : SameBlock x x') (passed : lesser_block_checks capacity points n xs x ≡ Pass) where
+  module _ (x x' : DenseMatrix) (s : SameBlock x x') (passed : lesser_block_checks capacity points n xs x ≡ pass) where
     -- past check 3 the block is n by n
     shape : (x.rows ≡ n) × (x.columns ≡ n)
     unfolding lesser_block_checks fitting

@@ -1,10 +1,10 @@
 -- P12's run and the run of its first two points: both are accepted and agree up to 1, so what demand 3 supposes can be met, by runs of different
 -- N, capacity, session and desk too, and of different forms. Assumes nothing.
+use Rattle.refusal.specs.Verdict.{pass}
 use Rattle.std.specs.Prelude.{◌≡◌, ◌∷◌, ◌≤◌}
 use Rattle.lists.specs.Prelude.{refl, true, [], ℕ, zero, suc, arith, get_or, replicate, Float, nan, binary64}
 use Rattle.std.specs.Float.Ieee as Ieee
 use Rattle.complex.specs.Arithmetic.{plus_zero, one}
-use Rattle.refusal.specs.declared.Verdict.TheVariants.{Pass}
 use Rattle.refusal.specs.Checks.{not_empty, within_block}
 use Rattle.block.specs.Block.{Entries, entries_in}
 use Rattle.block.specs.Operations.{zeros}
@@ -25,11 +25,11 @@ use Rattle.causality.specs.Stages.{SquareTo}
 abbrev pub run : Run
 run = P12.run one (replicate 18 one)
 
-pub inputs_pass : support_checks 3 1 one (read_as 3 1 P12.lower) (read_as 3 1 P12.lower) ≡ Pass
+pub inputs_pass : support_checks 3 1 one (read_as 3 1 P12.lower) (read_as 3 1 P12.lower) ≡ pass
 unfolding dyson_computation
 inputs_pass = refl
 
-pub passes : verdict_of 0 3 run ≡ Pass
+pub passes : verdict_of 0 3 run ≡ pass
 passes = P12Made.verdict one (replicate 18 one) refl inputs_pass
 
 -- the run of its first two points, with x for free's last entry
@@ -42,11 +42,11 @@ short x =
 abbrev pub two : Float
 two = Ieee.of_bits binary64 0x4000_0000_0000_0000
 
-pub short-passes : (verdict_of 0 2 (short one) ≡ Pass) × (verdict_of 0 2 (short two) ≡ Pass)
+pub short-passes : (verdict_of 0 2 (short one) ≡ pass) × (verdict_of 0 2 (short two) ≡ pass)
 unfolding run_computation
 short-passes = (refl, refl)
 
-pub answered : (r : Run) → verdict_of 0 r.points r ≡ Pass → is_accepted (transient_run r).answer ≡ true
+pub answered : (r : Run) → verdict_of 0 r.points r ≡ pass → is_accepted (transient_run r).answer ≡ true
 unfolding transient_run worked solved is_accepted
 answered r e = rw e
 
@@ -92,6 +92,6 @@ short_from form =
     let r = short one in
     run_of form r.session r.desk (record { points = 2; capacity = 2; orbitals = 1 }) r.tolerance r.times r.free r.self_energy r.lesser_self_energy r.retarded r.lesser r.kernel r.lesser_advanced
 
-pub occupied-passes : verdict_of 0 2 (short_from zero_block) ≡ Pass
+pub occupied-passes : verdict_of 0 2 (short_from zero_block) ≡ pass
 unfolding run_computation not_empty within_block
 occupied-passes = refl

@@ -2,10 +2,9 @@
 -- L13: "Keep eight counters, one for each desk numbered 0 to 7, in place of the session's one, each opened at the total its own desk carries over. A run or
 -- append names its desk; no other desk's counter changes, and over any list of calls from zero the eight sum to the counts of the accepted ones."
 -- Lists of calls in a session: runs and appends, accepted or refused, at any desks.
-use Rattle.std.specs.Prelude.{◌∷◌, ◌+◌, ◌≤◌, ◌<◌}
+use Rattle.std.specs.Prelude.{Result, Ok, Err, ◌∷◌, ◌+◌, ◌≤◌, ◌<◌}
 use Rattle.lists.specs.Prelude.{List, [], ℕ, Bool, true, cond, eqb, replicate}
-use Rattle.transient_run.specs.declared.Solved.{Solved}
-use Rattle.transient_run.specs.declared.Solved.TheVariants.{Accepted, Refused as NotSolved}
+use Rattle.refusal.specs.declared.Refusal.{Refusal}
 use Rattle.transient_run.specs.declared.Session.{Session}
 use Rattle.transient_run.specs.Products.{total}
 use Rattle.transient_run.specs.Calls.{Run, counter_of, run_of, booked, transient_run, append_point}
@@ -34,7 +33,7 @@ unfoldable pub desk_of : Call → ℕ
 desk_of (run r) = r.desk
 desk_of (append r) = r.desk
 
-unfoldable pub answer_in : Session → Call → Solved
+unfoldable pub answer_in : Session → Call → Result ℕ Refusal
 answer_in session (run r) = (transient_run (in_session session r.desk r)).answer
 answer_in session (append r) = (append_point (in_session session r.desk r)).answer
 
@@ -47,9 +46,9 @@ after session [] = session
 after session (c ∷ calls) = after (after_call session c) calls
 
 -- the count that an answer carries
-unfoldable pub carried : Solved → ℕ
-carried (Accepted count) = count
-carried (NotSolved r) = 0
+unfoldable pub carried : Result ℕ Refusal → ℕ
+carried (Ok count) = count
+carried (Err r) = 0
 
 -- "the counts of the accepted ones" among the calls that are asked for: all, or those at a desk
 unfoldable pub counts : (Call → Bool) → Session → List Call → ℕ

@@ -3,9 +3,7 @@
 use Rattle.std.specs.Prelude.{◌≡◌, ◌≤◌, ◌<◌}
 use Rattle.lists.specs.Prelude.{refl, sym, ap, subst, ◌∙◌, true, List, ℕ, arith, Float}
 use Rattle.complex.specs.Arithmetic.{czero, cfinite}
-use Rattle.refusal.specs.declared.Verdict.{Verdict}
-use Rattle.refusal.specs.declared.Verdict.TheVariants.{Pass}
-use Rattle.refusal.specs.Verdict.{zeroed, afterwards}
+use Rattle.refusal.specs.Verdict.{pass, Verdict, zeroed, afterwards}
 use Rattle.refusal.specs.Agreement.{then-pass}
 use Rattle.block.specs.Agreement.{Agree}
 use Rattle.two_time.specs.Layout.{TwoTime}
@@ -24,12 +22,12 @@ use Rattle.causality.specs.Stages.{RowsTo, SquareTo}
 use Rattle.causality.specs.Made.{with_orbitals}
 use Rattle.causality.specs.Observables.{Left, particles_agree, expectations_agree, flows_agree}
 
-pub left-made : (cleared : List Float → List Float) (v : Verdict) (made before : List Float) → v ≡ Pass → afterwards cleared v made before ≡ made
+pub left-made : (cleared : List Float → List Float) (v : Verdict) (made before : List Float) → v ≡ pass → afterwards cleared v made before ≡ made
 unfolding afterwards
 left-made cleared v made before e = rw e
 
 -- the sizes of an accepted call
-pub sizes : (old points : ℕ) (r : Run) → verdict_of old points r ≡ Pass → (2 ≤ points) × (points ≤ r.capacity) × SizesPassed r.capacity r.orbitals true (slices points r) × Square r.orbitals r.form
+pub sizes : (old points : ℕ) (r : Run) → verdict_of old points r ≡ pass → (2 ≤ points) × (points ≤ r.capacity) × SizesPassed r.capacity r.orbitals true (slices points r) × Square r.orbitals r.form
 unfolding verdict_of
 sizes old points r v = checks-passed points r old (then-pass (checks_of old points r) _ v).0
 
@@ -60,8 +58,8 @@ Inside k r = (k < r.points) × (r.points ≤ r.capacity)
 -- what g and l have to satisfy
 pub record ReadsNoLater (g l : Run → TwoTime) : Type 0 where
   pub retarded : (k : ℕ) (r r' : Run) → Inside k r → Inside k r' → SameTo k r (with_orbitals r' r.orbitals) → RowsTo r.orbitals k (g r) (g (with_orbitals r' r.orbitals))
-  pub lesser : (k : ℕ) (r r' : Run) → Inside k r → Inside k r' → verdict_of 0 r.points r ≡ Pass → SameTo k r (with_orbitals r' r.orbitals) → SquareTo r.orbitals k (l r) (l (with_orbitals r' r.orbitals))
-  pub numbers : (r : Run) → verdict_of 0 r.points r ≡ Pass → (t u a b : ℕ) → t < r.points → u < r.points → a < r.orbitals → b < r.orbitals → cfinite (l r t u a b) ≡ true
+  pub lesser : (k : ℕ) (r r' : Run) → Inside k r → Inside k r' → verdict_of 0 r.points r ≡ pass → SameTo k r (with_orbitals r' r.orbitals) → SquareTo r.orbitals k (l r) (l (with_orbitals r' r.orbitals))
+  pub numbers : (r : Run) → verdict_of 0 r.points r ≡ pass → (t u a b : ℕ) → t < r.points → u < r.points → a < r.orbitals → b < r.orbitals → cfinite (l r t u a b) ≡ true
   pub above : (r : Run) (t u a b : ℕ) → t < u → g r t u a b ≡ czero
 
 -- a slice that a run left is read
@@ -93,7 +91,7 @@ module _ (g l : Run → TwoTime) (kernel lesser_advanced : Run → List Float) (
   verdict r = verdict_of 0 r.points r
 
   -- the lesser function that an accepted run leaves
-  pub left : (r : Run) → verdict r ≡ Pass → Left r.capacity r.points r.orbitals (leaves r (l r) r.lesser)
+  pub left : (r : Run) → verdict r ≡ pass → Left r.capacity r.points r.orbitals (leaves r (l r) r.lesser)
   left r v =
       let s = sizes 0 r.points r v in
       record {
@@ -111,8 +109,8 @@ module _ (g l : Run → TwoTime) (kernel lesser_advanced : Run → List Float) (
   unfolding Blind solver_of
   one-n r r₀ k c =
       let r' = with_orbitals r₀ r.orbitals in
-      let v : verdict r ≡ Pass = accepted (verdict r) _ c.accepted in
-      let v' : verdict r' ≡ Pass = accepted (verdict r') _ c.accepted' in
+      let v : verdict r ≡ pass = accepted (verdict r) _ c.accepted in
+      let v' : verdict r' ≡ pass = accepted (verdict r') _ c.accepted' in
       let h : Inside k r = (c.within, (sizes 0 r.points r v).1) in
       let h' : Inside k r' = (c.within', (sizes 0 r'.points r' v').1) in
       let n = r.orbitals in
@@ -136,7 +134,7 @@ module _ (g l : Run → TwoTime) (kernel lesser_advanced : Run → List Float) (
   zero-above : (r : Run) → is_accepted (solver r).answer ≡ true → ZeroAbove r (solver r).retarded
   unfolding solver_of
   zero-above r acc t u a b less hu ha hb =
-      let v : verdict r ≡ Pass = accepted (verdict r) _ acc in
+      let v : verdict r ≡ pass = accepted (verdict r) _ acc in
       rw (left-made zeroed (verdict r) _ r.retarded v) (read_left r (g r) r.retarded (sizes 0 r.points r v).1 t u (omega arith) hu a b ha hb ∙ reads.above r t u a b less)
 
   pub meets : Demand3 solver

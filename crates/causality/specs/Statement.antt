@@ -1,9 +1,9 @@
 -- Document 01, "Words of demand 3": no later data reaches an earlier row.
+use Rattle.refusal.specs.Verdict.{pass}
 use Rattle.std.specs.Prelude.{◌≡◌, ◌≤◌, ◌<◌}
 use Rattle.lists.specs.Prelude.{true, List, ℕ, Float}
 use Rattle.complex.specs.declared.Complex.{Complex}
 use Rattle.complex.specs.Arithmetic.{czero}
-use Rattle.refusal.specs.declared.Verdict.TheVariants.{Pass}
 use Rattle.matrix.specs.declared.DenseMatrix.{DenseMatrix}
 use Rattle.matrix.specs.Dense.{entries_of}
 use Rattle.block.specs.Agreement.{Agree}
@@ -89,6 +89,6 @@ Demand3 solver = (r r' : Run) → Demanded r r' (solver r) (solver r')
 
 -- demand 3 of two Dyson calls, given r and r', that answered and left s and s'
 pub record DysonDemanded (r r' : Run) (s s' : Solved) : Type 0 where
-  pub blind : (k : ℕ) → Comparable k r r' (s.answer ≡ Pass) (s'.answer ≡ Pass) → SameRetarded k r r' s.retarded s'.retarded
-  pub above : s.answer ≡ Pass → ZeroAbove r s.retarded
-  pub above' : s'.answer ≡ Pass → ZeroAbove r' s'.retarded
+  pub blind : (k : ℕ) → Comparable k r r' (s.answer ≡ pass) (s'.answer ≡ pass) → SameRetarded k r r' s.retarded s'.retarded
+  pub above : s.answer ≡ pass → ZeroAbove r s.retarded
+  pub above' : s'.answer ≡ pass → ZeroAbove r' s'.retarded

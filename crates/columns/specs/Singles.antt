@@ -1,5 +1,5 @@
 -- A group that is one place at one orbital: when it is summed by a loop of its own, and what the group's outcome then is.
-use Rattle.std.specs.Prelude.{◌≡◌, ◌&&◌, ◌∷◌, ◌+◌, ◌*◌, ◌≤◌, ◌<◌}
+use Rattle.std.specs.Prelude.{Ok, Err, ◌≡◌, ◌&&◌, ◌∷◌, ◌+◌, ◌*◌, ◌≤◌, ◌<◌}
 use Rattle.lists.specs.Prelude.{refl, sym, ap, ◌∙◌, Bool, true, false, cond, List, [], ℕ, arith, leb, ltb, eqb, length, Float}
 use Rattle.lists.specs.Prelude.{add-zero, leb-true, ltb-true, eqb-true, eq-eqb}
 use Rattle.lists.specs.Indexed.{all_below, join}
@@ -8,10 +8,9 @@ use Rattle.complex.specs.declared.Complex.{Complex}
 use Rattle.complex.specs.Arithmetic.{cfinite}
 use Rattle.complex.specs.Numbers.{pair}
 use Rattle.block.specs.Block.{lay_out}
-use Rattle.refusal.specs.declared.Verdict.TheVariants.{Pass}
-use Rattle.refusal.specs.Verdict.{zeroed}
+use Rattle.refusal.specs.Verdict.{pass, zeroed}
 use Rattle.two_time.specs.declared.sums.Sums.{Sums}
-use Rattle.two_time.specs.declared.sums.Summed.TheVariants.{Finite, Overflow}
+use Rattle.two_time.specs.declared.sums.SumError.TheVariants.{Overflow}
 use Rattle.two_time.specs.Layout.{read_as, length_of}
 use Rattle.two_time.specs.Places.{Placed, within}
 use Rattle.two_time.specs.Calls.{all_long, all_fit, size_checks}
@@ -97,7 +96,7 @@ module _ (sums : Sums) (stride : ℕ) (left right : List Float) (t u : ℕ) (z :
 module _ (sums : Sums) (points : ℕ) (times left right : List Float) (t u : ℕ) (out : List Float)
     (z : Single sums points left right t u) (long : length out ≡ 2)
     (made : Complex) (is : made ≡ sum_at sums points 1 times left right t u 0 0) where
-  passed : size_checks points 1 (is_group points 1 t u 1) (left ∷ right ∷ []) ≡ Pass
+  passed : size_checks points 1 (is_group points 1 t u 1) (left ∷ right ∷ []) ≡ pass
   passed =
       let slices : all_long (length_of points 1) (left ∷ right ∷ []) ≡ true = long_also _ _ _ z.left-long (long_also _ _ _ z.right-long (long-none _)) in
       let sizes : SizesPassed points 1 true (left ∷ right ∷ []) =
@@ -116,11 +115,11 @@ module _ (sums : Sums) (points : ℕ) (times left right : List Float) (t u : ℕ
   unfolding join lay_out
   is_made = ap (λ (v : ℕ). pair (sum_at sums points 1 times left right t v 0 0)) (add-zero u) ∙ ap pair (sym is)
 
-  pub single-outcome : group_sums sums points 1 times left right t u 1 out ≡ record { answer = cond (cfinite made) Finite Overflow; out = cond (cfinite made) (pair made) (zeroed out) }
+  pub single-outcome : group_sums sums points 1 times left right t u 1 out ≡ record { answer = cond (cfinite made) (Ok tt) (Err Overflow); out = cond (cfinite made) (pair made) (zeroed out) }
   unfolding group_sums summed_answer summed_out
   single-outcome = rw (eq-eqb (length out) 2 long, passed, is_finite, is_made) (by_flag (cfinite made))
     where
-      by_flag : (f : Bool) → ◌≡◌ {A = SumsOutcome} (record { answer = summed_answer Pass f; out = summed_out (summed_answer Pass f) (pair made) out })
-          (record { answer = cond f Finite Overflow; out = cond f (pair made) (zeroed out) })
+      by_flag : (f : Bool) → ◌≡◌ {A = SumsOutcome} (record { answer = summed_answer pass f; out = summed_out (summed_answer pass f) (pair made) out })
+          (record { answer = cond f (Ok tt) (Err Overflow); out = cond f (pair made) (zeroed out) })
       by_flag true = refl
       by_flag false = refl

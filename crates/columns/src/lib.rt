@@ -2,13 +2,13 @@
 // number: the new column of an append is such places, one to a row. Sixteen lanes would hold one sum there.
 #![tactic(auto)]
 
-ghost use Rattle.std.specs.Prelude.{◌≡◌, ◌+◌, ◌*◌, ◌<◌, ◌≤◌};
+ghost use Rattle.std.specs.Prelude.{Ok, Err, ◌≡◌, ◌+◌, ◌*◌, ◌<◌, ◌≤◌};
 ghost use Rattle.lists.specs.Prelude.{ℕ, cond, length};
 ghost use Rattle.complex.specs.Arithmetic.{cfinite};
 ghost use Rattle.complex.specs.Numbers.{pair};
 ghost use Rattle.complex.specs.Sum.{sum_from};
 ghost use Rattle.refusal.specs.Verdict.{zeroed};
-ghost use Rattle.two_time.specs.declared.sums.Summed.TheVariants.{Finite, Overflow};
+ghost use Rattle.two_time.specs.declared.sums.SumError.TheVariants.{Overflow};
 ghost use Rattle.two_time.specs.WeightedSum.{weighted_sum};
 ghost use Rattle.groups.specs.PartialSums.{terms_of};
 ghost use Rattle.groups.specs.Groups.{group_sums};
@@ -20,7 +20,7 @@ use grid::interval_weight;
 use terms::{Factor, factor_of};
 use two_time::checks::has_length;
 use two_time::layout::clear;
-use two_time::sums::{Summed, Sums};
+use two_time::sums::{SumError, Summed, Sums};
 
 // The s of a sum, from 0 to `end`: the right number of s stands at `first` + s·`step`.
 #[derive(Clone, Copy)]
@@ -31,19 +31,15 @@ pub struct Walk {
 }
 
 // Whether the sums of a kind go over intervals from the first point on.
+#[tactic(auto, unfolding(crate::specs::Walks::from_first))]
 fn from_first(sums: Sums) -> bool
     ensures { result ≡ from_first sums }
 {
-    match sums {
-        Sums::Full => false,
-        Sums::Causal => false,
-        Sums::LesserAdvanced => true,
-        Sums::Lesser => true,
-        Sums::AntiCausal => false,
-    }
+    matches!(sums, Sums::LesserAdvanced | Sums::Lesser)
 }
 
 // The walk of such a sum at (t, u), by its right factor.
+#[tactic(auto, unfolding(crate::specs::Walks::walk_of))]
 fn walk_of(factor: Factor, stride: usize, t: usize, u: usize) -> Walk
     requires { (u < stride) × (stride ≤ 256) }
     ensures { result ≡ walk_of factor stride t u }
@@ -115,18 +111,18 @@ fn place_sum(
 // Writes a number, if it is finite.
 fn write(z: Complex, out: &mut [f64]) -> Summed
     requires { length out.old ≡ 2 }
-    ensures { (result ≡ cond (cfinite z) Finite Overflow) × (out.new ≡ cond (cfinite z) (pair z) (zeroed out.old)) }
+    ensures { (result ≡ cond (cfinite z) (Ok tt) (Err Overflow)) × (out.new ≡ cond (cfinite z) (pair z) (zeroed out.old)) }
 {
     if z.is_finite() {
-        out[0] = z.re;
-        out[1] = z.im;
-        return Summed::Finite;
+        out.copy_from_slice(&[z.re, z.im]);
+        return Ok(());
     }
     clear(out);
-    Summed::Overflow
+    Err(SumError::Overflow)
 }
 
 // Whether the group is one place at one orbital, of sums from the first point on, and all is there.
+#[tactic(auto, unfolding(crate::specs::Singles::is_single))]
 fn is_single(
     sums: Sums,
     left: &[f64],

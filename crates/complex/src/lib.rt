@@ -35,6 +35,7 @@ pub fn abs(x: f64) -> f64
 }
 
 // The larger of two numbers, and of a number and a NaN the number.
+#[tactic(auto, unfolding(crate::specs::Arithmetic::larger))]
 pub fn max(x: f64, y: f64) -> f64
     ensures { result ≡ larger x y }
 {
@@ -61,6 +62,7 @@ impl Complex {
         Complex::new(x, 0.0)
     }
 
+    #[tactic(auto, unfolding(crate::specs::Arithmetic::cadd))]
     pub fn plus(self, other: Complex) -> Complex
         ensures { result ≡ cadd self other }
     {
@@ -70,6 +72,7 @@ impl Complex {
         }
     }
 
+    #[tactic(auto, unfolding(crate::specs::Arithmetic::csub))]
     pub fn minus(self, other: Complex) -> Complex
         ensures { result ≡ csub self other }
     {
@@ -79,6 +82,7 @@ impl Complex {
         }
     }
 
+    #[tactic(auto, unfolding(crate::specs::Arithmetic::cmul))]
     pub fn times(self, other: Complex) -> Complex
         ensures { result ≡ cmul self other }
     {
@@ -88,6 +92,7 @@ impl Complex {
         }
     }
 
+    #[tactic(auto, unfolding(crate::specs::Arithmetic::conj))]
     pub fn conj(self) -> Complex
         ensures { result ≡ conj self }
     {
@@ -97,6 +102,7 @@ impl Complex {
         }
     }
 
+    #[tactic(auto, unfolding(crate::specs::Arithmetic::cfinite))]
     pub fn is_finite(self) -> bool
         ensures { result ≡ cfinite self }
     {

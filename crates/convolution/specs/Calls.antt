@@ -1,8 +1,7 @@
 -- Document 01, convolutions: the outcome of each call.
 use Rattle.std.specs.Prelude.{◌∷◌}
 use Rattle.lists.specs.Prelude.{ℕ, List, [], Float}
-use Rattle.refusal.specs.declared.Verdict.{Verdict}
-use Rattle.refusal.specs.Verdict.{◌then◌, zeroed, afterwards}
+use Rattle.refusal.specs.Verdict.{Verdict, ◌then◌, zeroed, afterwards}
 use Rattle.refusal.specs.Checks.{finite_work}
 use Rattle.two_time.specs.declared.sums.Sums.{Sums}
 use Rattle.two_time.specs.declared.sums.Sums.TheVariants.{Full, Causal}

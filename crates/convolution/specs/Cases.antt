@@ -1,10 +1,9 @@
 -- Closed cases of both convolutions. Expected bits by reference/expected.py.
-use Rattle.std.specs.Prelude.{◌≡◌, ◌∷◌}
+use Rattle.std.specs.Prelude.{Err, ◌≡◌, ◌∷◌}
 use Rattle.lists.specs.Prelude.{refl, List, [], map, ℕ, replicate, Float, nan, binary64, to_bits}
 use Rattle.std.specs.Float.Ieee as Ieee
 use Rattle.complex.specs.Arithmetic.{plus_zero, one}
-use Rattle.refusal.specs.declared.Verdict.TheVariants.{Pass, Refused}
-use Rattle.refusal.specs.Verdict.{by}
+use Rattle.refusal.specs.Verdict.{pass, by}
 use Rattle.two_time.specs.Computation.{computation}
 use Rattle.convolution.specs.Calls.{convolved_by, time_convolution, causal_convolution}
 
@@ -75,7 +74,7 @@ no-minus-zero = refl
 
 -- the largest by 1.5 overflows before the weight of half a step could make it small
 product_before-weight : time_convolution 2 1 apart (with_first 0x7fef_ffff_ffff_ffff) (with_first 0x3ff8_0000_0000_0000) (replicate 8 one)
-    ≡ record { answer = Refused (by 10); out = replicate 8 plus_zero }
+    ≡ record { answer = Err (by 10); out = replicate 8 plus_zero }
 unfolding computing
 product_before-weight = refl
 
@@ -87,20 +86,20 @@ weight-on_the_product = refl
 
 -- the largest by 2 at (0,0) of the causal one: "Form no product where an interval has one point only (start = end); the block is +0"
 one_point : causal_convolution 2 1 apart (with_first 0x7fef_ffff_ffff_ffff) (with_first 0x4000_0000_0000_0000) (replicate 8 one)
-    ≡ record { answer = Pass; out = floats (0 ∷ 0 ∷ 0 ∷ 0 ∷ 0x3ff8_0000_0000_0000 ∷ 0 ∷ 0 ∷ 0 ∷ []) }
+    ≡ record { answer = pass; out = floats (0 ∷ 0 ∷ 0 ∷ 0 ∷ 0x3ff8_0000_0000_0000 ∷ 0 ∷ 0 ∷ 0 ∷ []) }
 unfolding computing
 one_point = refl
 
 -- the same product in the interval from 0 to 2^-1074: "A longer interval whose step halves to 0 still forms its products"
 two-points : causal_convolution 2 1 (floats (0 ∷ 1 ∷ [])) (floats (0 ∷ 0 ∷ 0 ∷ 0 ∷ 0x7fef_ffff_ffff_ffff ∷ 0 ∷ 0 ∷ 0 ∷ [])) (with_first 0x4000_0000_0000_0000) (replicate 8 one)
-    ≡ record { answer = Refused (by 10); out = replicate 8 plus_zero }
+    ≡ record { answer = Err (by 10); out = replicate 8 plus_zero }
 unfolding computing
 two-points = refl
 
 -- any other refusal leaves the output: 7 of operand 1 at number 2, and 3 for an output that is short
 other-refusals : causal_convolution 2 1 apart (with_first 0) (plus_zero ∷ plus_zero ∷ nan ∷ plus_zero ∷ plus_zero ∷ plus_zero ∷ plus_zero ∷ plus_zero ∷ []) (replicate 8 one)
     ∷ causal_convolution 2 1 apart (with_first 0) (with_first 0) (one ∷ []) ∷ []
-    ≡ record { answer = Refused (record { number = 7; operand = 1; first = 2; second = 0; part = plus_zero }); out = replicate 8 one }
-    ∷ record { answer = Refused (by 3); out = one ∷ [] } ∷ []
+    ≡ record { answer = Err (record { number = 7; operand = 1; first = 2; second = 0; part = plus_zero }); out = replicate 8 one }
+    ∷ record { answer = Err (by 3); out = one ∷ [] } ∷ []
 unfolding computing
 other-refusals = refl

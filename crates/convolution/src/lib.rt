@@ -5,7 +5,7 @@ ghost use Rattle.std.specs.Prelude.{◌≡◌};
 ghost use Rattle.convolution.specs.Calls.{convolved_by, time_convolution, causal_convolution};
 
 use grid::check_grid;
-use refusal::{Refusal, Verdict};
+use refusal::Verdict;
 use sums::weighted_sums;
 use two_time::checks::{check_operand, check_sizes, has_length};
 use two_time::sums::Sums;
@@ -57,13 +57,10 @@ fn convolve(
     let right_fits = has_length(points, orbitals, right);
     let out_fits = has_length(points, orbitals, out);
     let fits = (times.len() == points) & (left_fits & (right_fits & out_fits));
-    let finite = check_operand(0, left).then(check_operand(1, right));
-    let verdict = check_sizes(points, orbitals, fits).then(check_grid(times, points).then(finite));
-    let Verdict::Pass = verdict else {
-        return verdict;
-    };
-    if weighted_sums(sums, times, left, right, points, orbitals, out).is_finite() {
-        return Verdict::Pass;
-    }
-    Verdict::Refused(Refusal::by(10))
+    check_sizes(points, orbitals, fits)?;
+    check_grid(times, points)?;
+    check_operand(0, left)?;
+    check_operand(1, right)?;
+    weighted_sums(sums, times, left, right, points, orbitals, out)?;
+    Ok(())
 }

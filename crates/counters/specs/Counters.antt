@@ -1,21 +1,18 @@
 -- A run or an append at a desk of a session as it crosses: the session's counters (document 02, L3 and L13) are passed as a slice of eight numbers, desk
 -- 0's first, which afterwards holds those of the session that the call leaves (`booked`): an accepted call alone moves its desk's.
-use Rattle.std.specs.Prelude.{◌&&◌}
+use Rattle.refusal.specs.declared.Refusal.{Refusal}
+use Rattle.std.specs.Prelude.{Result, Ok, Err, ◌&&◌}
 use Rattle.lists.specs.Prelude.{ℕ, suc, false, cond, List, eqb, ltb, length, get_or, set, replicate}
-use Rattle.refusal.specs.declared.Verdict.{Verdict}
-use Rattle.refusal.specs.declared.Verdict.TheVariants.{Pass, Refused}
-use Rattle.refusal.specs.Verdict.{◌then◌}
+use Rattle.refusal.specs.Verdict.{pass, Verdict, ◌then◌}
 use Rattle.refusal.specs.Checks.{desk_known}
 use Rattle.transient_run.specs.declared.Session.{Session}
-use Rattle.transient_run.specs.declared.Solved.{Solved}
-use Rattle.transient_run.specs.declared.Solved.TheVariants.{Accepted, Refused as NotSolved}
 use Rattle.transient_run.specs.Form.{form_sizes}
 use Rattle.transient_run.specs.Calls.{Run, Outcome, solved, transient_run, append_point}
 
 -- the verdict of its answer
-abbrev pub solved_verdict : Solved → Verdict
-solved_verdict (Accepted count) = Pass
-solved_verdict (NotSolved r) = Refused r
+abbrev pub solved_verdict : Result ℕ Refusal → Verdict
+solved_verdict (Ok count) = pass
+solved_verdict (Err r) = Err r
 
 -- the session whose counters the slice holds
 abbrev pub session_of : List ℕ → Session
@@ -26,9 +23,9 @@ unfoldable pub session_in : List ℕ → Session
 session_in counters = cond (eqb (length counters) 8) (session_of counters) (session_of (replicate 8 0))
 
 -- what a slice of any length holds after an answer and its session: an accepted one leaves the desk's counter in its place, if it has one
-unfoldable pub counters_after : Solved → Session → ℕ → List ℕ → List ℕ
-counters_after (Accepted count) session desk counters = cond (ltb desk 8 && ltb desk (length counters)) (set counters desk (get_or session.products desk 0)) counters
-counters_after (NotSolved r) session desk counters = counters
+unfoldable pub counters_after : Result ℕ Refusal → Session → ℕ → List ℕ → List ℕ
+counters_after (Ok count) session desk counters = cond (ltb desk 8 && ltb desk (length counters)) (set counters desk (get_or session.products desk 0)) counters
+counters_after (Err r) session desk counters = counters
 
 -- "Has each lent slice its exact length? 3", of counters that are not eight: 22 and checks 1 and 2, the block's too, come before it, and every slice is as it
 -- was

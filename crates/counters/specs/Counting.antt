@@ -1,14 +1,11 @@
 -- A run or an append as its contract says it of its counters: a slice of eight numbers, and one of another length. Assumes nothing.
-use Rattle.std.specs.Prelude.{◌≡◌, ◌∷◌, ◌+◌, ◌<◌}
-use Rattle.lists.specs.Prelude.{refl, sym, ap, ◌∙◌, true, false, List, [], ℕ, zero, suc, min, eqb, length, set, get_or, get_or-set_same, eq-eqb, ne_eqb, lt-ltb, arith, leb, leb-true, le-leb, Float}
-use Rattle.refusal.specs.declared.Verdict.{Verdict}
-use Rattle.refusal.specs.declared.Verdict.TheVariants.{Pass, Refused}
-use Rattle.refusal.specs.Verdict.{by, ask, ◌then◌}
+use Rattle.refusal.specs.declared.Refusal.{Refusal}
+use Rattle.std.specs.Prelude.{Result, Ok, Err, ◌≡◌, ◌∷◌, ◌+◌, ◌<◌}
+use Rattle.lists.specs.Prelude.{refl, sym, ap, ◌∙◌, true, false, List, [], ℕ, zero, suc, min, length, get_or, get_or-set_same, eq-eqb, ne_eqb, lt-ltb, arith, leb, leb-true, le-leb, Float}
+use Rattle.refusal.specs.Verdict.{pass, Verdict, by, ask, ◌then◌}
 use Rattle.refusal.specs.Checks.{large_enough, within_limits, fitting, within_capacity, desk_known}
 use Rattle.refusal.specs.Agreement.{not_pass, then-pass, same_test}
 use Rattle.transient_run.specs.declared.Session.{Session}
-use Rattle.transient_run.specs.declared.Solved.{Solved}
-use Rattle.transient_run.specs.declared.Solved.TheVariants.{Accepted, Refused as NotSolved}
 use Rattle.transient_run.specs.Form.{Form, form_sizes}
 use Rattle.transient_run.specs.Form.Form.{empty, occupied}
 use Rattle.transient_run.specs.FormChecks.{sizes-plain}
@@ -49,16 +46,16 @@ module _ (r : Run) where
   unfolding worked verdict_of
   worked-desk old points clear h = desk-below points r old (then-pass _ _ (accepted (verdict_of old points r) _ h)).0
 
-  pub run-desk : {a : Solved} → a ≡ (transient_run r).answer → is_accepted a ≡ true → r.desk < 8
+  pub run-desk : {a : Result ℕ Refusal} → a ≡ (transient_run r).answer → is_accepted a ≡ true → r.desk < 8
   unfolding transient_run
   run-desk e h = worked-desk _ _ _ (sym (ap is_accepted e) ∙ h)
 
-  pub append-desk : {a : Solved} → a ≡ (append_point r).answer → is_accepted a ≡ true → r.desk < 8
+  pub append-desk : {a : Result ℕ Refusal} → a ≡ (append_point r).answer → is_accepted a ≡ true → r.desk < 8
   unfolding append_point
   append-desk e h = worked-desk _ _ _ (sym (ap is_accepted e) ∙ h)
 
 -- what is written of an answer that is known otherwise
-module _ {a b : Solved} (same : a ≡ b) where
+module _ {a b : Result ℕ Refusal} (same : a ≡ b) where
   pub answer-written : (places : List ℕ) (part : List Float) → answer_of (solved_verdict a) places part ≡ answer_of (solved_verdict b) places part
   answer-written places part = rw same
 
@@ -71,14 +68,14 @@ module _ (counters : List ℕ) (long : length counters ≡ 8) where
   unfolding session_in
   session_in_lem = rw (eq-eqb (length counters) 8 long)
 
-  pub counters_after_lem : (desk : ℕ) (a : Solved) (session : Session) → session ≡ booked (session_of counters) desk a → (is_accepted a ≡ true → desk < 8)
+  pub counters_after_lem : (desk : ℕ) (a : Result ℕ Refusal) (session : Session) → session ≡ booked (session_of counters) desk a → (is_accepted a ≡ true → desk < 8)
       → counters_after a session desk counters ≡ (booked (session_of counters) desk a).products
   unfolding counters_after booked is_accepted
-  counters_after_lem desk (Accepted count) session s h =
+  counters_after_lem desk (Ok count) session s h =
       let below : desk < 8 = h refl in
       let within : desk < length counters = (omega arith) in
       rw s (rw (lt-ltb desk 8 below, lt-ltb desk (length counters) within, get_or-set_same counters desk _ 0 within))
-  counters_after_lem desk (NotSolved r) session s h = refl
+  counters_after_lem desk (Err r) session s h = refl
 
 -- ---- another length
 
@@ -88,21 +85,22 @@ unfit form desk points capacity n = desk_known desk then form_sizes form capacit
 
 verdict_of_lem : (v : Verdict) (count : ℕ) → v ≡ solved_verdict (solved v count)
 unfolding solved
-verdict_of_lem Pass count = refl
-verdict_of_lem (Refused r) count = refl
+verdict_of_lem (Ok tt) count = refl
+verdict_of_lem (Err r) count = refl
 
 -- a refusal adds nothing
-stays : (session : Session) (desk : ℕ) (v : Verdict) (count : ℕ) → (v ≡ Pass → ⊥) → session.products ≡ (booked session desk (solved v count)).products
+stays : (session : Session) (desk : ℕ) (v : Verdict) (count : ℕ) → (v ≡ pass → ⊥) → session.products ≡ (booked session desk (solved v count)).products
 unfolding solved booked
-stays session desk Pass count h = absurd (h refl)
-stays session desk (Refused r) count h = refl
+stays session desk (Ok tt) count h = absurd (h refl)
+stays session desk (Err r) count h = refl
 
 -- and it is one
-refuses : (form : Form) (desk points capacity n : ℕ) → unfit form desk points capacity n ≡ Pass → ⊥
+refuses : (form : Form) (desk points capacity n : ℕ) → unfit form desk points capacity n ≡ pass → ⊥
 unfolding fitting ask
 refuses form desk points capacity n e =
-    let plain = (sizes-plain capacity points n form false (then-pass (desk_known desk) _ e).1).0 in
-    not_pass (by 3) (then-pass (fitting false) _ (then-pass (within_limits capacity n) _ (then-pass (large_enough points n) _ plain).1).1).0
+    let plain = (sizes-plain capacity points n form false (then-pass (desk_known desk) (form_sizes form capacity points n false) e).1).0 in
+    let later = fitting false then within_capacity points capacity in
+    not_pass (by 3) (then-pass (within_limits capacity n) later (then-pass (large_enough points n) (within_limits capacity n then later) plain).1).1
 
 -- each slice as it was, beside that verdict
 pub record Left (r : Run) (made : Outcome) (v : Verdict) : Type 0 where
@@ -118,7 +116,7 @@ large-cut k points n e =
 
 -- what comes after 3 is not asked
 unfit_alike : (x y : Verdict) → (fitting false then x) ≡ (fitting false then y)
-unfolding fitting ask ◌then◌
+unfolding fitting ask
 unfit_alike x y = refl
 
 cut : (form : Form) (desk k points capacity n : ℕ) → k ≡ min points 256 → unfit form desk (k + 1) capacity n ≡ unfit form desk (suc points) capacity n

@@ -8,8 +8,7 @@ use Rattle.lists.specs.Agreement.{never}
 use Rattle.complex.specs.declared.Complex.{Complex}
 use Rattle.complex.specs.Arithmetic.{plus_zero, one, czero, cone, real}
 use Rattle.complex.specs.Zeros.{Zeros, zero-zeros}
-use Rattle.refusal.specs.declared.Verdict.TheVariants.{Pass}
-use Rattle.refusal.specs.Verdict.{zeroed}
+use Rattle.refusal.specs.Verdict.{pass, zeroed}
 use Rattle.refusal.specs.Checks.{not_empty, within_block}
 use Rattle.block.specs.Block.{Entries}
 use Rattle.two_time.specs.Layout.{TwoTime, read_as, lay_out_all}
@@ -134,11 +133,11 @@ other-dot = run minus (real two)
 abbrev coupled : Run
 coupled = run cone cone
 
-passes : (verdict_of 0 2 one-dot ≡ Pass) × (verdict_of 0 2 other-dot ≡ Pass) × (verdict_of 0 2 coupled ≡ Pass)
+passes : (verdict_of 0 2 one-dot ≡ pass) × (verdict_of 0 2 other-dot ≡ pass) × (verdict_of 0 2 coupled ≡ pass)
 unfolding run_computation not_empty within_block
 passes = (refl, refl, refl)
 
-answered : (r : Run) → verdict_of 0 r.points r ≡ Pass → is_accepted (transient_run r).answer ≡ true
+answered : (r : Run) → verdict_of 0 r.points r ≡ pass → is_accepted (transient_run r).answer ≡ true
 unfolding transient_run worked solved is_accepted
 answered r e = rw e
 
@@ -168,7 +167,7 @@ retarded_of-both : to_bits binary64 (get_or (retarded_made 0 2 one-dot) 16 nan) 
 unfolding run_computation
 retarded_of-both = refl
 
-left : (r : Run) → verdict_of 0 r.points r ≡ Pass → (transient_run r).retarded ≡ retarded_made 0 r.points r
+left : (r : Run) → verdict_of 0 r.points r ≡ pass → (transient_run r).retarded ≡ retarded_made 0 r.points r
 unfolding transient_run worked
 left r v = left-made zeroed (verdict_of 0 r.points r) _ r.retarded v
 

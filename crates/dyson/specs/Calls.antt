@@ -1,14 +1,13 @@
 -- Document 01, Dyson: the outcome of `solve_retarded`, `retarded_dyson_with_tolerance` and `retarded_dyson`.
 use Rattle.std.specs.Prelude.{◌&&◌, ◌∷◌}
 use Rattle.lists.specs.Prelude.{ℕ, Bool, true, List, [], leb, Float, binary64, of_bits}
-use Rattle.refusal.specs.declared.Verdict.{Verdict}
-use Rattle.refusal.specs.Verdict.{◌then◌, zeroed, afterwards}
+use Rattle.refusal.specs.Verdict.{Verdict, ◌then◌, zeroed, afterwards}
 use Rattle.refusal.specs.Checks.{finite_work}
 use Rattle.two_time.specs.Layout.{read_as}
 use Rattle.two_time.specs.New.{cleared_new}
 use Rattle.two_time.specs.Sums.{sums_numbers, sums_finite, new_numbers, new_finite}
 use Rattle.two_time.specs.declared.sums.Sums.TheVariants.{Causal}
-use Rattle.two_time.specs.declared.sums.Summed.{Summed}
+use Rattle.two_time.specs.Summed.{Summed}
 use Rattle.two_time.specs.Calls.{size_checks, input_checks}
 use Rattle.two_time.specs.Outcome.{summed_answer, summed_out, new_out}
 use Rattle.dyson.specs.Retarded.{retarded_numbers, retarded_finite, new_retarded, new_retarded_finite}

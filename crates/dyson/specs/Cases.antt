@@ -1,11 +1,9 @@
 -- Closed cases of the Dyson call: P11 of document 01, a run with two orbitals (reference/expected.py, case c), and each refusal of its own.
-use Rattle.std.specs.Prelude.{◌≡◌, ◌∷◌, ◌++◌}
+use Rattle.std.specs.Prelude.{Err, ◌≡◌, ◌∷◌, ◌++◌}
 use Rattle.lists.specs.Prelude.{refl, List, [], ℕ, replicate, take, Float, binary64}
 use Rattle.std.specs.Float.Ieee as Ieee
 use Rattle.complex.specs.Arithmetic.{plus_zero, one}
-use Rattle.refusal.specs.declared.Verdict.{Verdict}
-use Rattle.refusal.specs.declared.Verdict.TheVariants.{Pass, Refused}
-use Rattle.refusal.specs.Verdict.{number_of}
+use Rattle.refusal.specs.Verdict.{pass, Verdict, number_of}
 use Rattle.support.specs.Support.{scale_of, residual, retarded}
 use Rattle.two_time.specs.Computation.{computation}
 use Rattle.two_time.specs.Example as Example
@@ -31,7 +29,7 @@ abbrev p11-run : Solved
 p11-run = dyson_with_tolerance 3 1 half (floats (0 ∷ 0x3ff0000000000000 ∷ 0x4000000000000000 ∷ [])) lower lower (replicate 18 one) (replicate 18 one)
 
 -- "K(2,0) = 2, G(1,0) = 1.5, G(2,0) = 3.5"
-p11 : (p11-run.answer ≡ Pass)
+p11 : (p11-run.answer ≡ pass)
     × (bits p11-run.retarded ≡ 0x3ff0000000000000 ∷ 0 ∷ 0 ∷ 0 ∷ 0 ∷ 0 ∷ 0x3ff8000000000000 ∷ 0 ∷ 0x3ff0000000000000 ∷ 0 ∷ 0 ∷ 0 ∷ 0x400c000000000000 ∷ 0 ∷ 0x3ff8000000000000 ∷ 0 ∷ 0x3ff0000000000000 ∷ 0 ∷ [])
     × (bits p11-run.kernel ≡ 0 ∷ 0 ∷ 0 ∷ 0 ∷ 0 ∷ 0 ∷ 0x3ff0000000000000 ∷ 0 ∷ 0 ∷ 0 ∷ 0 ∷ 0 ∷ 0x4000000000000000 ∷ 0 ∷ 0x3ff0000000000000 ∷ 0 ∷ 0 ∷ 0 ∷ [])
 unfolding dyson_computation
@@ -78,6 +76,6 @@ abbrev refusal : List Float → List Float → Verdict
 refusal free self_energy = dyson_verdict (equation_of 2 1 (plus_zero ∷ one ∷ []) free self_energy) half (replicate 8 one) (replicate 8 one)
 
 operands : refusal (square 0 0x3ff0000000000000 0 0) (square 0 0x3ff0000000000000 0 0) ∷ refusal (square 0 0 0 0) (square 0 0x3ff0000000000000 0 0) ∷ []
-    ≡ Refused (record { number = 9; operand = 0; first = 0; second = 1; part = one }) ∷ Refused (record { number = 9; operand = 1; first = 0; second = 1; part = one }) ∷ []
+    ≡ Err (record { number = 9; operand = 0; first = 0; second = 1; part = one }) ∷ Err (record { number = 9; operand = 1; first = 0; second = 1; part = one }) ∷ []
 unfolding dyson_computation
 operands = refl

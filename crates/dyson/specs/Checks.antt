@@ -1,19 +1,17 @@
 -- The checks of a Dyson call as the code makes them, and what the answer of `solve_retarded` says. Assumes nothing.
-use Rattle.std.specs.Prelude.{◌≡◌, ◌∷◌, ◌++◌}
+use Rattle.std.specs.Prelude.{is_ok, ◌≡◌, ◌∷◌, ◌++◌}
 use Rattle.lists.specs.Prelude.{refl, sym, ◌∙◌, Bool, true, false, cond, List, [], ℕ, le_refl, arith, ltb, Float}
-use Rattle.refusal.specs.declared.Verdict.{Verdict}
-use Rattle.refusal.specs.declared.Verdict.TheVariants.{Pass}
-use Rattle.refusal.specs.Verdict.{◌then◌, zeroed}
+use Rattle.refusal.specs.Verdict.{pass, Verdict, ◌then◌, zeroed}
 use Rattle.refusal.specs.Checks.{valid_tolerance, retarded_at}
 use Rattle.refusal.specs.Agreement.{then-pass, then-agree, then-after}
 use Rattle.refusal.specs.Unchanged.{Keeping, passed, ask_keeping, then-keeping, all_keeping}
 use Rattle.two_time.specs.declared.sums.Sums.TheVariants.{Causal}
-use Rattle.two_time.specs.declared.sums.Summed.{Summed}
+use Rattle.two_time.specs.Summed.{Summed}
 use Rattle.two_time.specs.Layout.{TwoTime, read_as}
 use Rattle.support.specs.Support.{retarded, residual, check_inputs}
 use Rattle.two_time.specs.Sums.{sums_finite}
 use Rattle.two_time.specs.Calls.{input_checks}
-use Rattle.two_time.specs.Outcome.{all_summed, by_flag}
+use Rattle.two_time.specs.Outcome.{by_flag}
 use Rattle.two_time.specs.SizeChecks.{SizesPassed, sizes_pass}
 use Rattle.two_time.specs.CapacityChecks.{capacity_pass}
 use Rattle.two_time.specs.Lengths.{lengths, others-asked, none-asked, also_asked}
@@ -23,7 +21,7 @@ use Rattle.dyson.specs.Calls.{Equation, support_checks, kernel_of, retarded_of, 
 
 module _ (points n : ℕ) (tolerance : Float) where
   -- a support test never refuses by 10
-  place_keeping : (operand : ℕ) (x : TwoTime) (t u : ℕ) (b : Bool) → Keeping (cond b (retarded_at operand t u tolerance (residual points n x t u)) Pass)
+  place_keeping : (operand : ℕ) (x : TwoTime) (t u : ℕ) (b : Bool) → Keeping (cond b (retarded_at operand t u tolerance (residual points n x t u)) pass)
   unfolding retarded_at
   place_keeping operand x t u true = ask_keeping _ _ refl
   place_keeping operand x t u false = passed
@@ -41,7 +39,7 @@ module _ (q : Equation) (tolerance : Float) (operands outputs : List (List Float
   inputs = input_checks q.points q.orbitals q.times (q.free ∷ q.self_energy ∷ operands) outputs
 
   -- the sizes of a call that passes
-  pub checks-sizes : inputs ≡ Pass → SizesPassed q.points q.orbitals true (q.free ∷ q.self_energy ∷ (operands ++ outputs))
+  pub checks-sizes : inputs ≡ pass → SizesPassed q.points q.orbitals true (q.free ∷ q.self_energy ∷ (operands ++ outputs))
   checks-sizes h = let z = inputs-sizes q.points q.orbitals q.times (q.free ∷ q.self_energy ∷ operands) outputs h in others-asked z _ z.long
 
   -- before 8 and 9 the code asks checks 1 to 3 of both operands again, which changes nothing
@@ -57,7 +55,7 @@ module _ (q : Equation) (tolerance : Float) (operands outputs : List (List Float
   pub checks_keeping : Keeping (checks_before q tolerance operands outputs)
   checks_keeping = then-keeping (inputs_keeping q.points q.orbitals q.times _ _) (support_keeping q.points q.orbitals tolerance _ _)
 
-  pub checks-passed : checks_before q tolerance operands outputs ≡ Pass → SizesPassed q.points q.orbitals true (q.free ∷ q.self_energy ∷ (operands ++ outputs))
+  pub checks-passed : checks_before q tolerance operands outputs ≡ pass → SizesPassed q.points q.orbitals true (q.free ∷ q.self_energy ∷ (operands ++ outputs))
   checks-passed h = checks-sizes (then-pass inputs _ h).0
 
 module _ (q : Equation) where
@@ -73,7 +71,7 @@ module _ (q : Equation) where
 
   -- what an answer says of slices that have their length
   pub solved_said : (retarded kernel : List Float) → SizesPassed q.points q.orbitals true (q.free ∷ q.self_energy ∷ retarded ∷ kernel ∷ []) → {answer : Summed} {retarded' kernel' : List Float}
-      → (let solved = solved_retarded q retarded kernel in (answer ≡ solved.answer) × (retarded' ≡ solved.retarded) × (kernel' ≡ solved.kernel)) → (ok : Bool) → ok ≡ all_summed answer
+      → (let solved = solved_retarded q retarded kernel in (answer ≡ solved.answer) × (retarded' ≡ solved.retarded) × (kernel' ≡ solved.kernel)) → (ok : Bool) → ok ≡ is_ok answer
       → (solved_finite q ≡ ok) × (retarded' ≡ cond ok (retarded_of q) (zeroed retarded)) × (kernel' ≡ cond ok (kernel_of q) (zeroed kernel))
   unfolding solved_retarded
   solved_said retarded kernel z e ok h = let t = by_flag _ _ (sizes_pass _ z z.long) _ e.0 ok h in (t.0, e.1 ∙ t.1 _ retarded, e.2 ∙ t.1 _ kernel)

@@ -1,20 +1,19 @@
 -- K and G at the new places: what the answers on the way say of them, and that those from 0 on are all. Assumes nothing.
-use Rattle.std.specs.Prelude.{◌≡◌, ◌&&◌, ◌∷◌}
+use Rattle.std.specs.Prelude.{is_ok, Ok, Err, ◌≡◌, ◌&&◌, ◌∷◌}
 use Rattle.lists.specs.Prelude.{refl, sym, ap, ap₂, ◌∙◌, Bool, true, false, cond, List, [], ℕ, zero, suc, le_refl, arith, leb, ltb, le-leb, le-ltb, length, Float}
 use Rattle.complex.specs.declared.Complex.{Complex}
 use Rattle.complex.specs.Arithmetic.{czero}
 use Rattle.block.specs.Operations.{zeros}
-use Rattle.refusal.specs.declared.Verdict.{Verdict}
-use Rattle.refusal.specs.declared.Verdict.TheVariants.{Pass, Refused}
+use Rattle.refusal.specs.Verdict.{pass, Verdict}
 use Rattle.two_time.specs.declared.sums.Sums.TheVariants.{Causal}
-use Rattle.two_time.specs.declared.sums.Summed.{Summed}
-use Rattle.two_time.specs.declared.sums.Summed.TheVariants.{Finite, Overflow, Unfit}
+use Rattle.two_time.specs.Summed.{Summed}
+use Rattle.two_time.specs.declared.sums.SumError.TheVariants.{Overflow, Unfit}
 use Rattle.two_time.specs.Layout.{TwoTime, read_as, lay_out_all, everywhere}
 use Rattle.two_time.specs.New.{cleared_new}
 use Rattle.two_time.specs.WeightedSum.{weighted_sum, finite_sum}
 use Rattle.two_time.specs.Sums.{dyson_terms, new_finite}
 use Rattle.two_time.specs.Calls.{size_checks}
-use Rattle.two_time.specs.Outcome.{summed_answer, summed_out, all_summed, new_out, new_flag, all_finite_lem, all-numbers, all-cleared}
+use Rattle.two_time.specs.Outcome.{summed_answer, summed_out, new_out, new_flag, all_finite_lem, all-numbers, all-cleared}
 use Rattle.two_time.specs.Written.{every_new-all, written_all}
 use Rattle.two_time.specs.SizeChecks.{sizes-passed}
 use Rattle.two_time.specs.Lengths.{lengths}
@@ -33,9 +32,9 @@ module _ (capacity n old points : ℕ) (times free self_energy retarded kernel :
   kernel-there e k r = rw (e, r, k)
 
   -- what an answer says of slices that have their length
-  pub solved_new_said : size_checks capacity n (leb old points && leb points capacity) (free ∷ self_energy ∷ retarded ∷ kernel ∷ []) ≡ Pass → {answer : Summed} {retarded' kernel' : List Float}
+  pub solved_new_said : size_checks capacity n (leb old points && leb points capacity) (free ∷ self_energy ∷ retarded ∷ kernel ∷ []) ≡ pass → {answer : Summed} {retarded' kernel' : List Float}
       → (let solved = solved_new capacity n old points times free self_energy retarded kernel in (answer ≡ solved.answer) × (retarded' ≡ solved.retarded) × (kernel' ≡ solved.kernel))
-      → (ok : Bool) → ok ≡ all_summed answer → (solved_new_finite capacity n old points times free self_energy retarded kernel ≡ ok)
+      → (ok : Bool) → ok ≡ is_ok answer → (solved_new_finite capacity n old points times free self_energy retarded kernel ≡ ok)
       × (retarded' ≡ cond ok (new_green capacity n old points times free self_energy retarded kernel) (cleared_new capacity n old points retarded))
       × (kernel' ≡ cond ok (new_kernel capacity n old points times free self_energy retarded kernel) (cleared_new capacity n old points kernel))
   unfolding solved_new
@@ -95,8 +94,8 @@ module _ (points n : ℕ) (times free self_energy retarded kernel : List Float) 
           → ◌≡◌ {A = SumsSolved}
           (record { answer = summed_answer v finite; retarded = new_out (summed_answer v finite) (retarded_of q) (cleared_new points n 0 points retarded) retarded; kernel = new_out (summed_answer v finite) (kernel_of q) (cleared_new points n 0 points kernel) kernel })
           (record { answer = summed_answer v finite; retarded = summed_out (summed_answer v finite) (retarded_of q) retarded; kernel = summed_out (summed_answer v finite) (kernel_of q) kernel })
-      by-verdict (Refused r) e finite = refl
-      by-verdict Pass e true = refl
-      by-verdict Pass e false =
+      by-verdict (Err r) e finite = refl
+      by-verdict (Ok tt) e true = refl
+      by-verdict pass e false =
           let l = lengths (sizes-passed points n true (free ∷ self_energy ∷ retarded ∷ kernel ∷ []) e) in
-          ap₂ (λ (g k : List Float). record { answer = Overflow; retarded = g; kernel = k }) (all-cleared Causal points n times free self_energy retarded l.1.1.0) (all-cleared Causal points n times free self_energy kernel l.1.1.1.0)
+          ap₂ (λ (g k : List Float). record { answer = (Err Overflow); retarded = g; kernel = k }) (all-cleared Causal points n times free self_energy retarded l.1.1.0) (all-cleared Causal points n times free self_energy kernel l.1.1.1.0)

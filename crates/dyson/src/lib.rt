@@ -8,12 +8,12 @@ ghost use Rattle.dyson.specs.Calls.{dyson, dyson_with_tolerance, equation_of, so
 
 use forward::forward;
 use grid::check_grid;
-use refusal::{Refusal, Verdict};
+use refusal::Verdict;
 use sums::new_sums;
 use support::check_retarded_inputs;
 use two_time::capacity::{Shape, clear_new};
 use two_time::checks::{all_fit, check_operand, check_sizes};
-use two_time::sums::{Summed, Sums};
+use two_time::sums::{SumError, Summed, Sums};
 
 // K, the causal convolution of free and self-energy, in the scratch, and then G in the output, each at the new places of slices laid out for the
 // capacity. Where something is not finite both hold +0 there; the rest is as it was, and so is all where nothing is summed.
@@ -33,20 +33,19 @@ pub fn solve_new(
     let orbitals = shape.orbitals;
     let there = (old <= shape.points) & (shape.points <= capacity);
     let fits = all_fit(free, self_energy, retarded, kernel, capacity, orbitals);
-    let Verdict::Pass = check_sizes(capacity, orbitals, there & fits) else {
-        return Summed::Unfit;
+    let Ok(()) = check_sizes(capacity, orbitals, there & fits) else {
+        return Err(SumError::Unfit);
     };
-    let convolved = new_sums(Sums::Causal, times, free, self_energy, shape, old, kernel);
-    if !convolved.is_finite() {
+    if new_sums(Sums::Causal, times, free, self_energy, shape, old, kernel).is_err() {
         clear_new(shape, old, retarded);
-        return Summed::Overflow;
+        return Err(SumError::Overflow);
     }
-    if forward(times, free, kernel, shape, old, retarded) {
-        return Summed::Finite;
+    if forward(times, free, kernel, shape, old, retarded).is_err() {
+        clear_new(shape, old, retarded);
+        clear_new(shape, old, kernel);
+        return Err(SumError::Overflow);
     }
-    clear_new(shape, old, retarded);
-    clear_new(shape, old, kernel);
-    Summed::Overflow
+    Ok(())
 }
 
 // The same at all places of slices laid out for the points: both +0 throughout where something is not finite, and as they were where nothing is summed.
@@ -86,28 +85,22 @@ pub fn retarded_dyson_with_tolerance(
         (result ≡ solved.answer) × (retarded.new ≡ solved.retarded) × (kernel.new ≡ solved.kernel) }
 {
     let fits = all_fit(free, self_energy, retarded, kernel, points, orbitals);
-    let entries = check_operand(0, free).then(check_operand(1, self_energy));
-    let inputs = check_sizes(points, orbitals, (times.len() == points) & fits).then(check_grid(
-        times, points,
-    ).then(entries));
+    check_sizes(points, orbitals, (times.len() == points) & fits)?;
+    check_grid(times, points)?;
+    check_operand(0, free)?;
+    check_operand(1, self_energy)?;
     let shape = Shape {
         points,
         capacity: points,
         orbitals,
     };
-    let support = check_retarded_inputs(free, self_energy, shape, tolerance);
-    let verdict = inputs.then(support);
-    let Verdict::Pass = verdict else {
-        return verdict;
-    };
-    let solved = solve_retarded(times, free, self_energy, points, orbitals, retarded, kernel);
-    if solved.is_finite() {
-        return Verdict::Pass;
-    }
-    Verdict::Refused(Refusal::by(10))
+    check_retarded_inputs(free, self_energy, shape, tolerance)?;
+    solve_retarded(times, free, self_energy, points, orbitals, retarded, kernel)?;
+    Ok(())
 }
 
 // The same with the tolerance 1e-12.
+#[tactic(auto, unfolding(crate::specs::Calls::dyson))]
 pub fn retarded_dyson(
     times: &[f64],
     free: &[f64],
@@ -126,7 +119,7 @@ pub fn retarded_dyson(
         self_energy,
         points,
         orbitals,
-        f64::from_bits(0x3d71_9799_812d_ea11),
+        1e-12,
         retarded,
         kernel,
     )

@@ -1,13 +1,11 @@
 -- The checks of a list of queries as the code asks them, and what it says that they pass: each query is answered as by the single call. Assumes nothing.
-use Rattle.std.specs.Prelude.{◌≡◌, ◌&&◌, ◌∷◌, ◌-◌, ◌*◌, ◌≤◌}
+use Rattle.std.specs.Prelude.{Err, ◌≡◌, ◌&&◌, ◌∷◌, ◌-◌, ◌*◌, ◌≤◌}
 use Rattle.lists.specs.Prelude.{refl, sym, ap, ◌∙◌, Bool, true, false, List, [], ℕ, arith, eqb, length, get_or, Float, nan, eqb-true, eq-eqb}
 use Rattle.lists.specs.Indexed.{join}
 use Rattle.lists.specs.Agreement.{both, join_agree}
 use Rattle.complex.specs.Numbers.{entry_at}
 use Rattle.refusal.specs.declared.Refusal.{Refusal}
-use Rattle.refusal.specs.declared.Verdict.{Verdict}
-use Rattle.refusal.specs.declared.Verdict.TheVariants.{Pass, Refused}
-use Rattle.refusal.specs.Verdict.{◌then◌}
+use Rattle.refusal.specs.Verdict.{pass, Verdict, ◌then◌}
 use Rattle.refusal.specs.Agreement.{then-pass, then-assoc, then-after, then-refused, same_test}
 use Rattle.refusal.specs.Checks.{within_list}
 use Rattle.two_time.specs.Calls.{capacity_checks, point_entries, point_checks}
@@ -24,11 +22,11 @@ twice-more long n h = same_test _ _ (λ e. eq-eqb long (2 * n) (let d = eqb-true
 
 -- a slice after a call that is refused, and after one that is accepted
 module _ {A : Type 0} {v : Verdict} (made before : List A) where
-  pub written-refused : {r : Refusal} → v ≡ Refused r → before ≡ written v made before
+  pub written-refused : {r : Refusal} → v ≡ Err r → before ≡ written v made before
   unfolding written
   written-refused p = rw p
 
-  pub written-accepted : {out : List A} → v ≡ Pass → out ≡ made → out ≡ written v made before
+  pub written-accepted : {out : List A} → v ≡ pass → out ≡ made → out ≡ written v made before
   unfolding written
   written-accepted p e = rw (p, e)
 
@@ -57,14 +55,14 @@ module _ (capacity points orbitals : ℕ) (lesser : List Float) (queries : ℕ) 
 
   in-line : ((sizes then within_list queries) then point_entries capacity points orbitals 0 lesser) ≡ list_checks capacity points orbitals lesser queries fits
   unfolding list_checks
-  in-line = then-assoc _ _ _
+  in-line = then-assoc sizes (within_list queries) (point_entries capacity points orbitals 0 lesser)
 
   -- refused before 7
-  pub list_refused : {v : Verdict} {r : Refusal} → v ≡ (sizes then within_list queries) → v ≡ Refused r → v ≡ list_checks capacity points orbitals lesser queries fits
+  pub list_refused : {v : Verdict} {r : Refusal} → v ≡ (sizes then within_list queries) → v ≡ Err r → v ≡ list_checks capacity points orbitals lesser queries fits
   list_refused e p = p ∙ sym (then-refused _ _ _ (sym e ∙ p)) ∙ in-line
 
   -- 7, by the checks of one function, of which the others passed
-  pub list_asked : {v all : Verdict} → v ≡ (sizes then within_list queries) → v ≡ Pass → all ≡ point_checks capacity points orbitals 0 lesser → all ≡ list_checks capacity points orbitals lesser queries fits
+  pub list_asked : {v all : Verdict} → v ≡ (sizes then within_list queries) → v ≡ pass → all ≡ point_checks capacity points orbitals 0 lesser → all ≡ list_checks capacity points orbitals lesser queries fits
   list_asked e p q =
       let passes = sym e ∙ p in
       let s = capacity-passed capacity points orbitals fits (lesser ∷ []) (then-pass _ _ passes).0 in
@@ -73,8 +71,8 @@ module _ (capacity points orbitals : ℕ) (lesser : List Float) (queries : ℕ) 
       (record { points-least = z.points-least; orbitals-least = z.orbitals-least; points-most = z.points-most; orbitals-most = z.orbitals-most; others = refl; long = z.long }) q
       ∙ sym (then-after _ _ passes) ∙ in-line
 
-  module _ (passed : list_checks capacity points orbitals lesser queries fits ≡ Pass) where
-    parts : (sizes ≡ Pass) × ((within_list queries then point_entries capacity points orbitals 0 lesser) ≡ Pass)
+  module _ (passed : list_checks capacity points orbitals lesser queries fits ≡ pass) where
+    parts : (sizes ≡ pass) × ((within_list queries then point_entries capacity points orbitals 0 lesser) ≡ pass)
     unfolding list_checks
     parts = then-pass _ _ passed
 
@@ -82,7 +80,7 @@ module _ (capacity points orbitals : ℕ) (lesser : List Float) (queries : ℕ) 
     list_fits = (capacity-passed capacity points orbitals fits (lesser ∷ []) parts.0).2.others
 
     -- the checks of the single call
-    pub lesser-passed : lesser_checks capacity points orbitals lesser ≡ Pass
+    pub lesser-passed : lesser_checks capacity points orbitals lesser ≡ pass
     unfolding lesser_checks point_checks
     lesser-passed =
         let s = capacity-passed capacity points orbitals fits (lesser ∷ []) parts.0 in
@@ -110,11 +108,11 @@ module _ (capacity points orbitals : ℕ) (lesser : List Float) (q : Queries) (f
   made = bond_flows_into capacity points orbitals lesser q flows numbers
 
   module _ {v : Verdict} (asked : v ≡ list_checks capacity points orbitals lesser (count q) (fitting q flows numbers)) where
-    pub list_nothing : {r : Refusal} → v ≡ Refused r → (v ≡ made.answer) × (flows ≡ made.flows) × (numbers ≡ made.numbers)
+    pub list_nothing : {r : Refusal} → v ≡ Err r → (v ≡ made.answer) × (flows ≡ made.flows) × (numbers ≡ made.numbers)
     unfolding bond_flows_into
     list_nothing p = let h = sym asked ∙ p in (asked, written-refused _ flows h, written-refused _ numbers h)
 
-    module _ (p : v ≡ Pass) where
+    module _ (p : v ≡ pass) where
       pub list_fitting : Fit q × (length flows ≡ count q) × (length numbers ≡ count q)
       list_fitting = fits_said q flows numbers (list_fits capacity points orbitals lesser (count q) _ (sym asked ∙ p))
 

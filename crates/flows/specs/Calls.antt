@@ -1,13 +1,11 @@
 -- Document 02, L6: "Take a list of queries (time, a, b, hopping, factor) as slices, and write each answer in list order into two lent slices of the
 -- list's length: the flow (+0 on a refusal) and the refusal's number (0 if none)."
-use Rattle.std.specs.Prelude.{◌*◌, ◌&&◌, ◌∷◌}
+use Rattle.std.specs.Prelude.{Ok, Err, ◌*◌, ◌&&◌, ◌∷◌}
 use Rattle.lists.specs.Prelude.{ℕ, Bool, List, [], eqb, length, get_or, Float, nan}
 use Rattle.lists.specs.Indexed.{join}
 use Rattle.complex.specs.Arithmetic.{plus_zero}
 use Rattle.complex.specs.Numbers.{entry_at}
-use Rattle.refusal.specs.declared.Verdict.{Verdict}
-use Rattle.refusal.specs.declared.Verdict.TheVariants.{Pass, Refused}
-use Rattle.refusal.specs.Verdict.{◌then◌}
+use Rattle.refusal.specs.Verdict.{Verdict, ◌then◌}
 use Rattle.refusal.specs.Checks.{within_list}
 use Rattle.two_time.specs.Calls.{capacity_checks, point_entries}
 use Rattle.observables.specs.declared.Observed.{Observed}
@@ -41,8 +39,8 @@ fitting q flows numbers =
 
 -- what a slice holds after a call that has no 10: what was made where it is accepted, and else what it held
 unfoldable pub written : {A : Type 0} → Verdict → List A → List A → List A
-written Pass made before = made
-written (Refused r) made before = before
+written (Ok tt) made before = made
+written (Err r) made before = before
 
 -- the answer and what the two slices hold afterwards
 pub record Flows : Type 0 where

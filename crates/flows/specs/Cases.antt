@@ -1,11 +1,10 @@
 -- Closed cases of a list of bond flows: refused queries among others, lists that are refused whole, none and 1,025 of them, flows that are not finite.
-use Rattle.std.specs.Prelude.{◌≡◌, ◌∷◌, ◌+◌}
+use Rattle.std.specs.Prelude.{Err, ◌≡◌, ◌∷◌, ◌+◌}
 use Rattle.lists.specs.Prelude.{refl, List, [], ℕ, replicate, Float, nan, inf, true, false, binary64}
 use Rattle.std.specs.Float.Ieee as Ieee
 use Rattle.lists.specs.Indexed.{join}
 use Rattle.complex.specs.Arithmetic.{plus_zero, one, finite, cmul, cfinite}
-use Rattle.refusal.specs.declared.Verdict.TheVariants.{Pass, Refused}
-use Rattle.refusal.specs.Verdict.{by, ask, ◌then◌, ask_all}
+use Rattle.refusal.specs.Verdict.{pass, by, ask, ◌then◌, ask_all}
 use Rattle.refusal.specs.Checks.{large_enough, within_limits, fitting, time_below, orbital_below, within_capacity, within_list, finite_factors}
 use Rattle.two_time.specs.Calls.{all_long, capacity_checks, point_entries, point_checks}
 use Rattle.observables.specs.Density.{density}
@@ -55,10 +54,10 @@ wild = record {
 -- "the flow (+0 on a refusal) and the refusal's number (0 if none)", "a refused query does not stop the list"; flows that are not finite are answers
 answered : bond_flows_into 2 2 1 (lesser one) four (replicate 4 nan) (replicate 4 7) ∷ bond_flows_into 2 2 1 (lesser one) backward (replicate 4 nan) (replicate 4 7)
     ∷ bond_flows_into 2 2 1 (lesser largest) wild (replicate 3 one) (replicate 3 7) ∷ []
-    ≡ record { answer = Pass; flows = two ∷ plus_zero ∷ plus_zero ∷ plus_zero ∷ []; numbers = 0 ∷ 11 ∷ 12 ∷ 13 ∷ [] }
-    ∷ record { answer = Pass; flows = plus_zero ∷ plus_zero ∷ plus_zero ∷ two ∷ []; numbers = 13 ∷ 12 ∷ 11 ∷ 0 ∷ [] }
-    ∷ record { answer = Pass; flows = inf false ∷ inf true ∷ nan ∷ []; numbers = 0 ∷ 0 ∷ 0 ∷ [] } ∷ []
-unfolding bond_flows_into written flow_of observed_number list_checks bond_flow_into observed lesser_checks point_checks capacity_checks all_long large_enough within_limits fitting within_capacity within_list point_entries time_below orbital_below finite_factors ask ask_all ◌then◌ join density cmul cfinite finite Ieee.of_bits Ieee.add Ieee.sub Ieee.mul Ieee.neg
+    ≡ record { answer = pass; flows = two ∷ plus_zero ∷ plus_zero ∷ plus_zero ∷ []; numbers = 0 ∷ 11 ∷ 12 ∷ 13 ∷ [] }
+    ∷ record { answer = pass; flows = plus_zero ∷ plus_zero ∷ plus_zero ∷ two ∷ []; numbers = 13 ∷ 12 ∷ 11 ∷ 0 ∷ [] }
+    ∷ record { answer = pass; flows = inf false ∷ inf true ∷ nan ∷ []; numbers = 0 ∷ 0 ∷ 0 ∷ [] } ∷ []
+unfolding bond_flows_into written flow_of observed_number list_checks bond_flow_into observed lesser_checks point_checks capacity_checks all_long large_enough within_limits fitting within_capacity within_list point_entries time_below orbital_below finite_factors ask ask_all join density cmul cfinite finite Ieee.of_bits Ieee.add Ieee.sub Ieee.mul Ieee.neg
 answered = refl
 
 -- so many times the same query
@@ -69,11 +68,11 @@ many n = record { times = replicate n 0; a = replicate n 0; b = replicate n 0; h
 whole : (bond_flows_into 2 2 1 (lesser one) (many 0) [] []).answer ∷ (bond_flows_into 2 2 1 (lesser nan) (many 1025) (replicate 1025 one) (replicate 1025 7)).answer
     ∷ (bond_flows_into 2 2 1 (lesser nan) (many 1025) (replicate 1025 one) (replicate 1024 7)).answer ∷ (bond_flows_into 2 3 1 (lesser nan) (many 1025) (replicate 1025 one) (replicate 1025 7)).answer
     ∷ (bond_flows_into 2 2 1 (lesser nan) (many 1024) (replicate 1024 one) (replicate 1024 7)).answer ∷ []
-    ≡ Pass ∷ Refused (by 18) ∷ Refused (by 3) ∷ Refused (by 16) ∷ Refused (record { number = 7; operand = 0; first = 1; second = 0; part = plus_zero }) ∷ []
-unfolding bond_flows_into list_checks capacity_checks all_long large_enough within_limits fitting within_capacity within_list point_entries ask ask_all ◌then◌ finite Ieee.of_bits
+    ≡ pass ∷ Err (by 18) ∷ Err (by 3) ∷ Err (by 16) ∷ Err (record { number = 7; operand = 0; first = 1; second = 0; part = plus_zero }) ∷ []
+unfolding bond_flows_into list_checks capacity_checks all_long large_enough within_limits fitting within_capacity within_list point_entries ask ask_all finite Ieee.of_bits
 whole = refl
 
 -- both slices are as they were
-nothing_written : bond_flows_into 2 3 1 (lesser one) four (replicate 4 nan) (replicate 4 7) ≡ record { answer = Refused (by 16); flows = replicate 4 nan; numbers = replicate 4 7 }
-unfolding bond_flows_into written list_checks capacity_checks all_long large_enough within_limits fitting within_capacity ask ◌then◌
+nothing_written : bond_flows_into 2 3 1 (lesser one) four (replicate 4 nan) (replicate 4 7) ≡ record { answer = Err (by 16); flows = replicate 4 nan; numbers = replicate 4 7 }
+unfolding bond_flows_into written list_checks capacity_checks all_long large_enough within_limits fitting within_capacity ask
 nothing_written = refl

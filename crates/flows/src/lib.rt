@@ -5,25 +5,22 @@ ghost use Rattle.std.specs.Prelude.{◌≡◌, ◌*◌, ◌<◌};
 ghost use Rattle.lists.specs.Prelude.{eqb, length};
 ghost use Rattle.lists.specs.Singles.{singles};
 ghost use Rattle.observables.specs.Calls.{observed_number};
+ghost use Rattle.observables.specs.Measured.{outcome};
 ghost use Rattle.flows.specs.Calls.{Queries, count, flow_of, list_checks, bond_flows_into};
 ghost use Rattle.flows.specs.Asked.{Fit, asked_of};
 
 use complex::Complex;
-use observables::Observed;
 use observables::flow::flow_of;
-use refusal::Verdict;
 use refusal::checks::within_list;
+use refusal::{Refusal, Verdict};
 use two_time::capacity::{Shape, check_capacity, check_points};
 use two_time::checks::has_length;
 
-// Whether a slice has two numbers for each query: by a difference, as the product may wrap.
+// Whether a slice has two numbers for each query. A product that wraps is no length.
 fn is_twice(long: usize, queries: usize) -> bool
     ensures { result ≡ eqb long (2 * queries) }
 {
-    if long < queries {
-        return false;
-    }
-    long - queries == queries
+    queries.checked_mul(2) == Some(long)
 }
 
 // 1, 2, 3, 16, 18 and 7: `fits` says whether each slice fits the list. `check_points` asks the sizes again, which passed.
@@ -31,32 +28,19 @@ fn check_list(lesser: &[f64], shape: Shape, queries: usize, fits: bool) -> Verdi
     ensures { result ≡ list_checks shape.capacity shape.points shape.orbitals lesser.now queries fits }
 {
     let long = has_length(shape.capacity, shape.orbitals, lesser);
-    let sizes = check_capacity(shape, fits & long).then(within_list(queries));
-    let Verdict::Pass = sizes else {
-        return sizes;
-    };
+    check_capacity(shape, fits & long)?;
+    within_list(queries)?;
     check_points(0, lesser, shape)
 }
 
-// The flow of an answer, +0 on a refusal.
-fn flow(answer: Observed) -> f64
-    ensures { result ≡ flow_of answer }
-{
-    match answer {
-        Observed::Number(x) => x,
-        Observed::NotReal(_) => 0.0,
-        Observed::Refused(_) => 0.0,
-    }
-}
-
 // The refusal's number, 0 if there is none.
-fn number(answer: Observed) -> u8
-    ensures { result ≡ observed_number answer }
+#[tactic(auto, unfolding(observables::specs::Measured::outcome, observables::specs::Calls::observed_number))]
+fn number(answer: Result<f64, Refusal>) -> u8
+    ensures { result ≡ observed_number (outcome answer) }
 {
     match answer {
-        Observed::Number(_) => 0,
-        Observed::NotReal(_) => 14,
-        Observed::Refused(r) => r.number,
+        Ok(_) => 0,
+        Err(r) => r.number,
     }
 }
 
@@ -70,15 +54,15 @@ fn answer_to(
     hoppings: &[f64],
     factors: &[f64],
     k: usize,
-) -> Observed
+) -> Result<f64, Refusal>
     requires { Fit (record { times = times.now; a = a.now; b = b.now; hoppings = hoppings.now; factors = factors.now }) × (k < length times.now) }
-    ensures { result ≡ asked_of shape.capacity shape.points shape.orbitals lesser.now (record { times = times.entry.now; a = a.now; b = b.now; hoppings = hoppings.now; factors = factors.now }) k }
+    ensures { outcome result ≡ asked_of shape.capacity shape.points shape.orbitals lesser.now (record { times = times.entry.now; a = a.now; b = b.now; hoppings = hoppings.now; factors = factors.now }) k }
 {
     let hopping = Complex::new(hoppings[2 * k], hoppings[2 * k + 1]);
     flow_of(lesser, shape, times[k], a[k], b[k], hopping, factors[k])
 }
 
-// Writes the answers in list order.
+// Writes the answers in list order. The loop counts, as two slices are written at k: of mutable iterators in a zip a proof knows nothing.
 fn fill(
     lesser: &[f64],
     shape: Shape,
@@ -98,7 +82,7 @@ fn fill(
 {
     for k in 0..times.len() {
         let answer = answer_to(lesser, shape, times, a, b, hoppings, factors, k);
-        flows[k] = flow(answer);
+        flows[k] = answer.unwrap_or(0.0);
         numbers[k] = number(answer);
     }
 }
@@ -122,12 +106,9 @@ pub fn bond_flows_into(
     let bonds = (a.len() == queries) & (b.len() == queries);
     let couplings = is_twice(hoppings.len(), queries) & (factors.len() == queries);
     let outputs = (flows.len() == queries) & (numbers.len() == queries);
-    let verdict = check_list(lesser, shape, queries, bonds & (couplings & outputs));
-    let Verdict::Pass = verdict else {
-        return verdict;
-    };
+    check_list(lesser, shape, queries, bonds & (couplings & outputs))?;
     fill(
         lesser, shape, times, a, b, hoppings, factors, flows, numbers,
     );
-    verdict
+    Ok(())
 }

@@ -1,10 +1,9 @@
 -- Document 01, grid: the outcome of each call. A call on the grid alone asks checks 1 and 2 of N alone.
-use Rattle.std.specs.Prelude.{◌&&◌, ◌∷◌}
+use Rattle.refusal.specs.declared.Refusal.{Refusal}
+use Rattle.std.specs.Prelude.{Result, ◌&&◌, ◌∷◌}
 use Rattle.lists.specs.Prelude.{ℕ, Bool, true, List, [], eqb, length, Float}
 use Rattle.lists.specs.Indexed.{join}
-use Rattle.refusal.specs.declared.Verdict.{Verdict}
-use Rattle.refusal.specs.declared.Measured.{Measured}
-use Rattle.refusal.specs.Verdict.{◌then◌, zeroed, afterwards, measured}
+use Rattle.refusal.specs.Verdict.{Verdict, ◌then◌, zeroed, afterwards, measured}
 use Rattle.refusal.specs.Checks.{large_enough, within_limits, fitting, finite_times, rising_times, finite_weights, time_below}
 use Rattle.grid.specs.Weights.{full_weight, interval_weight}
 
@@ -31,5 +30,5 @@ full_weights points times weights =
     record { answer = verdict; weights = afterwards zeroed verdict (join points (λ i. full_weight points times i ∷ [])) weights }
 
 -- `checked_interval_weight`: "An end of N or more gives 11 before that."
-unfoldable pub checked_interval_weight : ℕ → List Float → ℕ → ℕ → ℕ → Measured
+unfoldable pub checked_interval_weight : ℕ → List Float → ℕ → ℕ → ℕ → Result Float Refusal
 checked_interval_weight points times point start end = measured (grid_call_checks points times true then time_below end points) (interval_weight times point start end)

@@ -3,15 +3,20 @@ use Rattle.std.specs.Prelude.{◌≡◌, ◌+◌, ◌-◌, ◌≤◌, ◌<◌}
 use Rattle.lists.specs.Prelude.{refl, false, List, ℕ, arith, eqb, length, get_or-eq_default, Float, nan, eqb-true}
 use Rattle.std.specs.Float.Ieee as Ieee
 use Rattle.lists.specs.Indexed.{all_below}
-use Rattle.complex.specs.Arithmetic.{finite, mul, sub, div, plus_zero}
+use Rattle.complex.specs.Arithmetic.{finite, div, plus_zero}
 use Rattle.refusal.specs.Search.{all-no}
 use Rattle.grid.specs.Inside.{either}
 use Rattle.grid.specs.Weights.{half_step, full_weight}
 
--- the code writes a NaN as 0 / 0
+-- what 0 / 0 is
 pub nan-made : div plus_zero plus_zero ≡ nan
 unfolding Ieee.div Ieee.of_bits
 nan-made = refl
+
+-- the bits that std writes for a NaN
+pub nan-bits : Ieee.of_bits Ieee.binary64 0x7ff8_0000_0000_0000 ≡ nan
+unfolding Ieee.of_bits
+nan-bits = refl
 
 module _ (times : List Float) where
   past-step : (i j : ℕ) → length times ≤ i → half_step times i j ≡ nan

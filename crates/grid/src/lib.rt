@@ -9,16 +9,17 @@ ghost use Rattle.refusal.specs.Checks.{finite_weights};
 ghost use Rattle.grid.specs.Weights.{half_step, full_weight, interval_weight};
 ghost use Rattle.grid.specs.Calls.{grid_checks, grid_call_checks, check_times, full_weights, checked_interval_weight};
 
-use refusal::{Measured, Verdict, checks};
+use refusal::{Refusal, Verdict, checks};
 
 // The time of a point.
 fn time_at(times: &[f64], i: usize) -> f64
     ensures { result ≡ get_or times.now i nan }
 {
-    if i < times.len() { times[i] } else { 0.0 / 0.0 }
+    times.get(i).copied().unwrap_or(f64::NAN)
 }
 
 // 0.5·(times[later] − times[earlier]).
+#[tactic(auto, unfolding(crate::specs::Weights::half_step))]
 pub fn half_step(times: &[f64], later: usize, earlier: usize) -> f64
     ensures { result ≡ half_step times.now later earlier }
 {
@@ -31,7 +32,7 @@ pub fn full_weight(times: &[f64], points: usize, index: usize) -> f64
     ensures { result ≡ full_weight points times.now index }
 {
     if times.len() <= index {
-        return 0.0 / 0.0;
+        return f64::NAN;
     }
     if index == 0 {
         return half_step(times, 1, 0);
@@ -42,20 +43,6 @@ pub fn full_weight(times: &[f64], points: usize, index: usize) -> f64
     half_step(times, index + 1, index - 1)
 }
 
-// The point after, at most the end.
-fn next(point: usize, end: usize) -> usize
-    ensures { result ≡ min (point + 1) end }
-{
-    if point < end { point + 1 } else { end }
-}
-
-// The point before, at least the start.
-fn previous(point: usize, start: usize) -> usize
-    ensures { result ≡ max (point - 1) start }
-{
-    if start < point { point - 1 } else { start }
-}
-
 // The weight of a point in the trapezoid rule from start to end: 0 if start ≥ end or the point lies outside, half the
 // adjoining step at an end, half of next minus previous inside.
 pub fn interval_weight(times: &[f64], point: usize, start: usize, end: usize) -> f64
@@ -64,8 +51,8 @@ pub fn interval_weight(times: &[f64], point: usize, start: usize, end: usize) ->
     if (end <= start) | ((point < start) | (end < point)) {
         return 0.0;
     }
-    let later = next(point, end);
-    let earlier = previous(point, start);
+    let later = point.saturating_add(1).min(end);
+    let earlier = point.saturating_sub(1).max(start);
     if end < times.len() {
         return 0.5 * (times[later] - times[earlier]);
     }
@@ -76,34 +63,33 @@ pub fn interval_weight(times: &[f64], point: usize, start: usize, end: usize) ->
 fn finite_weights(times: &[f64], points: usize) -> Verdict
     ensures { result ≡ finite_weights points (full_weight points times.now) }
 {
-    if times.len() < points {
-        return checks::numbered(false, 6);
-    }
-    let mut all = true;
-    for i in 0..points {
-        all = all & complex::is_finite(full_weight(times, points, i));
-    }
+    let all = (0..points).all(|i| complex::is_finite(full_weight(times, points, i)));
     checks::numbered(all, 6)
 }
 
 // The checks 4, 5 and 6.
+#[tactic(auto, unfolding(crate::specs::Calls::grid_checks))]
 pub fn check_grid(times: &[f64], points: usize) -> Verdict
     ensures { result ≡ grid_checks points times.now }
 {
-    let rise = checks::rising_times(points, times);
-    checks::finite_times(points, times).then(rise.then(finite_weights(times, points)))
+    checks::finite_times(points, times)?;
+    checks::rising_times(points, times)?;
+    finite_weights(times, points)
 }
 
 // The checks 1 to 6 of a call that is lent the times, with its own question of other lengths.
+#[tactic(auto, unfolding(crate::specs::Calls::grid_call_checks))]
 fn check_grid_call(times: &[f64], points: usize, fits: bool) -> Verdict
     ensures { result ≡ grid_call_checks points times.now fits }
 {
-    let limits = checks::within_limits(points, 1);
-    let fitting = checks::fitting((times.len() == points) & fits);
-    checks::large_enough(points, 1).then(limits.then(fitting.then(check_grid(times, points))))
+    checks::large_enough(points, 1)?;
+    checks::within_limits(points, 1)?;
+    checks::fitting((times.len() == points) & fits)?;
+    check_grid(times, points)
 }
 
 // Whether the times are a grid of N points.
+#[tactic(auto, unfolding(crate::specs::Calls::check_times))]
 pub fn check_times(times: &[f64], points: usize) -> Verdict
     ensures { result ≡ check_times points times.now }
 {
@@ -114,39 +100,34 @@ pub fn check_times(times: &[f64], points: usize) -> Verdict
 fn fill(times: &[f64], points: usize, weights: &mut [f64])
     ensures { weights.new ≡ join (length weights.old) (λ i. full_weight points times.now i ∷ []) }
 {
+    // By index: after an adapter of `iter_mut` a proof does not know the values.
     for i in 0..weights.len() {
         weights[i] = full_weight(times, points, i);
     }
 }
 
 // The full weights of N points, in the slice lent for them. A refused call leaves the slice as it was.
+#[tactic(auto, unfolding(crate::specs::Calls::full_weights))]
 pub fn full_weights(times: &[f64], points: usize, weights: &mut [f64]) -> Verdict
     ensures { let made = full_weights points times.now weights.old in (result ≡ made.answer) × (weights.new ≡ made.weights) }
 {
-    let verdict = check_grid_call(times, points, weights.len() == points);
-    match verdict {
-        Verdict::Pass => {
-            fill(times, points, weights);
-            Verdict::Pass
-        }
-        Verdict::Refused(r) => Verdict::Refused(r),
-    }
+    check_grid_call(times, points, weights.len() == points)?;
+    fill(times, points, weights);
+    Ok(())
 }
 
 // The weight of a point from start to end. An end of N or more gives 11 before that.
+#[tactic(auto, unfolding(crate::specs::Calls::checked_interval_weight, crate::specs::Calls::check_times, refusal::specs::Verdict::measured))]
 pub fn checked_interval_weight(
     times: &[f64],
     points: usize,
     point: usize,
     start: usize,
     end: usize,
-) -> Measured
+) -> Result<f64, Refusal>
     ensures { result ≡ checked_interval_weight points times.now point start end }
 {
-    let below = checks::time_below(end, points);
-    let verdict = check_times(times, points).then(below);
-    match verdict {
-        Verdict::Pass => Measured::Of(interval_weight(times, point, start, end)),
-        Verdict::Refused(r) => Measured::Refused(r),
-    }
+    check_times(times, points)?;
+    checks::time_below(end, points)?;
+    Ok(interval_weight(times, point, start, end))
 }

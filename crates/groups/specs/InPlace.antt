@@ -15,26 +15,21 @@ use Rattle.terms.specs.declared.Factor.{Factor}
 use Rattle.terms.specs.declared.Factor.TheVariants.{Stored, Adjoint}
 use Rattle.terms.specs.Kinds.{right_by, right_number, factor_of}
 use Rattle.terms.specs.Held.{product_is}
-use Rattle.groups.specs.Right.{right_place, right-inside, right-read}
+use Rattle.groups.specs.Right.{right_place, right_beside, right-inside, right-read}
 use Rattle.groups.specs.PartialSums.{terms_of}
-
--- how far the number of lane c + 1 stands from that of lane c
-unfoldable pub lane_beside : Factor → ℕ → ℕ
-lane_beside Stored stride = 2
-lane_beside Adjoint stride = 2 * stride
 
 -- the product of lane c, from +0
 abbrev pub in_place : Factor → Complex → List Float → ℕ → ℕ → ℕ → Complex
-in_place factor x right stride j c = cadd czero (cmul x (right_number factor (entry_at right (j + c * lane_beside factor stride))))
+in_place factor x right stride j c = cadd czero (cmul x (right_number factor (entry_at right (j + c * right_beside factor stride))))
 
-lane_place : (factor : Factor) (stride s u c : ℕ) → right_place factor stride 1 s u 0 0 + c * lane_beside factor stride ≡ right_place factor stride 1 s (u + c) 0 0
-unfolding right_place lane_beside
+lane_place : (factor : Factor) (stride s u c : ℕ) → right_place factor stride 1 s u 0 0 + c * right_beside factor stride ≡ right_place factor stride 1 s (u + c) 0 0
+unfolding right_place right_beside
 lane_place Stored stride s u c = omega arith
 lane_place Adjoint stride s u c = omega (arith, add-mul u c stride, mul_left_comm c 2 stride)
 
 -- a lane's number lies in the slice
 pub lane_reach : (factor : Factor) (stride n s u c j len : ℕ) → n ≡ 1 → s < stride → u + c < stride → stride ≤ 256 → j ≡ right_place factor stride n s u 0 0 → length_of stride n ≤ len
-    → j + c * lane_beside factor stride + 1 < len
+    → j + c * right_beside factor stride + 1 < len
 lane_reach factor stride n s u c j len one hs hu hp e l =
     let p : Placed stride 1 s (u + c) 0 0 = record { first = hs; second = hu; row = omega arith; column = omega arith; stride_most = hp; orbitals-most = omega arith } in
     let inside = right-inside factor p in
@@ -56,7 +51,7 @@ module _ (sums : Sums) (points stride : ℕ) (times left right : List Float) (t 
       let za : a ≡ 0 = omega arith in
       let zb : b ≡ 0 = omega arith in
       let lane : p * 1 + b ≡ p = omega arith in
-      let read : right_number (factor_of sums) (entry_at right (right_place (factor_of sums) stride 1 s u 0 0 + p * lane_beside (factor_of sums) stride))
+      let read : right_number (factor_of sums) (entry_at right (right_place (factor_of sums) stride 1 s u 0 0 + p * right_beside (factor_of sums) stride))
       ≡ right_by (factor_of sums) (read_as stride 1 right) s (u + p) 0 0 =
       ap (λ (m : ℕ). right_number (factor_of sums) (entry_at right m)) (lane_place (factor_of sums) stride s u p) ∙ right-read (factor_of sums) stride 1 right s (u + p) 0 0 in
       ap (First 1) lane ∙ ap (λ (y : Complex). cadd czero (cmul (entry_at left (place stride 1 t s 0 0)) y)) read

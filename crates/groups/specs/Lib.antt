@@ -12,3 +12,4 @@ pub mod PartialSums
 pub mod Forward
 pub mod Zero
 pub mod Steps
+pub mod Runs

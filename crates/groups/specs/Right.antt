@@ -14,7 +14,8 @@ unfoldable pub right_place : Factor → ℕ → ℕ → ℕ → ℕ → ℕ → 
 right_place Stored stride n s u k b = place stride n s u k b
 right_place Adjoint stride n s u k b = place stride n u s b k
 
--- how far entry (k, b + 1) stands from entry (k, b)
+-- how far the number beside one stands from it: entry (k, b + 1) from entry (k, b), where a row has n; at one orbital entry (0, 0) of the next place,
+-- where a row has as many as places
 unfoldable pub right_beside : Factor → ℕ → ℕ
 right_beside Stored n = 2
 right_beside Adjoint n = 2 * n

@@ -1,6 +1,6 @@
 -- A loop over the groups of a row: where the next group stands, and how many places it has. Assumes nothing.
 use Rattle.std.specs.Prelude.{◌≡◌, ◌+◌, ◌-◌, ◌*◌, ◌/◌, ◌≤◌, ◌<◌}
-use Rattle.lists.specs.Prelude.{ℕ, min, mul-le-mul_right, add-mul, le-div_iff_mul-le, div-le_self, div-mul-le_self, arith}
+use Rattle.lists.specs.Prelude.{List, Float, length, length-append, length-take, length-drop, mid_of, put_mid, ℕ, min, mul-le-mul_right, add-mul, le-div_iff_mul-le, div-le_self, div-mul-le_self, arith}
 use Rattle.two_time.specs.Places.{product-most}
 use Rattle.groups.specs.Groups.{Grouped}
 
@@ -31,3 +31,9 @@ few-places n rest m some most left e =
     let all = div-le_self 16 n in
     let few : m ≤ 16 / n = omega arith in
     (omega arith, omega arith, omega arith, omega (arith, mul-le-mul_right n few, div-mul-le_self 16 n))
+
+-- a part of a slice is written by as many numbers as it has
+pub put_long : (a k : ℕ) (xs ys : List Float) → a + k ≤ length xs → length ys ≡ length (mid_of a k xs) → length (put_mid a k xs ys) ≡ length xs
+put_long a k xs ys h e =
+    let l : length (mid_of a k xs) ≡ k = simp (length-take, length-drop) (omega (arith, h)) in
+    simp (length-append, length-take, length-drop) (omega (arith, e, l, h))

@@ -8,26 +8,16 @@ ghost use Rattle.terms.specs.Kinds.{Reaches};
 ghost use Rattle.rows.specs.Rows.{stepped};
 ghost use Rattle.rows.specs.Numbers.{Mapped};
 ghost use Rattle.rows.specs.Ranges.{only_from, Ranged};
-ghost use Rattle.groups.specs.InPlace.{lane_beside, in_place};
+ghost use Rattle.groups.specs.Right.{right_beside};
+ghost use Rattle.groups.specs.InPlace.{in_place};
 ghost use Rattle.groups.specs.PartialSums.{terms_of, added, partial_at};
 ghost use Rattle.lanes.specs.Lanes.{lane_at};
 
-use crate::packing::{pack, place, right_number, right_place};
+use crate::packing::{pack, place, right_beside, right_number, right_place};
 use complex::Complex;
 use rows::add_packed;
 use terms::{Factor, Term, factor_of, term_of};
 use two_time::sums::Sums;
-
-// How far the number of lane c + 1 stands from that of lane c, at one orbital.
-pub(crate) fn lane_beside(factor: Factor, stride: usize) -> usize
-    requires { stride ≤ 256 }
-    ensures { result ≡ lane_beside factor stride }
-{
-    match factor {
-        Factor::Stored => 2,
-        Factor::Adjoint => 2 * stride,
-    }
-}
 
 // Adds a term at one orbital to the totals of the lanes from lo to before hi: x times the right number, from +0, times the weight.
 pub(crate) fn add_lanes(
@@ -42,11 +32,11 @@ pub(crate) fn add_lanes(
     totals: &mut [f64],
 )
     requires lo_le_hi { (lo ≤ hi) × (hi ≤ 16) × (length totals.old ≡ 32) × (stride ≤ 256) }
-    requires by_index { (c : ℕ) → c < hi → j + c * lane_beside factor stride + 1 < length right.now }
+    requires by_index { (c : ℕ) → c < hi → j + c * right_beside factor stride + 1 < length right.now }
     ensures { Mapped (only_from lo (λ c z. cadd z (cmul (in_place factor x right.now stride j c) (real weight)))) hi totals.old totals.new }
 {
     for c in lo..hi {
-        let beside = lane_beside(factor, stride);
+        let beside = right_beside(factor, stride);
         let y = right_number(factor, right, j + c * beside);
         let p = Complex::ZERO.plus(x.times(y));
         let z = Complex::new(totals[c], totals[c + 16]);
@@ -67,7 +57,7 @@ pub(crate) fn add_in_place(
     totals: &mut [f64],
 )
     requires ranged { Ranged term × (length totals.old ≡ 32) × (stride ≤ 256) }
-    requires by_index { (c : ℕ) → c < term.lanes → j + c * lane_beside factor stride + 1 < length right.now }
+    requires by_index { (c : ℕ) → c < term.lanes → j + c * right_beside factor stride + 1 < length right.now }
     ensures { Mapped (λ c z. stepped term c (in_place factor x right.now stride j c) z) term.lanes totals.old totals.new }
 {
     let below = term.below;

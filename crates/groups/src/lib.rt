@@ -5,6 +5,7 @@
 mod adding;
 pub mod onto;
 mod packing;
+pub mod runs;
 
 ghost use Rattle.std.specs.Prelude.{◌≡◌, ◌+◌, ◌*◌, ◌<◌, ◌≤◌};
 ghost use Rattle.lists.specs.Prelude.{ℕ, length};
@@ -18,13 +19,13 @@ ghost use Rattle.groups.specs.Groups.{is_group, is_below, group_sums, forward_gr
 use crate::adding::sum_group;
 use crate::packing::pack;
 use lanes::write_group;
-use refusal::Verdict;
 use terms::{Factor, span_of};
 use two_time::checks::{check_sizes, has_length};
 use two_time::layout::clear;
 use two_time::sums::{Summed, Sums};
 
 // Whether the places from (t, u) on are there, and few enough for the lanes.
+#[tactic(auto, unfolding(crate::specs::Groups::is_group))]
 pub fn is_group(points: usize, orbitals: usize, t: usize, u: usize, places: usize) -> bool
     ensures { result ≡ is_group points orbitals t u places }
 {
@@ -41,10 +42,7 @@ pub fn is_group(points: usize, orbitals: usize, t: usize, u: usize, places: usiz
 fn is_below(points: usize, orbitals: usize, t: usize, u: usize, places: usize) -> bool
     ensures { result ≡ is_below points orbitals t u places }
 {
-    if !is_group(points, orbitals, t, u, places) {
-        return false;
-    }
-    u + places <= t + 1
+    is_group(points, orbitals, t, u, places) && u + places <= t + 1
 }
 
 // Adds the sums at the places of row t from u on to totals that are given.
@@ -91,15 +89,12 @@ pub fn group(
     let there = is_group(points, orbitals, t, u, places);
     let left_fits = has_length(points, orbitals, left);
     let right_fits = has_length(points, orbitals, right);
-    let verdict = check_sizes(points, orbitals, there & (left_fits & right_fits));
-    let Verdict::Pass = verdict else {
-        return Summed::Unfit;
-    };
+    check_sizes(points, orbitals, there & (left_fits & right_fits))?;
     let span = span_of(sums, points, t, u, places);
     let length = places * (2 * (orbitals * orbitals));
     if (span.first == span.last) & (out.len() == length) {
         clear(out);
-        return Summed::Finite;
+        return Ok(());
     }
     let mut totals = [0.0; 512];
     group_totals(
@@ -176,10 +171,7 @@ pub fn forward_group(
     let kernel_fits = has_length(points, orbitals, kernel);
     let retarded_fits = has_length(points, orbitals, retarded);
     let fits = free_fits & (kernel_fits & retarded_fits);
-    let verdict = check_sizes(points, orbitals, below & fits);
-    let Verdict::Pass = verdict else {
-        return Summed::Unfit;
-    };
+    check_sizes(points, orbitals, below & fits)?;
     let width = 2 * (orbitals * orbitals);
     let start = t * (points * width) + u * width;
     let end = start + places * width;

@@ -4,7 +4,6 @@ ghost use Rattle.groups.specs.Onto.{group_onto};
 
 use crate::{group_totals, is_group};
 use lanes::write_group;
-use refusal::Verdict;
 use two_time::checks::{check_sizes, has_length};
 use two_time::sums::{Summed, Sums};
 
@@ -27,10 +26,7 @@ pub fn group_onto(
     let there = is_group(points, orbitals, t, u, places);
     let left_fits = has_length(points, orbitals, left);
     let right_fits = has_length(points, orbitals, right);
-    let verdict = check_sizes(points, orbitals, there & (left_fits & right_fits));
-    let Verdict::Pass = verdict else {
-        return Summed::Unfit;
-    };
+    check_sizes(points, orbitals, there & (left_fits & right_fits))?;
     let mut totals = starts;
     group_totals(
         sums,

@@ -21,14 +21,15 @@ pub(crate) fn right_number(factor: Factor, xs: &[f64], at: usize) -> Complex
     factor.number(z)
 }
 
-// How far the number beside one stands from it.
-pub(crate) fn right_beside(factor: Factor, orbitals: usize) -> usize
-    requires { orbitals ≤ 16 }
-    ensures { result ≡ right_beside factor orbitals }
+// How far the number beside one stands from it, where a row has `width` numbers.
+#[tactic(auto, unfolding(crate::specs::Right::right_beside))]
+pub(crate) fn right_beside(factor: Factor, width: usize) -> usize
+    requires { width ≤ 256 }
+    ensures { result ≡ right_beside factor width }
 {
     match factor {
         Factor::Stored => 2,
-        Factor::Adjoint => 2 * orbitals,
+        Factor::Adjoint => 2 * width,
     }
 }
 
@@ -63,6 +64,7 @@ pub(crate) fn place(stride: usize, orbitals: usize, t: usize, u: usize, a: usize
 }
 
 // Where the first number of row k of the right factor at (s, u) stands.
+#[tactic(auto, unfolding(crate::specs::Right::right_place))]
 pub(crate) fn right_place(
     factor: Factor,
     stride: usize,

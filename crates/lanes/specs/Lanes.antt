@@ -1,11 +1,11 @@
 -- Lanes of a group of neighbouring places: where each stands, and the blocks that they are written out as.
-use Rattle.std.specs.Prelude.{◌+◌, ◌*◌, ◌&&◌, ◌||◌, ◌∷◌, ◌++◌}
+use Rattle.std.specs.Prelude.{Ok, Err, ◌+◌, ◌*◌, ◌&&◌, ◌||◌, ◌∷◌, ◌++◌}
 use Rattle.lists.specs.Prelude.{ℕ, Bool, cond, not, List, [], leb, ltb, eqb, length, get_or, Float, nan}
 use Rattle.lists.specs.Indexed.{all_below, all_in, join}
 use Rattle.complex.specs.declared.Complex.{Complex}
 use Rattle.complex.specs.Arithmetic.{cfinite}
 use Rattle.block.specs.Block.{lay_out}
-use Rattle.two_time.specs.declared.sums.Summed.TheVariants.{Finite, Overflow, Unfit}
+use Rattle.two_time.specs.declared.sums.SumError.TheVariants.{Overflow, Unfit}
 use Rattle.two_time.specs.Outcome.{SumsOutcome, summed_out}
 
 -- lane c of row a
@@ -32,5 +32,5 @@ lanes_finite totals n places until = all_below places (λ p. all_in n n (λ a b.
 unfoldable pub written : List Float → ℕ → ℕ → ℕ → List Float → SumsOutcome
 written totals n places until out =
     let fits = (leb n 16 && leb places 16) && (leb (places * n) 16 && (eqb (length totals) 512 && eqb (length out) (places * (2 * (n * n))))) in
-    let answer = cond fits (cond (lanes_finite totals n places until) Finite Overflow) Unfit in
+    let answer = cond fits (cond (lanes_finite totals n places until) (Ok tt) (Err Overflow)) (Err Unfit) in
     record { answer = answer; out = summed_out answer (laid_lanes totals n places) out }

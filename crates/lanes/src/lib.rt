@@ -14,14 +14,7 @@ ghost use Rattle.lanes.specs.Writing.{checked_entry};
 
 use complex::Complex;
 use two_time::layout::clear;
-use two_time::sums::Summed;
-
-// An entry of a block that is made during the work, or that it, or a block on the way to it, is not finite.
-#[derive(Clone, Copy)]
-pub enum CheckedEntry {
-    Finite(Complex),
-    Overflow,
-}
+use two_time::sums::{SumError, Summed};
 
 // Lane c of row a.
 fn lane(xs: &[f64], a: usize, c: usize) -> Complex
@@ -32,14 +25,11 @@ fn lane(xs: &[f64], a: usize, c: usize) -> Complex
 }
 
 // An entry that is made: finite, or no entry. One that no term was added to is not asked.
-fn checked(z: Complex, asked: bool) -> CheckedEntry
+#[tactic(auto, unfolding(crate::specs::Writing::checked_entry))]
+fn checked(z: Complex, asked: bool) -> Option<Complex>
     ensures { result ≡ checked_entry asked z }
 {
-    if !asked | z.is_finite() {
-        CheckedEntry::Finite(z)
-    } else {
-        CheckedEntry::Overflow
-    }
+    (!asked | z.is_finite()).then_some(z)
 }
 
 // Writes z as the p-th complex number.
@@ -65,8 +55,7 @@ fn write_entries(
         × (result ≡ true → out.new ≡ cells orbitals (λ b. lane_at totals.now a (from + b))) }
 {
     for b in 0..orbitals {
-        let entry = checked(lane(totals, a, from + b), asked);
-        let CheckedEntry::Finite(z) = entry else {
+        let Some(z) = checked(lane(totals, a, from + b), asked) else {
             return false;
         };
         put(out, b, z);
@@ -81,6 +70,7 @@ fn write_block(totals: &[f64], from: usize, orbitals: usize, asked: bool, out: &
         × (result ≡ true → out.new ≡ lay_out orbitals orbitals (λ a b. lane_at totals.now a (from + b))) }
 {
     let width = 2 * orbitals;
+    // By index: once `chunks_mut` is over a proof does not know what it wrote.
     for a in 0..orbitals {
         let start = a * width;
         let end = start + width;
@@ -104,6 +94,7 @@ fn write_blocks(
         × (result ≡ true → out.new ≡ laid_lanes totals.now orbitals places) }
 {
     let width = 2 * (orbitals * orbitals);
+    // By index: once `chunks_mut` is over a proof does not know what it wrote.
     for p in 0..places {
         let start = p * width;
         let end = start + width;
@@ -132,16 +123,16 @@ pub fn write_group(
     ensures { let made = written totals.now orbitals places until out.old in (result ≡ made.answer) × (out.new ≡ made.out) }
 {
     if !((orbitals <= 16) & (places <= 16)) {
-        return Summed::Unfit;
+        return Err(SumError::Unfit);
     }
     let width = 2 * (orbitals * orbitals);
     let fits = (totals.len() == 512) & (out.len() == places * width);
     if !((places * orbitals <= 16) & fits) {
-        return Summed::Unfit;
+        return Err(SumError::Unfit);
     }
     if write_blocks(totals, orbitals, places, until, out) {
-        return Summed::Finite;
+        return Ok(());
     }
     clear(out);
-    Summed::Overflow
+    Err(SumError::Overflow)
 }

@@ -4,8 +4,7 @@
 use Rattle.std.specs.Prelude.{◌&&◌, ◌∷◌, ◌++◌}
 use Rattle.lists.specs.Prelude.{ℕ, Bool, List, [], Float}
 use Rattle.complex.specs.Arithmetic.{cfinite}
-use Rattle.refusal.specs.declared.Verdict.{Verdict}
-use Rattle.refusal.specs.Verdict.{◌then◌, zeroed, afterwards}
+use Rattle.refusal.specs.Verdict.{Verdict, ◌then◌, zeroed, afterwards}
 use Rattle.refusal.specs.Checks.{finite_work}
 use Rattle.block.specs.Operations.{added}
 use Rattle.two_time.specs.declared.sums.Sums.TheVariants.{Full, Causal, AntiCausal}

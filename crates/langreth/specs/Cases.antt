@@ -1,9 +1,8 @@
 -- Closed cases of the Langreth product (reference/expected.py, case e), 10 and another refusal.
-use Rattle.std.specs.Prelude.{◌≡◌, ◌∷◌}
+use Rattle.std.specs.Prelude.{Err, ◌≡◌, ◌∷◌}
 use Rattle.lists.specs.Prelude.{refl, List, [], map, ℕ, replicate, Float, nan}
 use Rattle.complex.specs.Arithmetic.{plus_zero, one}
-use Rattle.refusal.specs.declared.Verdict.TheVariants.{Pass, Refused}
-use Rattle.refusal.specs.Verdict.{by}
+use Rattle.refusal.specs.Verdict.{pass, by}
 use Rattle.two_time.specs.Computation.{computation}
 use Rattle.two_time.specs.Example.{floats}
 use Rattle.two_time.specs.Example as Example
@@ -72,7 +71,7 @@ abbrev at_1_1 : List Float
 at_1_1 = floats (0 ∷ 0 ∷ 0 ∷ 0 ∷ 0 ∷ 0 ∷ 0x7fe0000000000000 ∷ 0 ∷ [])
 
 -- their products on the diagonal are not formed: those intervals have one point
-one_point : langreth_product 2 1 times (zero_but at_0_0 at_1_1) (zero_but at_0_0 at_1_1) ones ≡ record { answer = Pass; out = zeros }
+one_point : langreth_product 2 1 times (zero_but at_0_0 at_1_1) (zero_but at_0_0 at_1_1) ones ≡ record { answer = pass; out = zeros }
 unfolding langreth_computation
 one_point = refl
 
@@ -82,7 +81,7 @@ at_0_1 = floats (0 ∷ 0 ∷ 0x7fe0000000000000 ∷ 0 ∷ 0 ∷ 0 ∷ 0 ∷ 0 �
 
 refused : langreth_product 2 1 times (zero_but at_0_0 at_0_1) (zero_but at_0_0 at_1_1) ones
     ∷ langreth_product 2 1 times ones (components_of ones.retarded ones.advanced ones.lesser (nan ∷ replicate 7 one)) ones ∷ []
-    ≡ record { answer = Refused (by 10); out = zeros }
-    ∷ record { answer = Refused (record { number = 7; operand = 7; first = 0; second = 0; part = plus_zero }); out = ones } ∷ []
+    ≡ record { answer = Err (by 10); out = zeros }
+    ∷ record { answer = Err (record { number = 7; operand = 7; first = 0; second = 0; part = plus_zero }); out = ones } ∷ []
 unfolding langreth_computation
 refused = refl

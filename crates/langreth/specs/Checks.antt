@@ -1,8 +1,7 @@
 -- Checks 1 to 7 of two groups of slices, one after the other. Assumes nothing.
 use Rattle.std.specs.Prelude.{◌≡◌, ◌&&◌, ◌∷◌, ◌++◌, ◌+◌}
 use Rattle.lists.specs.Prelude.{refl, ap, ap₂, ◌∙◌, Bool, true, false, and_assoc, List, [], ℕ, suc, zero-add, suc-add, add-suc, leb, eqb, length, Float}
-use Rattle.refusal.specs.declared.Verdict.{Verdict}
-use Rattle.refusal.specs.Verdict.{◌then◌}
+use Rattle.refusal.specs.Verdict.{Verdict, ◌then◌}
 use Rattle.refusal.specs.Checks.{finite_entries}
 use Rattle.refusal.specs.Agreement.{then-assoc}
 use Rattle.two_time.specs.Layout.{length_of}
@@ -25,6 +24,6 @@ fits-append points n xs ys b c e h =
     once false x y = refl
 
 pub operands-append : (k : ℕ) (xs ys : List (List Float)) → (operand_checks k xs then operand_checks (length xs + k) ys) ≡ operand_checks k (xs ++ ys)
-unfolding operand_checks ◌then◌
+unfolding operand_checks
 operands-append k [] ys = rw zero-add
 operands-append k (x ∷ xs) ys = then-assoc (finite_entries k x (length x)) (operand_checks (suc k) xs) _ ∙ ap (λ (v : Verdict). finite_entries k x (length x) then v) (rw (suc-add, ← add-suc) (operands-append (suc k) xs ys))

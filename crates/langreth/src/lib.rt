@@ -7,6 +7,8 @@ mod components;
 ghost use Rattle.std.specs.Prelude.{◌≡◌};
 ghost use Rattle.langreth.specs.Calls.{components_of, langreth_product};
 
+use checks::check_inputs;
+use components::{Operand, work};
 use refusal::{Refusal, Verdict};
 use two_time::checks::all_fit;
 use two_time::layout::clear;
@@ -40,46 +42,30 @@ pub fn langreth_product(
         × (lesser.new ≡ product.out.lesser)
         × (greater.new ≡ product.out.greater) }
 {
-    let outputs_fit = all_fit(retarded, advanced, lesser, greater, points, orbitals);
-    let verdict = checks::check_inputs(
-        times,
-        left_retarded,
-        left_advanced,
-        left_lesser,
-        left_greater,
-        right_retarded,
-        right_advanced,
-        right_lesser,
-        right_greater,
-        points,
-        orbitals,
-        outputs_fit,
-    );
-    let Verdict::Pass = verdict else {
-        return verdict;
+    let left = Operand {
+        retarded: left_retarded,
+        advanced: left_advanced,
+        lesser: left_lesser,
+        greater: left_greater,
     };
-    if components::work(
-        times,
-        left_retarded,
-        left_advanced,
-        left_lesser,
-        left_greater,
-        right_retarded,
-        right_advanced,
-        right_lesser,
-        right_greater,
-        points,
-        orbitals,
-        retarded,
-        advanced,
-        lesser,
-        greater,
-    ) {
-        return Verdict::Pass;
+    let right = Operand {
+        retarded: right_retarded,
+        advanced: right_advanced,
+        lesser: right_lesser,
+        greater: right_greater,
+    };
+    let outputs_fit = all_fit(retarded, advanced, lesser, greater, points, orbitals);
+    check_inputs(times, left, right, points, orbitals, outputs_fit)?;
+    if work(
+        times, left, right, points, orbitals, retarded, advanced, lesser, greater,
+    )
+    .is_err()
+    {
+        clear(retarded);
+        clear(advanced);
+        clear(lesser);
+        clear(greater);
+        return Err(Refusal::by(10));
     }
-    clear(retarded);
-    clear(advanced);
-    clear(lesser);
-    clear(greater);
-    Verdict::Refused(Refusal::by(10))
+    Ok(())
 }

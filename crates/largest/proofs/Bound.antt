@@ -8,7 +8,7 @@ use lib.Ieee as Ieee
 use lib.Ieee.Fits.{down_pos, round_is}
 use lib.Ieee.Nearest.{closest, closest_same}
 use lib.Ieee.Order.{round_mono}
-use Rattle.complex.specs.Arithmetic.{size, larger}
+use Rattle.complex.specs.Arithmetic.{larger}
 use Rattle.norm.specs.Norm.{root, rounded_root, in_units}
 use Rattle.norm.specs.Nearest.{rounded-is}
 use Rattle.norm.specs.Roots.{root_is}

@@ -1,41 +1,20 @@
 -- From the digits to the larger: squares in steps of 2^64 show that a root is below the middle of the step above l, and such a root rounds to at
 -- most l, so that the larger of l and the norm is l. Assumes nothing.
-use Rattle.std.specs.Prelude.{◌≡◌, ◌||◌, ◌+◌, ◌*◌, ◌/◌, ◌%◌, ◌^◌, ◌≤◌, ◌<◌}
-use Rattle.lists.specs.Prelude.{sym, ap, ◌∙◌, false, ℕ, suc, le_refl, le_of_lt, lt_of_le_of_lt, lt_of_not-le, mod-lt}
-use Rattle.lists.specs.Prelude.{div-le_self, div-lt_iff_lt-mul, mul-pos, mul-lt-mul_of_pos_right, pow-suc, dec_le, arith, T, eqb, ltb, pow-add, pow_pos, Float, binary64}
-use Rattle.lists.specs.Prelude.{units, le, fits, to_bits, ltb-false, eqb-false}
+use Rattle.std.specs.Prelude.{◌≡◌, ◌+◌, ◌*◌, ◌/◌, ◌%◌, ◌^◌, ◌≤◌, ◌<◌}
+use Rattle.lists.specs.Prelude.{sym, ap, ◌∙◌, false, ℕ, suc, le_refl, le_of_lt, lt_of_not-le}
+use Rattle.lists.specs.Prelude.{div-lt_iff_lt-mul, mul-pos, mul-lt-mul_of_pos_right, pow-suc, dec_le, arith, T, pow-add, pow_pos, Float, binary64}
+use Rattle.lists.specs.Prelude.{units, le, fits, to_bits}
 use lib.Ieee.Bits.{of_bits-to_bits}
-use Rattle.lists.specs.Agreement.{neither}
 use Rattle.complex.specs.Arithmetic.{larger}
 use Rattle.norm.specs.Norm.{norm, rounded_root}
 use Rattle.norm.specs.Parts.{unsigned, significand_of, shift_of, units_of, Significand}
-use Rattle.norm.specs.Squares.{less, columns, square_le, square-power, mul-lt-pow}
+use Rattle.norm.specs.Squares.{less, square_le, square-power}
 use Rattle.norm.specs.Cell.{rounded-within, step-alone}
 use Rattle.norm.specs.Sizes.{placed, by-step, size-by_bits, significand_small, significand_large}
 use Rattle.norm.specs.Nearest.{norm-of-sizes}
 use Rattle.norm.specs.Order.{ordered}
 use Rattle.largest.specs.Digits.{ten_more, over, BelowMiddle}
 use Rattle.largest.proofs.Bound.{at_most}
-
--- ---- a square by columns of 32 digits, without the lowest
-
-pub high-columns : (s : ℕ) → s < 2 ^ 63 → let r = s / 2 ^ 32 * (s / 2 ^ 32) + s / 2 ^ 32 * (s % 2 ^ 32) / 2 ^ 31 in
-    (r < 2 ^ 62) × (r * 2 ^ 64 ≤ s * s) × ((s + 1) * (s + 1) < (r + 3) * 2 ^ 64)
-high-columns s h =
-    words _ _ _ s (s * s) ((s + 1) * (s + 1)) (columns s) (mul-lt-pow 32 32 (mod-lt s (pow_pos 32)) (mod-lt s (pow_pos 32))) (next s) h (mul-lt-pow 63 63 h h)
-  where
-    next : (s : ℕ) → (s + 1) * (s + 1) ≡ s * s + 2 * s + 1
-    next s = omega arith
-
-    words : (h x b s t u : ℕ) → t ≡ h * 2 ^ 64 + x * 2 * 2 ^ 32 + b → b < 2 ^ 64 → u ≡ t + 2 * s + 1 → s < 2 ^ 63 → t < 2 ^ 126
-        → (h + x / 2 ^ 31 < 2 ^ 62) × ((h + x / 2 ^ 31) * 2 ^ 64 ≤ t) × (u < (h + x / 2 ^ 31 + 3) * 2 ^ 64)
-    words h x b s t u e l f k m = (omega arith, omega arith, omega arith)
-
-pub cut_fits : (a down : ℕ) → ten_more a / 2 ^ down < 2 ^ 63
-cut_fits a down = lt_of_le_of_lt (div-le_self (ten_more a) (2 ^ down)) (let f : ten_more a < 2 ^ 63 = omega arith in f)
-
-pub middle-fits : (l : ℕ) → ten_more l + 512 < 2 ^ 63
-middle-fits l = omega arith
 
 -- ---- the parts are below their digits at the exponent's field f
 
@@ -77,23 +56,12 @@ squares-within u v A B H P M z hu hv h e =
 middle : (l : ℕ) → 2 ^ 52 ≤ l → (ten_more l + 512) * 2 ^ (l / 2 ^ 52) ≡ (2 * significand_of l + 1) * 2 ^ shift_of l * 2 ^ 10
 middle l h = rw (half_step l h, significand_large l h) (omega arith)
 
--- a difference of fields that did not wrap
-pub no_wrap : (down f a : ℕ) → a < 2 ^ 64 → (down + a / 2 ^ 52) % 2 ^ 64 ≡ f → down ≤ 63 → down + a / 2 ^ 52 ≡ f
-no_wrap down f a l e h = omega arith
-
 -- the numbers that are looked at: an l that is normal and positive, and parts at most 63 fields below
 pub record Looked (f down_a down_b : ℕ) : Type 0 where
   pub normal : 0 < f
   pub finite : f ≤ 2046
   pub near_a : down_a ≤ 63
   pub near_b : down_b ≤ 63
-
-pub looked : (f down_a down_b : ℕ) → ((eqb f 0 || ltb 2046 f) || ltb 63 down_a) || ltb 63 down_b ≡ false → Looked f down_a down_b
-looked f down_a down_b e =
-    let x = neither ((eqb f 0 || ltb 2046 f) || ltb 63 down_a) (ltb 63 down_b) e in
-    let y = neither (eqb f 0 || ltb 2046 f) (ltb 63 down_a) x.0 in
-    let z = neither (eqb f 0) (ltb 2046 f) y.0 in
-    record { normal = omega (arith, eqb-false f 0 z.0); finite = ltb-false 2046 f z.1; near_a = ltb-false 63 down_a y.1; near_b = ltb-false 63 down_b x.1 }
 
 -- what the test has found: steps r and s of the parts' squares, and t of the middle's
 pub record Found (l a b r s t : ℕ) : Type 0 where

@@ -64,6 +64,7 @@ fn halves_within(largest: f64, re: f64, im: f64) -> bool
 }
 
 // The bits of half a number, and of one below 2^-1021 its own.
+#[tactic(auto, unfolding(crate::specs::Digits::half_bits))]
 fn half_bits(a: u64) -> u64
     ensures { result ≡ half_bits a }
 {

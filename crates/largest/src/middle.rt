@@ -10,14 +10,12 @@ fn digits(a: u64) -> u64
     (0x10_0000_0000_0000 + a % 0x10_0000_0000_0000) * 0x400
 }
 
-// The square of s in steps of 2^64, cut: that of s + 1 is less than 3 above. With s = s1·2^32 + s0 the square of s0 is left out.
+// The square of s in steps of 2^64, cut: that of s + 1 is less than 3 above.
 fn high_square(s: u64) -> u64
     requires { s < 2 ^ 63 }
     ensures { (result < 2 ^ 62) × (result * 2 ^ 64 ≤ s * s) × ((s + 1) * (s + 1) < (result + 3) * 2 ^ 64) }
 {
-    let s1 = s >> 32;
-    let s0 = s % 0x1_0000_0000;
-    s1 * s1 + (s1 * s0 >> 31)
+    (s as u128 * s as u128 >> 64) as u64
 }
 
 // The square of the part a in the same steps, its digits shifted down and cut.
@@ -35,9 +33,9 @@ pub(crate) fn above_root(l: u64, a: u64, b: u64) -> bool
     ensures { result ≡ true → BelowMiddle l a b }
 {
     let field = l >> 52;
-    let down_a = std::num::wrapping_sub_u64(field, a >> 52);
-    let down_b = std::num::wrapping_sub_u64(field, b >> 52);
-    if (field == 0) | (field > 2046) | (down_a > 63) | (down_b > 63) {
+    let down_a = field.wrapping_sub(a >> 52);
+    let down_b = field.wrapping_sub(b >> 52);
+    if field == 0 || field > 2046 || down_a > 63 || down_b > 63 {
         return false;
     }
     part_square(a, down_a) + part_square(b, down_b) + 6 <= high_square(digits(l) + 512)

@@ -1,5 +1,6 @@
 -- G^< from an occupied start at one place, and what the first product of its row says of it. Assumes nothing.
-use Rattle.std.specs.Prelude.{◌≡◌, ◌&&◌, ◌∷◌, ◌++◌, ◌+◌, ◌*◌, ◌≤◌, ◌<◌}
+use Rattle.refusal.specs.Verdict.{pass}
+use Rattle.std.specs.Prelude.{is_ok, ◌≡◌, ◌&&◌, ◌∷◌, ◌++◌, ◌+◌, ◌*◌, ◌≤◌, ◌<◌}
 use Rattle.lists.specs.Prelude.{refl, sym, subst, ap, ap₂, ◌∙◌, Bool, true, false, List, [], ℕ, arith, digits_lt, get_or, length, length-take, length-drop, ltb, take, drop, get_or-append, Float, nan, mid_of, post_of, put_mid}
 use Rattle.lists.specs.Indexed.{join, all_in}
 use Rattle.lists.specs.Agreement.{both, never, all_agree, join_agree, all-each, each_all}
@@ -9,11 +10,9 @@ use Rattle.block.specs.Block.{Entries, entries_in, lay_out}
 use Rattle.block.specs.Operations.{product, adjoint, all_finite}
 use Rattle.block.specs.Length.{length-block}
 use Rattle.block.specs.Agreement.{Agree, product_agree}
-use Rattle.refusal.specs.declared.Verdict.TheVariants.{Pass}
 use Rattle.two_time.specs.declared.sums.Sums.TheVariants.{Lesser}
-use Rattle.two_time.specs.declared.sums.Summed.{Summed}
+use Rattle.two_time.specs.Summed.{Summed}
 use Rattle.two_time.specs.Calls.{size_checks}
-use Rattle.two_time.specs.Outcome.{all_summed}
 use Rattle.two_time.specs.Layout.{place, read_as, lay_out_all}
 use Rattle.two_time.proofs.ReadBack.{read_back}
 use Rattle.two_time.specs.WeightedSum.{weighted_sum, finite_sum}
@@ -58,7 +57,7 @@ module _ (n : ℕ) (f : Entries) (xs : List Float) where
 
 -- what `first_factor` says of the front of a slice that it is lent
 module _ (capacity n : ℕ) (retarded g0 : List Float) (t : ℕ) (xs : List Float)
-    (passed : size_checks capacity n (ltb t capacity && holds_block n g0) (retarded ∷ []) ≡ Pass) (room : 2 * (n * n) ≤ length xs) where
+    (passed : size_checks capacity n (ltb t capacity && holds_block n g0) (retarded ∷ []) ≡ pass) (room : 2 * (n * n) ≤ length xs) where
   abbrev part : List Float
   part = mid_of 0 (2 * (n * n)) xs
 
@@ -66,7 +65,7 @@ module _ (capacity n : ℕ) (retarded g0 : List Float) (t : ℕ) (xs : List Floa
   part-long = simp (length-take, length-drop) (omega (arith, room))
 
   first_said : {answer : Summed} {out : List Float} → answer ≡ (first_factor capacity n retarded g0 t part).answer → out ≡ (first_factor capacity n retarded g0 t part).out
-      → (ok : Bool) → ok ≡ all_summed answer
+      → (ok : Bool) → ok ≡ is_ok answer
       → (ok ≡ all_finite n n (first_of capacity n retarded g0 t)) × (ok ≡ true → Agree n (entries_in n (put_mid 0 (2 * (n * n)) xs out)) (first_of capacity n retarded g0 t))
   unfolding first_factor
   first_said {answer} {out} a o true e =
@@ -76,10 +75,10 @@ module _ (capacity n : ℕ) (retarded g0 : List Float) (t : ℕ) (xs : List Floa
 
   -- where the part's length is written otherwise
   pub first_part : (v : ℕ) → 2 * (n * n) ≡ v → {answer : Summed} {out : List Float} → answer ≡ (first_factor capacity n retarded g0 t (mid_of 0 v xs)).answer → out ≡ (first_factor capacity n retarded g0 t (mid_of 0 v xs)).out
-      → (ok : Bool) → ok ≡ all_summed answer
+      → (ok : Bool) → ok ≡ is_ok answer
       → (ok ≡ all_finite n n (first_of capacity n retarded g0 t)) × (ok ≡ true → Agree n (entries_in n (put_mid 0 v xs out)) (first_of capacity n retarded g0 t))
   first_part v is {answer} {out} =
-      subst (λ (k : ℕ). answer ≡ (first_factor capacity n retarded g0 t (mid_of 0 k xs)).answer → out ≡ (first_factor capacity n retarded g0 t (mid_of 0 k xs)).out → (ok : Bool) → ok ≡ all_summed answer
+      subst (λ (k : ℕ). answer ≡ (first_factor capacity n retarded g0 t (mid_of 0 k xs)).answer → out ≡ (first_factor capacity n retarded g0 t (mid_of 0 k xs)).out → (ok : Bool) → ok ≡ is_ok answer
       → (ok ≡ all_finite n n (first_of capacity n retarded g0 t)) × (ok ≡ true → Agree n (entries_in n (put_mid 0 k xs out)) (first_of capacity n retarded g0 t))) is first_said
 
 module _ (capacity n : ℕ) (times retarded lesser_advanced g0 : List Float) (t : ℕ) where

@@ -7,7 +7,7 @@ ghost use Rattle.lists.specs.Indexed.{all_below, join};
 ghost use Rattle.block.specs.Block.{entries_in, lay_out};
 ghost use Rattle.block.specs.Operations.{all_finite};
 ghost use Rattle.block.specs.Agreement.{Agree};
-ghost use Rattle.refusal.specs.declared.Verdict.TheVariants.{Pass};
+ghost use Rattle.refusal.specs.Verdict.{pass};
 ghost use Rattle.two_time.specs.Layout.{length_of};
 ghost use Rattle.two_time.specs.Calls.{size_checks};
 ghost use Rattle.two_time.specs.New.{cleared_new};
@@ -15,15 +15,14 @@ ghost use Rattle.two_time.specs.Start.{new_lesser_numbers, new_lesser_finite, oc
 ghost use Rattle.starts.specs.Calls.{first_of, from_finite, from_block};
 ghost use Rattle.lesser.specs.Rows.{lesser_finite, lesser_block};
 
-use refusal::Verdict;
-use refusal::checks::least;
+use groups::runs::by_groups;
 use starts::{first_factor, group_from};
 use two_time::capacity::{Shape, clear_new, first_new};
 use two_time::checks::{check_sizes, has_length, holds_block};
-use two_time::sums::Summed;
+use two_time::sums::{SumError, Summed};
 
 // Writes G^< at `count` places of row t from column `from` on, where `filled` holds G^R(t,0)·g0, and answers whether all that is made for it after that
-// product is finite; at the first group that is not the work ends.
+// product is finite.
 fn blocks(
     times: &[f64],
     retarded: &[f64],
@@ -36,36 +35,31 @@ fn blocks(
     count: usize,
     out: &mut [f64],
 ) -> bool
-    requires t_lt_capacity { (t < capacity) × (from + count ≤ capacity) × (size_checks capacity orbitals true (retarded.now ∷ lesser_advanced.now ∷ []) ≡ Pass) × (holds_block orbitals filled.now ≡ true) }
+    requires t_lt_capacity { (t < capacity) × (from + count ≤ capacity) × (size_checks capacity orbitals true (retarded.now ∷ lesser_advanced.now ∷ []) ≡ pass) × (holds_block orbitals filled.now ≡ true) }
     requires out_len { length out.old ≡ count * (2 * (orbitals * orbitals)) }
     ensures { (result ≡ all_below count (λ p. from_finite capacity orbitals times.now retarded.now lesser_advanced.now filled.now t (from + p)))
         × (result ≡ true → out.new ≡ join count (λ p. from_block capacity orbitals times.now retarded.now lesser_advanced.now filled.now t (from + p))) }
 {
-    let width = 2 * (orbitals * orbitals);
-    let most = 16 / orbitals;
-    let mut p = 0;
-    while p < count {
-        let places = least(count - p, most);
-        let start = p * width;
-        let end = start + places * width;
-        let summed = group_from(
-            times,
-            retarded,
-            lesser_advanced,
-            filled,
-            capacity,
-            orbitals,
-            t,
-            from + p,
-            places,
-            &mut out[start..end],
-        );
-        if !summed.is_finite() {
-            return false;
-        }
-        p += places;
-    }
-    true
+    by_groups(
+        |u, places, part| {
+            group_from(
+                times,
+                retarded,
+                lesser_advanced,
+                filled,
+                capacity,
+                orbitals,
+                t,
+                u,
+                places,
+                part,
+            )
+        },
+        orbitals,
+        from,
+        count,
+        out,
+    )
 }
 
 // Writes G^R(t,0)·g0 to the front of a slice of 512 numbers, and answers whether it is finite.
@@ -77,14 +71,12 @@ fn first(
     t: usize,
     filled: &mut [f64],
 ) -> bool
-    requires { (t < capacity) × (size_checks capacity orbitals true (retarded.now ∷ []) ≡ Pass) × (holds_block orbitals g0.now ≡ true) × (length filled.old ≡ 512) }
+    requires { (t < capacity) × (size_checks capacity orbitals true (retarded.now ∷ []) ≡ pass) × (holds_block orbitals g0.now ≡ true) × (length filled.old ≡ 512) }
     ensures { (result ≡ all_finite orbitals orbitals (first_of capacity orbitals retarded.now g0.now t)) × (length filled.new ≡ 512)
         × (result ≡ true → Agree orbitals (entries_in orbitals filled.new) (first_of capacity orbitals retarded.now g0.now t)) }
 {
-    let start = 0;
-    let end = 2 * (orbitals * orbitals);
-    let made = first_factor(retarded, g0, capacity, orbitals, t, &mut filled[start..end]);
-    made.is_finite()
+    let block = 2 * (orbitals * orbitals);
+    first_factor(retarded, g0, capacity, orbitals, t, &mut filled[..block]).is_ok()
 }
 
 // Writes G^< at `count` places of row t from column `from` on, and answers whether all that is made for it is finite. G^R(t,0)·g0 is formed once for all of
@@ -101,7 +93,7 @@ fn row(
     count: usize,
     out: &mut [f64],
 ) -> bool
-    requires t_lt_capacity { (t < capacity) × (from + count ≤ capacity) × (size_checks capacity orbitals true (retarded.now ∷ lesser_advanced.now ∷ []) ≡ Pass) × (holds_block orbitals g0.now ≡ true) }
+    requires t_lt_capacity { (t < capacity) × (from + count ≤ capacity) × (size_checks capacity orbitals true (retarded.now ∷ lesser_advanced.now ∷ []) ≡ pass) × (holds_block orbitals g0.now ≡ true) }
     requires out_len { length out.old ≡ count * (2 * (orbitals * orbitals)) }
     ensures { (result ≡ all_below count (λ p. lesser_finite capacity orbitals times.now retarded.now lesser_advanced.now g0.now t (from + p)))
         × (result ≡ true → out.new ≡ join count (λ p. lay_out orbitals orbitals (lesser_block capacity orbitals times.now retarded.now lesser_advanced.now g0.now t (from + p)))) }
@@ -128,6 +120,7 @@ fn row(
 }
 
 // Writes G^< at the new places, rows first, and answers whether all that is made for it is finite. Whatever it writes stands at new places.
+// The loop is that of `fill` in crate `sums`, which says why it stands twice.
 fn fill(
     times: &[f64],
     retarded: &[f64],
@@ -137,7 +130,7 @@ fn fill(
     old: usize,
     out: &mut [f64],
 ) -> bool
-    requires le_points { (old ≤ shape.points) × (shape.points ≤ shape.capacity) × (size_checks shape.capacity shape.orbitals true (retarded.now ∷ lesser_advanced.now ∷ []) ≡ Pass) × (holds_block shape.orbitals g0.now ≡ true) }
+    requires le_points { (old ≤ shape.points) × (shape.points ≤ shape.capacity) × (size_checks shape.capacity shape.orbitals true (retarded.now ∷ lesser_advanced.now ∷ []) ≡ pass) × (holds_block shape.orbitals g0.now ≡ true) }
     requires out_len { length out.old ≡ length_of shape.capacity shape.orbitals }
     ensures { let start = occupied_by shape.capacity shape.orbitals g0.now retarded.now in
         (result ≡ new_lesser_finite start shape.capacity shape.orbitals old shape.points times.now retarded.now lesser_advanced.now)
@@ -193,17 +186,14 @@ pub fn new_lesser_from(
     let retarded_fits = has_length(capacity, orbitals, retarded);
     let lesser_advanced_fits = has_length(capacity, orbitals, lesser_advanced);
     let out_fits = has_length(capacity, orbitals, out);
-    let verdict = check_sizes(
+    check_sizes(
         capacity,
         orbitals,
         (there & holds) & (retarded_fits & (lesser_advanced_fits & out_fits)),
-    );
-    let Verdict::Pass = verdict else {
-        return Summed::Unfit;
-    };
+    )?;
     if fill(times, retarded, lesser_advanced, g0, shape, old, out) {
-        return Summed::Finite;
+        return Ok(());
     }
     clear_new(shape, old, out);
-    Summed::Overflow
+    Err(SumError::Overflow)
 }

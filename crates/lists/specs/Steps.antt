@@ -1,7 +1,8 @@
 -- One more step of each recursion of specs/Indexed, at the code's `k + 1`, and one loop in place of two, one in the other. Assumes nothing.
 use Rattle.std.specs.Prelude.{◌≡◌, ◌&&◌, ◌++◌, ◌+◌, ◌*◌, ◌/◌, ◌%◌}
 use Rattle.lists.specs.Prelude.{refl, Bool, true, false, List, [], append_assoc, append-nil, ℕ, zero, suc, add-one, add-zero}
-use Rattle.lists.specs.Prelude.{add-suc, zero-mul, suc-mul, digits_div, digits_mod}
+use Rattle.lists.specs.Prelude.{add-suc, zero-mul, suc-mul, digits_div, digits_mod, sym, ap, ◌∙◌, arith}
+use Rattle.std.specs.List.{list_all, range_with_len}
 use Rattle.lists.specs.Indexed.{fold, join, all_below}
 use Rattle.lists.specs.Agreement.{join_agree, all_agree}
 
@@ -67,3 +68,17 @@ all_flat (suc n) m g =
       all_flat n m g,
       all_agree m (λ k. g ((n * m + k) / m) ((n * m + k) % m)) (g n) (λ k l. rw (digits_div n l, digits_mod n l)),
     )
+
+-- a test of each number of a range, as an iterator's `all` makes it
+listed : (p : ℕ → Bool) (a n : ℕ) → list_all p (range_with_len a n) ≡ all_below n (λ k. p (a + k))
+unfolding all_below
+listed p a zero = refl
+listed p a (suc n) =
+    let q : ℕ → Bool = λ k. p (a + k) in
+    let first : ◌≡◌ {A = ℕ} (suc n) (1 + n) = omega arith in
+    sym
+    (ap (λ (m : ℕ). all_below m q) first ∙ all-add 1 n q
+    ∙ rw (add-zero, listed p (a + 1) n, all_agree n (λ k. p (a + (1 + k))) (λ k. p (a + 1 + k)) (λ k l. ap p (omega arith))))
+
+pub all-listed : (p : ℕ → Bool) (n : ℕ) → list_all p (range_with_len 0 n) ≡ all_below n p
+all-listed p n = listed p 0 n ∙ all_agree n (λ k. p (0 + k)) p (λ k l. ap p (omega arith))

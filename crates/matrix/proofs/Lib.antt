@@ -1,4 +1,6 @@
 -- Laws that the functions' proofs cite.
+pub mod Later
+pub mod Steps
 pub mod Places
 pub mod Filled
 pub mod Shapes

@@ -1,9 +1,8 @@
 -- Checks 1 to 3 of blocks: what it says of the shapes that they pass. Assumes nothing.
 use Rattle.std.specs.Prelude.{◌≡◌, ◌*◌, ◌≤◌}
-use Rattle.lists.specs.Prelude.{refl, Bool, true, ℕ, min, min-eq_left, leb, eqb, leb-true, eqb-true}
+use Rattle.lists.specs.Prelude.{refl, sym, ◌∙◌, Bool, true, ℕ, min, min-eq_left, leb, eqb, leb-true, eqb-true}
 use Rattle.lists.specs.Agreement.{both}
-use Rattle.refusal.specs.declared.Verdict.TheVariants.{Pass}
-use Rattle.refusal.specs.Verdict.{by, ◌then◌}
+use Rattle.refusal.specs.Verdict.{Verdict, pass, by, ◌then◌}
 use Rattle.refusal.specs.Agreement.{ask_pass, then-pass, then-agree}
 use Rattle.refusal.specs.Checks.{not_empty, within_block, fitting}
 use Rattle.matrix.specs.declared.DenseMatrix.{DenseMatrix}
@@ -14,7 +13,7 @@ pub record Small (rows columns : ℕ) : Type 0 where
   pub rows-most : rows ≤ 16
   pub columns-most : columns ≤ 16
 
-small : (rows columns : ℕ) → within_block rows columns ≡ Pass → Small rows columns
+pub small : (rows columns : ℕ) → within_block rows columns ≡ pass → Small rows columns
 unfolding within_block
 small rows columns w = let most = both (leb rows 16) (leb columns 16) (ask_pass _ (by 2) w) in record { rows-most = leb-true _ _ most.0; columns-most = leb-true _ _ most.1 }
 
@@ -23,13 +22,13 @@ pub uncut : {rows columns : ℕ} → Small rows columns → 2 * (min rows 16 * m
 uncut s = rw (min-eq_left s.rows-most, min-eq_left s.columns-most)
 
 -- the shapes, and their own question of shape was answered yes
-pub shape-passed : (fits : Bool) (rows columns : ℕ) → shape_of fits rows columns ≡ Pass → Small rows columns × (fits ≡ true)
+pub shape-passed : (fits : Bool) (rows columns : ℕ) → shape_of fits rows columns ≡ pass → Small rows columns × (fits ≡ true)
 unfolding fitting
 shape-passed fits rows columns h =
     let p = then-pass (within_block rows columns) (fitting fits) (then-pass (not_empty rows columns) (within_block rows columns then fitting fits) h).1 in
     (small rows columns p.0, ask_pass fits (by 3) p.1)
 
-pub pair_shape-passed : (fits : Bool) (rows inner below columns : ℕ) → pair_shape fits rows inner below columns ≡ Pass → Small rows inner × Small below columns × (fits ≡ true)
+pub pair_shape-passed : (fits : Bool) (rows inner below columns : ℕ) → pair_shape fits rows inner below columns ≡ pass → Small rows inner × Small below columns × (fits ≡ true)
 unfolding fitting
 pair_shape-passed fits rows inner below columns h =
     let p = then-pass (within_block rows inner then within_block below columns) (fitting fits) (then-pass (not_empty rows inner then not_empty below columns) _ h).1 in
@@ -37,16 +36,20 @@ pair_shape-passed fits rows inner below columns h =
     (small rows inner most.0, small below columns most.1, ask_pass fits (by 3) p.1)
 
 -- and so of the blocks that pass check 7 too
-pub block-passed : (fits : Bool) (x : DenseMatrix) → block_checks fits x ≡ Pass → Small x.rows x.columns × (fits ≡ true)
+pub block-passed : (fits : Bool) (x : DenseMatrix) → block_checks fits x ≡ pass → Small x.rows x.columns × (fits ≡ true)
 unfolding block_checks
 block-passed fits x h = shape-passed fits x.rows x.columns (then-pass (shape_of fits x.rows x.columns) _ h).0
 
-pub pair-passed : (fits : Bool) (x y : DenseMatrix) → pair_checks fits x y ≡ Pass → Small x.rows x.columns × Small y.rows y.columns × (fits ≡ true)
+pub pair-passed : (fits : Bool) (x y : DenseMatrix) → pair_checks fits x y ≡ pass → Small x.rows x.columns × Small y.rows y.columns × (fits ≡ true)
 unfolding pair_checks
 pair-passed fits x y h = pair_shape-passed fits x.rows x.columns y.rows y.columns (then-pass (pair_shape fits x.rows x.columns y.rows y.columns) _ h).0
 
-pub same-columns : (x y : DenseMatrix) → pair_checks (same_shape x y) x y ≡ Pass → x.columns ≡ y.columns
+pub same-columns : (x y : DenseMatrix) → pair_checks (same_shape x y) x y ≡ pass → x.columns ≡ y.columns
 same-columns x y h = eqb-true x.columns y.columns (both (eqb x.rows y.rows) (eqb x.columns y.columns) (pair-passed (same_shape x y) x y h).2).1
+
+-- the same by the answers of two calls: whether the shapes are one, and the checks
+pub alike-passed : (x y : DenseMatrix) (same : Bool) (v : Verdict) → same ≡ same_shape x y → v ≡ pair_checks same x y → v ≡ pass → pair_checks (same_shape x y) x y ≡ pass
+alike-passed x y same v e h p = rw (← e) (sym h ∙ p)
 
 -- numbers are counted with the limits cut: check 3 is reached within them
 pub shape-counted : (len rows columns : ℕ) → shape_of (eqb len (2 * (min rows 16 * min columns 16))) rows columns ≡ shape_of (eqb len (2 * (rows * columns))) rows columns

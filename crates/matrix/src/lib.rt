@@ -7,17 +7,16 @@ mod measure;
 
 ghost use Rattle.std.specs.Prelude.{◌≡◌, ◌++◌, ◌-◌, ◌≤◌};
 ghost use Rattle.lists.specs.Prelude.{true, false, length, replicate};
-ghost use Rattle.complex.specs.Arithmetic.{plus_zero, cfinite};
-ghost use Rattle.refusal.specs.Verdict.{decide};
-ghost use Rattle.refusal.specs.Checks.{finite_work};
+ghost use Rattle.complex.specs.Arithmetic.{plus_zero};
+ghost use Rattle.refusal.specs.Verdict.{pass};
+ghost use Rattle.matrix.specs.Made.{made_of, answer_of, combined_of, alike_of};
 ghost use Rattle.matrix.specs.Dense.{no_block};
-ghost use Rattle.matrix.specs.Made.{made_in, answer_of, combined_of, alike_of};
-ghost use Rattle.matrix.specs.Calls.{valued, shape_of, from_numbers, from_scalar, zero_of, identity_of, adjoint_of, product_of, scale_of, add_of, subtract_of, trace_of, entry_of, max_difference_of, is_hermitian};
+ghost use Rattle.matrix.specs.Calls.{shape_of, same_shape, from_numbers, from_scalar, zero_of, identity_of, adjoint_of, product_of, scale_of, add_of, subtract_of, trace_of, entry_of, max_difference_of, is_hermitian};
 
 use complex::Complex;
 use fill::Operation;
 use refusal::checks::{finite_entries, finite_work, orbital_below, valid_tolerance};
-use refusal::{Decision, Measured, Refusal, Verdict};
+use refusal::{Refusal, Verdict};
 
 // rows·columns entries by rows, the real part before the imaginary. What stands beyond them changes nothing.
 #[derive(Clone, Copy)]
@@ -27,133 +26,63 @@ pub struct DenseMatrix {
     pub values: [f64; 512],
 }
 
-// The answer of a call that makes a block. Beside a refusal the block has no rows and is +0 throughout.
-#[derive(Clone, Copy)]
-pub struct Checked {
-    pub verdict: Verdict,
-    pub block: DenseMatrix,
-}
-
-// The answer of a call that gives one complex number.
-#[derive(Clone, Copy)]
-pub enum Value {
-    Of(Complex),
-    Refused(Refusal),
-}
-
-fn refused(refusal: Refusal) -> Checked
-    ensures { result ≡ record { verdict = Verdict.Refused refusal; block = no_block } }
-{
-    Checked {
-        verdict: Verdict::Refused(refusal),
-        block: DenseMatrix {
-            rows: 0,
-            columns: 0,
-            values: [0.0; 512],
-        },
-    }
-}
-
-// The answer of a call that makes a block by an operation, of a with `inner` columns and b with `columns`, once its checks are asked: 10 where the block
-// is `tested` and not finite.
+// The block that an operation makes, of rows·columns entries: 10 where it is `tested` and not finite.
 fn answer(
-    verdict: Verdict,
-    tested: bool,
     op: Operation,
+    tested: bool,
     rows: usize,
-    inner: usize,
     columns: usize,
-    a: &[f64],
-    b: &[f64],
-) -> Checked
-    requires rows_bound { verdict ≡ Verdict.Pass → (rows ≤ 16) × (inner ≤ 16) × (columns ≤ 16) }
-    requires in_bounds { (512 ≤ length a.now) × (512 ≤ length b.now) }
-    ensures { result ≡ answer_of verdict tested rows columns (made_in op inner columns a.now b.now) }
+    x: &DenseMatrix,
+    y: &DenseMatrix,
+) -> Result<DenseMatrix, Refusal>
+    requires { (rows ≤ 16) × (columns ≤ 16) × (x.now.columns ≤ 16) × (y.now.columns ≤ 16) }
+    ensures { result ≡ answer_of pass tested rows columns (made_of op x.now y.now) }
 {
-    match verdict {
-        Verdict::Pass => {
-            let mut values = [0.0; 512];
-            let finite = fill::fill(op, &mut values, a, b, rows, inner, columns);
-            if !tested | finite {
-                Checked {
-                    verdict: Verdict::Pass,
-                    block: DenseMatrix {
-                        rows,
-                        columns,
-                        values,
-                    },
-                }
-            } else {
-                refused(Refusal::by(10))
-            }
-        }
-        Verdict::Refused(r) => refused(r),
-    }
+    let mut values = [0.0; 512];
+    let finite = fill::fill(op, &mut values, x, y, rows, columns);
+    finite_work(!tested | finite)?;
+    Ok(DenseMatrix {
+        rows,
+        columns,
+        values,
+    })
 }
 
-// A number that is made: finite, or 10.
-fn finite_value(z: Complex) -> Value
-    ensures { result ≡ valued (finite_work (cfinite z)) z }
+// The block that an operation makes of a size alone: checks 1 and 2.
+#[tactic(auto, unfolding(crate::specs::Made::answer_of, crate::specs::Dense::checked))]
+fn constant(op: Operation, size: usize) -> Result<DenseMatrix, Refusal>
+    ensures { result ≡ answer_of (shape_of true size size) false size size (made_of op no_block no_block) }
 {
-    let verdict = finite_work(z.is_finite());
-    match verdict {
-        Verdict::Pass => Value::Of(z),
-        Verdict::Refused(r) => Value::Refused(r),
-    }
+    checks::shape(true, size, size)?;
+    let none = DenseMatrix::NONE;
+    answer(op, false, size, size, &none, &none)
 }
 
-fn decided(yes: bool) -> Decision
-    ensures { result ≡ decide Verdict.Pass yes }
-{
-    if yes { Decision::Yes } else { Decision::No }
-}
-
-// The block that an operation makes of a size alone.
-fn constant(op: Operation, size: usize) -> Checked
-    ensures { result ≡ answer_of (shape_of true size size) false size size (made_in op size size (replicate 512 plus_zero) (replicate 512 plus_zero)) }
-{
-    let values = [0.0; 512];
-    let zeros: &[f64] = &values;
-    answer(
-        checks::shape(true, size, size),
-        false,
-        op,
-        size,
-        size,
-        size,
-        zeros,
-        zeros,
-    )
-}
-
-// What an operation makes of two blocks, rows by inner and below by columns: checks 1, 2, 3, 7, then 10.
+// What an operation makes of two blocks whose shapes fit or not: checks 1, 2, 3, 7, then 10.
+#[tactic(auto, unfolding(crate::specs::Made::combined_of, crate::specs::Made::answer_of, crate::specs::Dense::checked))]
 fn combined(
     op: Operation,
     fits: bool,
-    rows: usize,
-    inner: usize,
-    a: &[f64],
-    below: usize,
-    columns: usize,
-    b: &[f64],
-) -> Checked
-    requires { (512 ≤ length a.now) × (512 ≤ length b.now) }
-    ensures { result ≡ combined_of op fits (record { rows = rows; columns = inner; values = a.now }) (record { rows = below; columns = columns; values = b.now }) }
+    x: &DenseMatrix,
+    y: &DenseMatrix,
+) -> Result<DenseMatrix, Refusal>
+    ensures { result ≡ combined_of op fits x.now y.now }
 {
-    let verdict = checks::check_pair(fits, rows, inner, a, below, columns, b);
-    answer(verdict, true, op, rows, inner, columns, a, b)
+    checks::check_pair(fits, x, y)?;
+    answer(op, true, x.rows, y.columns, x, y)
 }
 
 // The same of two blocks of one shape.
-fn alike(op: Operation, x: DenseMatrix, y: DenseMatrix) -> Checked
-    ensures { result ≡ alike_of op x y }
+fn alike(op: Operation, x: &DenseMatrix, y: &DenseMatrix) -> Result<DenseMatrix, Refusal>
+    ensures { result ≡ alike_of op x.now y.now }
 {
-    let left = x.values;
-    let right = y.values;
-    let a: &[f64] = &left;
-    let b: &[f64] = &right;
-    let same = (x.rows == y.rows) & (x.columns == y.columns);
-    combined(op, same, x.rows, x.columns, a, y.rows, y.columns, b)
+    combined(op, same_shape(x, y), x, y)
+}
+
+fn same_shape(x: &DenseMatrix, y: &DenseMatrix) -> bool
+    ensures { result ≡ same_shape x.now y.now }
+{
+    (x.rows == y.rows) & (x.columns == y.columns)
 }
 
 // The numbers, then +0.
@@ -162,205 +91,162 @@ fn padded(numbers: &[f64]) -> [f64; 512]
     ensures { result ≡ numbers.now ++ replicate (512 - length numbers.now) plus_zero }
 {
     let mut values = [0.0; 512];
-    let count = numbers.len();
-    for i in 0..count {
-        values[i] = numbers[i];
-    }
+    values[..numbers.len()].copy_from_slice(numbers);
     values
 }
 
 impl DenseMatrix {
+    // No rows, and +0 throughout: the block beside a refusal.
+    pub const NONE: DenseMatrix = DenseMatrix {
+        rows: 0,
+        columns: 0,
+        values: [0.0; 512],
+    };
+
     // The block of rows·columns entries, whose numbers stand by rows.
-    pub fn from_numbers(rows: usize, columns: usize, numbers: &[f64]) -> Checked
+    #[tactic(auto, unfolding(crate::specs::Calls::from_numbers, crate::specs::Dense::checked))]
+    pub fn from_numbers(
+        rows: usize,
+        columns: usize,
+        numbers: &[f64],
+    ) -> Result<DenseMatrix, Refusal>
         ensures { result ≡ from_numbers rows columns numbers.now }
     {
         let count = checks::count(rows, columns);
-        let shape = checks::shape(numbers.len() == count, rows, columns);
-        let verdict = shape.then(finite_entries(0, numbers, count));
-        match verdict {
-            Verdict::Pass => {
-                let values = padded(numbers);
-                Checked {
-                    verdict: Verdict::Pass,
-                    block: DenseMatrix {
-                        rows,
-                        columns,
-                        values,
-                    },
-                }
-            }
-            Verdict::Refused(r) => refused(r),
-        }
+        checks::shape(numbers.len() == count, rows, columns)?;
+        finite_entries(0, numbers, count)?;
+        Ok(DenseMatrix {
+            rows,
+            columns,
+            values: padded(numbers),
+        })
     }
 
     // The 1 by 1 block of a number.
-    pub fn from_scalar(value: Complex) -> Checked
+    #[tactic(auto, unfolding(crate::specs::Calls::from_scalar))]
+    pub fn from_scalar(value: Complex) -> Result<DenseMatrix, Refusal>
         ensures { result ≡ from_scalar value }
     {
-        let numbers = [value.re, value.im];
-        DenseMatrix::from_numbers(1, 1, &numbers)
+        DenseMatrix::from_numbers(1, 1, &[value.re, value.im])
     }
 
     // The zero matrix of that size.
-    pub fn zero(size: usize) -> Checked
+    #[tactic(auto, unfolding(crate::specs::Calls::zero_of, crate::specs::Made::made_by, crate::specs::Made::answer_of, refusal::specs::Checks::finite_work, refusal::specs::Verdict::ask))]
+    pub fn zero(size: usize) -> Result<DenseMatrix, Refusal>
         ensures { result ≡ zero_of size }
     {
         constant(Operation::Zero, size)
     }
 
     // The identity matrix of that size.
-    pub fn identity(size: usize) -> Checked
+    #[tactic(auto, unfolding(crate::specs::Calls::identity_of, crate::specs::Made::made_by, crate::specs::Made::answer_of, refusal::specs::Checks::finite_work, refusal::specs::Verdict::ask))]
+    pub fn identity(size: usize) -> Result<DenseMatrix, Refusal>
         ensures { result ≡ identity_of size }
     {
         constant(Operation::Identity, size)
     }
 
     // The conjugate transpose.
-    pub fn adjoint(self) -> Checked
+    #[tactic(auto, unfolding(crate::specs::Calls::adjoint_of, crate::specs::Calls::finite_block, crate::specs::Made::answer_of, crate::specs::Made::made_by, crate::specs::Dense::checked))]
+    pub fn adjoint(self) -> Result<DenseMatrix, Refusal>
         ensures { result ≡ adjoint_of self }
     {
-        let rows = self.rows;
-        let columns = self.columns;
-        let values = self.values;
-        let a: &[f64] = &values;
-        let verdict = checks::check_block(true, rows, columns, a);
+        checks::check_block(true, &self)?;
         answer(
-            verdict,
-            false,
             Operation::Adjoint,
-            columns,
-            columns,
-            rows,
-            a,
-            a,
+            false,
+            self.columns,
+            self.rows,
+            &self,
+            &self,
         )
     }
 
     // Each entry times the factor.
-    pub fn scale(self, factor: Complex) -> Checked
+    #[tactic(auto, unfolding(crate::specs::Calls::scale_of, crate::specs::Calls::finite_block, crate::specs::Made::answer_of, crate::specs::Made::made_by, crate::specs::Dense::checked))]
+    pub fn scale(self, factor: Complex) -> Result<DenseMatrix, Refusal>
         ensures { result ≡ scale_of self factor }
     {
-        let rows = self.rows;
-        let columns = self.columns;
-        let values = self.values;
-        let a: &[f64] = &values;
-        let verdict = checks::check_block(true, rows, columns, a);
+        checks::check_block(true, &self)?;
         answer(
-            verdict,
-            true,
             Operation::Scale(factor),
-            rows,
-            columns,
-            columns,
-            a,
-            a,
+            true,
+            self.rows,
+            self.columns,
+            &self,
+            &self,
         )
     }
 
     // The matrix product self·other: rows·inner·columns complex products.
-    pub fn multiply(self, other: DenseMatrix) -> Checked
+    #[tactic(auto, unfolding(crate::specs::Calls::product_of, crate::specs::Calls::finite_block, crate::specs::Made::combined_of, crate::specs::Made::answer_of, crate::specs::Made::made_by))]
+    pub fn multiply(self, other: DenseMatrix) -> Result<DenseMatrix, Refusal>
         ensures { result ≡ product_of self other }
     {
-        let inner = self.columns;
-        let below = other.rows;
-        let left = self.values;
-        let right = other.values;
-        let a: &[f64] = &left;
-        let b: &[f64] = &right;
         combined(
             Operation::Product,
-            inner == below,
-            self.rows,
-            inner,
-            a,
-            below,
-            other.columns,
-            b,
+            self.columns == other.rows,
+            &self,
+            &other,
         )
     }
 
-    pub fn add(self, other: DenseMatrix) -> Checked
+    #[tactic(auto, unfolding(crate::specs::Calls::add_of, crate::specs::Calls::finite_block, crate::specs::Made::alike_of, crate::specs::Made::answer_of, crate::specs::Made::made_by))]
+    pub fn add(self, other: DenseMatrix) -> Result<DenseMatrix, Refusal>
         ensures { result ≡ add_of self other }
     {
-        alike(Operation::Add, self, other)
+        alike(Operation::Add, &self, &other)
     }
 
-    pub fn subtract(self, other: DenseMatrix) -> Checked
+    #[tactic(auto, unfolding(crate::specs::Calls::subtract_of, crate::specs::Calls::finite_block, crate::specs::Made::alike_of, crate::specs::Made::answer_of, crate::specs::Made::made_by))]
+    pub fn subtract(self, other: DenseMatrix) -> Result<DenseMatrix, Refusal>
         ensures { result ≡ subtract_of self other }
     {
-        alike(Operation::Subtract, self, other)
+        alike(Operation::Subtract, &self, &other)
     }
 
     // The sum of the diagonal: finite, or 10.
-    pub fn trace(self) -> Value
+    #[tactic(auto, unfolding(crate::specs::Calls::trace_of, crate::specs::Calls::valued))]
+    pub fn trace(self) -> Result<Complex, Refusal>
         ensures { result ≡ trace_of self }
     {
-        let rows = self.rows;
-        let columns = self.columns;
-        let values = self.values;
-        let a: &[f64] = &values;
-        let verdict = checks::check_block(rows == columns, rows, columns, a);
-        match verdict {
-            Verdict::Pass => finite_value(measure::diagonal(a, columns)),
-            Verdict::Refused(r) => Value::Refused(r),
-        }
+        checks::check_block(self.rows == self.columns, &self)?;
+        let sum = measure::diagonal(&self);
+        finite_work(sum.is_finite())?;
+        Ok(sum)
     }
 
     // The entry in a row and a column.
-    pub fn get(self, row: usize, column: usize) -> Value
+    #[tactic(auto, unfolding(crate::specs::Calls::entry_of, crate::specs::Calls::valued))]
+    pub fn get(self, row: usize, column: usize) -> Result<Complex, Refusal>
         ensures { result ≡ entry_of self row column }
     {
-        let rows = self.rows;
-        let columns = self.columns;
-        let values = self.values;
-        let a: &[f64] = &values;
-        let inside = orbital_below(row, rows).then(orbital_below(column, columns));
-        let verdict = checks::check_block(true, rows, columns, a).then(inside);
-        match verdict {
-            Verdict::Pass => Value::Of(fill::entry(a, columns, row, column)),
-            Verdict::Refused(r) => Value::Refused(r),
-        }
+        checks::check_block(true, &self)?;
+        orbital_below(row, self.rows)?;
+        orbital_below(column, self.columns)?;
+        Ok(fill::entry(&self, row, column))
     }
 
     // The largest norm of an entry of self less that of other, which is not checked and may be infinite.
-    pub fn max_difference(self, other: DenseMatrix) -> Measured
+    #[tactic(auto, unfolding(crate::specs::Calls::max_difference_of, refusal::specs::Verdict::measured))]
+    pub fn max_difference(self, other: DenseMatrix) -> Result<f64, Refusal>
         ensures { result ≡ max_difference_of self other }
     {
-        let rows = self.rows;
-        let columns = self.columns;
-        let below = other.rows;
-        let beside = other.columns;
-        let left = self.values;
-        let right = other.values;
-        let a: &[f64] = &left;
-        let b: &[f64] = &right;
-        let same = (rows == below) & (columns == beside);
-        let verdict = checks::check_pair(same, rows, columns, a, below, beside, b);
-        match verdict {
-            Verdict::Pass => Measured::Of(measure::largest_difference(a, b, rows * columns)),
-            Verdict::Refused(r) => Measured::Refused(r),
-        }
+        checks::check_pair(same_shape(&self, &other), &self, &other)?;
+        Ok(measure::largest_difference(&self.values, &other.values, self.rows * self.columns))
     }
 
     // Whether the matrix is Hermitian within the tolerance times its largest part; one that is not square is not.
-    pub fn is_hermitian(self, tolerance: f64) -> Decision
+    #[tactic(auto, unfolding(crate::specs::Calls::is_hermitian, refusal::specs::Verdict::decide))]
+    pub fn is_hermitian(self, tolerance: f64) -> Result<bool, Refusal>
         ensures { result ≡ is_hermitian self tolerance }
     {
-        let rows = self.rows;
-        let columns = self.columns;
-        let values = self.values;
-        let a: &[f64] = &values;
-        let verdict = checks::check_block(true, rows, columns, a).then(valid_tolerance(tolerance));
-        match verdict {
-            Verdict::Pass => {
-                if rows == columns {
-                    let threshold = tolerance * measure::largest_part(a, rows * rows);
-                    decided(measure::hermitian_within(a, rows, threshold))
-                } else {
-                    Decision::No
-                }
-            }
-            Verdict::Refused(r) => Decision::Refused(r),
+        checks::check_block(true, &self)?;
+        valid_tolerance(tolerance)?;
+        if self.rows != self.columns {
+            return Ok(false);
         }
+        let threshold = tolerance * measure::largest_part(&self.values, self.rows * self.columns);
+        Ok(measure::hermitian_within(&self, threshold))
     }
 }

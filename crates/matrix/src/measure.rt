@@ -5,26 +5,29 @@ ghost use Rattle.lists.specs.Indexed.{all_below};
 ghost use Rattle.complex.specs.Arithmetic.{plus_zero, csub};
 ghost use Rattle.complex.specs.Numbers.{entry_at};
 ghost use Rattle.complex.specs.Sum.{largest_from};
-ghost use Rattle.block.specs.Block.{entries_in};
 ghost use Rattle.block.specs.Operations.{trace, cnorm, part_size, part_above, mirrors, hermitian_within};
+ghost use Rattle.matrix.specs.Dense.{entries_of};
 
+use crate::DenseMatrix;
 use crate::fill::{entry, number};
 use complex::{Complex, abs, max};
 use largest::larger_norm;
 
 // The sum of the diagonal.
-pub(crate) fn diagonal(a: &[f64], size: usize) -> Complex
-    requires { (size ≤ 16) × (512 ≤ length a.now) }
-    ensures { result ≡ trace size (entries_in size a.now) }
+#[tactic(auto, using(crate::proofs::Steps::one_more), unfolding(block::specs::Operations::trace))]
+pub(crate) fn diagonal(x: &DenseMatrix) -> Complex
+    requires { (x.now.rows ≤ 16) × (x.now.columns ≤ 16) }
+    ensures { result ≡ trace x.now.rows (entries_of x.now) }
 {
     let mut sum = Complex::ZERO;
-    for i in 0..size {
-        sum = sum.plus(entry(a, size, i, i));
+    for i in 0..x.rows {
+        sum = sum.plus(entry(x, i, i));
     }
     sum
 }
 
 // The largest norm of the first `count` numbers of a less those of b.
+#[tactic(auto, using(crate::proofs::Steps::one_more), unfolding(complex::specs::Sum::largest_from))]
 pub(crate) fn largest_difference(a: &[f64], b: &[f64], count: usize) -> f64
     requires { (2 * count ≤ length a.now) × (2 * count ≤ length b.now) }
     ensures { result ≡ largest_from plus_zero count (λ p. cnorm (csub (entry_at a.now (2 * p)) (entry_at b.now (2 * p)))) }
@@ -38,12 +41,14 @@ pub(crate) fn largest_difference(a: &[f64], b: &[f64], count: usize) -> f64
 }
 
 // The larger size of a number's parts.
+#[tactic(auto, unfolding(block::specs::Operations::part_size))]
 fn part_size(z: Complex) -> f64
     ensures { result ≡ part_size z }
 {
     max(abs(z.re), abs(z.im))
 }
 
+#[tactic(auto, unfolding(block::specs::Operations::part_above))]
 fn part_above(threshold: f64, z: Complex) -> bool
     ensures { result ≡ part_above threshold z }
 {
@@ -51,6 +56,7 @@ fn part_above(threshold: f64, z: Complex) -> bool
 }
 
 // The largest size of a part of the first `count` numbers.
+#[tactic(auto, using(crate::proofs::Steps::one_more), unfolding(complex::specs::Sum::largest_from))]
 pub(crate) fn largest_part(a: &[f64], count: usize) -> f64
     requires { 2 * count ≤ length a.now }
     ensures { result ≡ largest_from plus_zero count (λ p. part_size (entry_at a.now (2 * p))) }
@@ -62,27 +68,18 @@ pub(crate) fn largest_part(a: &[f64], count: usize) -> f64
     most
 }
 
-// Whether no entry of row i, from the diagonal on, differs from its mirror's conjugate by a part above the threshold.
-fn row_hermitian(a: &[f64], size: usize, threshold: f64, i: usize) -> bool
-    requires { (i < size) × (size ≤ 16) × (512 ≤ length a.now) }
-    ensures { result ≡ all_below size (mirrors threshold (entries_in size a.now) i) }
+// Whether no entry of row i of a square block, from the diagonal on, differs from its mirror's conjugate by a part above the threshold.
+fn row_hermitian(x: &DenseMatrix, threshold: f64, i: usize) -> bool
+    requires { (i < x.now.rows) × (x.now.rows ≤ 16) × (x.now.columns ≤ 16) }
+    ensures { result ≡ all_below x.now.rows (mirrors threshold (entries_of x.now) i) }
 {
-    let mut all = true;
-    for j in i..size {
-        let z = entry(a, size, i, j).minus(entry(a, size, j, i).conj());
-        all = all & !part_above(threshold, z);
-    }
-    all
+    (i..x.rows).all(|j| !part_above(threshold, entry(x, i, j).minus(entry(x, j, i).conj())))
 }
 
 // The same of every row.
-pub(crate) fn hermitian_within(a: &[f64], size: usize, threshold: f64) -> bool
-    requires { (size ≤ 16) × (512 ≤ length a.now) }
-    ensures { result ≡ hermitian_within size threshold (entries_in size a.now) }
+pub(crate) fn hermitian_within(x: &DenseMatrix, threshold: f64) -> bool
+    requires { (x.now.rows ≤ 16) × (x.now.columns ≤ 16) }
+    ensures { result ≡ hermitian_within x.now.rows threshold (entries_of x.now) }
 {
-    let mut all = true;
-    for i in 0..size {
-        all = all & row_hermitian(a, size, threshold, i);
-    }
-    all
+    (0..x.rows).all(|i| row_hermitian(x, threshold, i))
 }

@@ -1,27 +1,18 @@
 -- Exponents: what leading zeros say of a number's digits, of a significand's bits at its step, and of how many digits of a root are dropped.
 -- Assumes nothing.
 use Rattle.std.specs.Prelude.{◌≡◌, ◌⊎◌, ◌+◌, ◌-◌, ◌*◌, ◌/◌, ◌%◌, ◌^◌, ◌≤◌, ◌<◌}
-use Rattle.lists.specs.Prelude.{refl, ap, ◌∙◌, inl, inr, ℕ, suc, le_of_eq, le_of_lt, lt_of_lt_of_le, lt_of_le_of_lt}
-use Rattle.lists.specs.Prelude.{lt_of_not-le, le_of_suc-le-suc, eq-or-lt_of_le, pow-suc, arith, lit<, lit≤, pow-add, pow_mono, shl_lt}
+use Rattle.lists.specs.Prelude.{refl, ap, ◌∙◌, inl, inr, ℕ, suc, le_of_lt, lt_of_lt_of_le, lt_of_le_of_lt}
+use Rattle.lists.specs.Prelude.{lt_of_not-le, le_of_suc-le-suc, eq-or-lt_of_le, arith, lit<, lit≤, pow-add, pow_mono, shl_lt}
 use lib.Count.{count_leading_zeros, leading_length, leading_top}
 use Rattle.norm.specs.Words.{Long, Dropped}
 
--- ---- the number of digits, from the leading zeros of the highest word that is not 0
+-- ---- the number of digits, from the leading zeros
 
-pub one_word : (hi lo : ℕ) → hi ≡ 0 → lo < 2 ^ 64 → Long (hi * 2 ^ 64 + lo) (64 - count_leading_zeros 64 lo)
-one_word hi lo e h =
-    let m = leading_length 64 lo h in
-    let z : 64 - count_leading_zeros 64 lo ≡ m.0 = omega arith in
-    rw z (omega arith)
-
-above_word : (p hi lo : ℕ) → p ≤ hi → hi < p * 2 → lo < 2 ^ 64 → (hi * 2 ^ 64 + lo < p * 2 * 2 ^ 64) × (p * 2 * 2 ^ 64 ≤ 2 * (hi * 2 ^ 64 + lo) + 1)
-above_word p hi lo a b l = omega arith
-
-pub two-words : (hi lo : ℕ) → (hi ≡ 0 → ⊥) → hi < 2 ^ 64 → lo < 2 ^ 64 → Long (hi * 2 ^ 64 + lo) (128 - count_leading_zeros 64 hi)
-two-words hi lo n h l =
-    let t = leading_top 64 hi (omega arith) h in
-    let z : 128 - count_leading_zeros 64 hi ≡ suc t.0 + 64 = omega arith in
-    rw (z, pow-add 2 (suc t.0) 64, pow-suc 2 t.0) (above_word (2 ^ t.0) hi lo t.2 (lt_of_lt_of_le t.3 (le_of_eq (pow-suc 2 t.0))) l)
+pub digits_long : (x : ℕ) → x < 2 ^ 128 → Long x (128 - count_leading_zeros 128 x)
+digits_long x h =
+    let m = leading_length 128 x h in
+    let z : 128 - count_leading_zeros 128 x ≡ m.0 = omega arith in
+    rw z (m.2, m.3)
 
 -- ---- the bits of a rounded significand m at its step: with more than 11 leading zeros it has no 53rd digit
 

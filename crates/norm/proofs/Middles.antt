@@ -2,12 +2,12 @@
 -- what that settles. Assumes nothing.
 use Rattle.std.specs.Prelude.{◌≡◌, ◌+◌, ◌-◌, ◌*◌, ◌/◌, ◌^◌, ◌≤◌, ◌<◌}
 use Rattle.lists.specs.Prelude.{refl, sym, ap, ◌∙◌, inl, inr, ℕ, zero, suc, zero-le, lt-suc_self, le_of_eq, lt_of_lt_of_le}
-use Rattle.lists.specs.Prelude.{lt_of_le_of_lt, lt_irrefl, not-le_of_lt, mul-pos, mul_comm, mul_assoc, mul-le-mul_left, mul-le-mul_right, mul-lt-mul_of_pos_right}
+use Rattle.lists.specs.Prelude.{lt_of_le_of_lt, lt_irrefl, mul-pos, mul_comm, mul_assoc, mul-le-mul_left, mul-le-mul_right, mul-lt-mul_of_pos_right}
 use Rattle.lists.specs.Prelude.{lt_of_mul-lt-mul_right, div-one, div-mul-le_self, lt-div-mul-add, div-div-eq-div-mul, le-div_iff_mul-le, div-lt_iff_lt-mul, arith}
 use Rattle.lists.specs.Prelude.{pow-add, pow_pos, pow_mono}
 use Rattle.norm.specs.Parts.{Encodes}
 use Rattle.norm.specs.Squares.{power-of_four, four_pos}
-use Rattle.norm.specs.Checked.{Between, Covers, Ranked, Settles, squares, whole_squares}
+use Rattle.norm.specs.Checked.{Between, Covers, Settles, squares, whole_squares}
 use Rattle.norm.proofs.Rounding.{certain}
 
 -- ---- the sum in steps of 2^44: what these leave out of each square is less than a step
@@ -144,18 +144,3 @@ settles_at-unit a b up m r w p s e = record {
 
     lowered : (x y n : ℕ) → (x * 2 ^ up * (x * 2 ^ up) < 4 * n * P) × (4 * n * P < y * 2 ^ up * (y * 2 ^ up)) → (x * 1 * (x * 1) < 4 * n) × (4 * n < y * 1 * (y * 1))
     lowered x y n b = (lt_of_mul-lt-mul_right P (omega (arith, b.0)), lt_of_mul-lt-mul_right P (omega (arith, b.1)))
-
--- what settles parts that are not shifted has no gap and no shift
-pub unshifted : (qa qb gap shift r : ℕ) → shift ≡ 0 → Settles qa qb 0 0 r → Settles qa qb gap shift r
-unshifted qa qb gap shift r z w = record {
-  most = w.most;
-  value = λ n u k v. let g : gap ≡ 0 = omega arith in let f : u ≡ 0 = omega arith in w.value n 0 refl (rw (g, f) at v);
-}
-
-pub neither_shifted : (qa qb shift : ℕ) → Ranked qa qb shift → qa < 2 ^ 52 → (shift ≡ 0) × (0 < qa) × (qb ≤ qa)
-neither_shifted qa qb shift (inl f) h = absurd (not-le_of_lt h f)
-neither_shifted qa qb shift (inr w) h = w
-
--- nothing is claimed where 0 is returned
-pub none : {A : Type 0} → 0 < 0 → A
-none h = absurd (lt_irrefl 0 h)

@@ -1,17 +1,8 @@
--- Root: one digit of the root, and one word of the number, over natural numbers. Assumes nothing.
+-- Root: one word of the number, over natural numbers. Assumes nothing.
 use Rattle.std.specs.Prelude.{◌≡◌, ◌+◌, ◌*◌, ◌/◌, ◌%◌, ◌^◌, ◌≤◌, ◌<◌}
 use Rattle.lists.specs.Prelude.{sym, ap, ◌∙◌, ℕ, le_trans, le_of_eq, lt_of_le_of_lt, le-add_right, mul_assoc, mul-le-mul}
 use Rattle.lists.specs.Prelude.{mul-le-mul_left, le_of_mul-le-mul_right, mul-div_cancel, pow-suc, add-one, arith, digits_div, pow_pos, pow_mono}
-use Rattle.norm.specs.Words.{Leaves}
 use Rattle.norm.specs.Squares.{power-of_four, below-of-squares}
-
--- Two digits d more, which make what is left w: the root's next digit is 1 where 4·x + 1 is at most w, and leaves y of it; else 0.
-module _ (x t d w : ℕ) (h : t ≤ 2 * x) (l : d < 4) (e : w ≡ 4 * t + d) where
-  pub digit_one : (u z y : ℕ) → u ≡ 4 * x + 1 → z ≡ 2 * x + 1 → y + u ≡ w → Leaves (4 * (x * x + t) + d) z y
-  digit_one u z y p q r = rw q (record { value = omega arith; little = omega arith })
-
-  pub digit_zero : (u z : ℕ) → u ≡ 4 * x + 1 → w < u → z ≡ 2 * x + 0 → Leaves (4 * (x * x + t) + d) z w
-  digit_zero u z p r q = rw q (record { value = omega arith; little = omega arith })
 
 -- The word's digits are read from the top, two at a time: after i steps R has been read, and the word's rest stands at its top.
 -- N is what will have been read at the end.

@@ -11,7 +11,6 @@ use Rattle.norm.specs.Checked.{Between}
 use Rattle.norm.specs.Words.{Dropped, RoundsBy}
 use Rattle.norm.specs.Squares.{Compared, less, same, more, compared, square_le, square-lt, power-of_four}
 use Rattle.norm.specs.Cell.{Within, ByMiddle, rounded-within}
-use Rattle.norm.proofs.Words.{upper_digits, lower-digits}
 
 -- with H for half a step of the root and T for 2^s
 scaled : (n N M H T : ℕ) {o : Ordering} → 0 < T * T → N * (T * T) ≡ 4 * n → Compared N (M * H * (M * H)) o → Compared (4 * n) (M * (H * T) * (M * (H * T))) o
@@ -88,68 +87,39 @@ certain n (suc p) k z l h b = go (dec_le ((suc p * 2 ^ k) * (suc p * 2 ^ k)) n)
         rounded-within (record { digits = record { small = omega arith; full = ⊎_map (λ e. e) le_of_suc-le-suc l }; above = omega (arith, under); below = lt_of_not-le g })
         (more under)
 
--- ---- from the root's words
+-- ---- from the root
 
--- the dropped digits at the top of a word
-from-top : {q y t r : ℕ} (j k : ℕ) → j + suc k ≡ 64 → RoundsBy q (y * 2 ^ j) (2 ^ 63) t r → RoundsBy q y (2 ^ k) t r
-from-top {q} {y} {t} {r} j k e b = record {
-  below = λ h. a.below (mul-lt-mul_of_pos_right h (pow_pos j));
-  tie = λ h. a.tie (ap (λ (x : ℕ). x * 2 ^ j) h);
-  past = λ h. a.past (ap (λ (x : ℕ). x * 2 ^ j) h);
-  above = λ h. a.above (mul-lt-mul_of_pos_right h (pow_pos j));
-  most = b.most;
-}
-  where
-    half : 2 ^ 63 ≡ 2 ^ k * 2 ^ j
-    half = ap (λ (x : ℕ). 2 ^ x) (let p : 63 ≡ k + j = omega arith in p) ∙ pow-add 2 k j
-
-    a : RoundsBy q (y * 2 ^ j) (2 ^ k * 2 ^ j) t r
-    a = rw half at b
-
--- What is known once the digits are rounded: the root's words, what it leaves t, the shift s, the r digits dropped with u places beside them in a
--- word, j of them from the unit on, and what rounding adds, m.
-pub record Known (hi lo t s r u j m : ℕ) : Type 0 where
-  pub little : t ≤ 2 * (hi * 2 ^ 64 + lo)
-  pub dropped : Dropped (hi * 2 ^ 64 + lo) r
-  pub beside : u + r ≡ 64
+-- What is known once the digits are rounded: the root x, what it leaves t, the shift s, the r digits dropped, j of them from the unit on, and what
+-- rounding adds, m.
+pub record Known (x t s r j m : ℕ) : Type 0 where
+  pub little : t ≤ 2 * x
+  pub dropped : Dropped x r
   pub from-unit : j + 1 ≡ r
-  pub unit : (s ≡ 0) ⊎ (2 ^ 53 ≤ hi * 2 ^ 64 + lo)
-  pub up : RoundsBy (hi * 2 ^ u % 2 ^ 64 + lo / 2 ^ r) (lo * 2 ^ u % 2 ^ 64) (2 ^ 63) t m
+  pub unit : (s ≡ 0) ⊎ (2 ^ 53 ≤ x)
+  pub up : RoundsBy (x / 2 ^ r) (x % 2 ^ r) (2 ^ j) t m
 
--- the digits that the words keep: at most 53
-pub upper-small : (hi lo r u : ℕ) → u + r ≡ 64 → Dropped (hi * 2 ^ 64 + lo) r → hi * 2 ^ u % 2 ^ 64 + lo / 2 ^ r < 2 ^ 53
-upper-small hi lo r u e d = rw (upper_digits u r e hi lo d.short) ((div-lt_iff_lt-mul (pow_pos r)).1 d.short)
+-- the digits that are kept: at most 53
+pub upper-small : (x r : ℕ) → Dropped x r → x / 2 ^ r < 2 ^ 53
+upper-small x r d = (div-lt_iff_lt-mul (pow_pos r)).1 d.short
 
-module _ {hi lo t s r u j m : ℕ} (given : Known hi lo t s r u j m) where
-  abbrev x : ℕ
-  x = hi * 2 ^ 64 + lo
-
-  abbrev q' : ℕ
-  q' = hi * 2 ^ u % 2 ^ 64 + lo / 2 ^ r
-
-  upper : q' ≡ x / 2 ^ r
-  upper = upper_digits u r given.beside hi lo given.dropped.short
-
+module _ {x t s r j m : ℕ} (given : Known x t s r j m) where
   step : r ≡ suc j
   step = sym given.from-unit ∙ add-one j
 
   significand : Significand (x / 2 ^ r) (j + s)
-  significand = record { small = (div-lt_iff_lt-mul (pow_pos r)).1 given.dropped.short; full = go given.dropped.long given.unit }
+  significand = record { small = upper-small x r given.dropped; full = go given.dropped.long given.unit }
     where
       go : (r ≡ 1) ⊎ (2 ^ 52 * 2 ^ r ≤ x) → (s ≡ 0) ⊎ (2 ^ 53 ≤ x) → (j + s ≡ 0) ⊎ (2 ^ 52 ≤ x / 2 ^ r)
       go (inr h) u = inr ((le-div_iff_mul-le (pow_pos r)).1 h)
       go (inl a) (inl b) = inl (omega (arith, given.from-unit))
       go (inl a) (inr h) = inr ((le-div_iff_mul-le (pow_pos r)).1 (rw a h))
 
-  pub rounded : Rounded (q' + m) (j + s)
+  pub rounded : Rounded (x / 2 ^ r + m) (j + s)
   rounded = record {
-    most = omega (arith, upper-small hi lo r u given.beside given.dropped, given.up.most);
-    full = ⊎_map (λ e. e) (λ h. le_trans (rw upper h) (le-add_right q' m)) significand.full;
+    most = omega (arith, upper-small x r given.dropped, given.up.most);
+    full = ⊎_map (λ e. e) (λ h. le_trans h (le-add_right (x / 2 ^ r) m)) significand.full;
   }
 
   -- whatever the number is whose root this is
-  pub result : (n : ℕ) → (x * x + t) * 4 ^ s ≡ 4 * n → rounded_root n ≡ units binary64 false (q' + m) (j + s)
-  result n v = rw upper (rw step (rounded_up n x t s j v given.little (from-top u j (rw step at given.beside) up) (rw step at significand)))
-    where
-      up : RoundsBy (x / 2 ^ suc j) (x % 2 ^ suc j * 2 ^ u) (2 ^ 63) t m
-      up = rw step at (rw (lower-digits u r given.beside hi lo) at (rw upper at given.up))
+  pub result : (n : ℕ) → (x * x + t) * 4 ^ s ≡ 4 * n → rounded_root n ≡ units binary64 false (x / 2 ^ r + m) (j + s)
+  result n v = rw step (rounded_up n x t s j v given.little (rw step at given.up) (rw step at significand))

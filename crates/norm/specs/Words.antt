@@ -1,16 +1,12 @@
--- What the code's words stand for: a number of two or three words, what has been read of a number whose root is taken, and how many of the
+-- What the code's words stand for: a sum of squares, what has been read of a number whose root is taken, and how many of the
 -- root's digits are dropped and which way it is rounded.
 use Rattle.std.specs.Prelude.{◌⊎◌, ◌≡◌, ◌+◌, ◌*◌, ◌%◌, ◌^◌, ◌≤◌, ◌<◌}
 use Rattle.lists.specs.Prelude.{ℕ}
-use Rattle.norm.specs.declared.wide.Wide.{Wide}
-use Rattle.norm.specs.declared.wide.Three.{Three}
+use Rattle.norm.specs.declared.squares.Squares.{Squares}
 use Rattle.norm.specs.declared.square_root.Root.{Root}
 
-abbrev pub two : Wide → ℕ
-two w = w.hi * 2 ^ 64 + w.lo
-
-abbrev pub three : Three → ℕ
-three n = (n.high * 2 ^ 64 + n.mid) * 2 ^ 64 + n.low
+abbrev pub total : Squares → ℕ
+total n = n.top * 2 ^ 64 + n.low
 
 -- x is the whole part of the square root of n, and leaves t
 pub record Leaves (n x t : ℕ) : Type 0 where
@@ -19,11 +15,11 @@ pub record Leaves (n x t : ℕ) : Type 0 where
 
 -- the number read so far: the square of the root, and what it leaves
 abbrev pub read : Root → ℕ
-read s = two s.root * two s.root + two s.rest
+read s = s.root * s.root + s.rest
 
 -- s has read n: its root is that of n
 abbrev pub Reads : Root → ℕ → Type 0
-Reads s n = Leaves n (two s.root) (two s.rest)
+Reads s n = Leaves n s.root s.rest
 
 -- w has r binary digits
 abbrev pub Long : ℕ → ℕ → Type 0

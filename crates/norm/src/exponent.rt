@@ -5,9 +5,7 @@ ghost use Rattle.lists.specs.Prelude.{leb, pos};
 ghost use Rattle.std.specs.Int.Count.{count_leading_zeros};
 ghost use Rattle.std.specs.Int.Signed.{mag};
 ghost use Rattle.norm.specs.Parts.{UpTo, shift_of, Rounded, Encodes};
-ghost use Rattle.norm.specs.Words.{two, Long, Dropped};
-
-use super::wide::Wide;
+ghost use Rattle.norm.specs.Words.{Long, Dropped};
 
 // A part this many shifts or more below changes nothing.
 pub(crate) const FAR: i16 = 27;
@@ -71,9 +69,9 @@ pub(crate) fn below_unit(up: i16, more: i16) -> i16
     up - more
 }
 
-// 2^d
+// 2^d, d is 0 to 54.
 pub(crate) fn power(d: i16) -> u64
-    requires { UpTo 52 d }
+    requires { UpTo 54 d }
     ensures { result ≡ 2 ^ mag d }
 {
     1 << places(d)
@@ -107,29 +105,17 @@ pub(crate) fn square_shift(gap: i16) -> i16
     gap + gap + 2
 }
 
-// How many places of a word are left beside k, 0 to 64: a shift's own operand.
-pub(crate) fn places_beside(k: i16) -> u64
-    requires { UpTo 64 k }
-    ensures { result + mag k ≡ 64 }
+// How many binary digits x has, 0 to 128.
+fn digits(x: u128) -> i16
+    ensures { UpTo 128 result × Long x (mag result) }
 {
-    places(64 - k)
-}
-
-// How many binary digits w has, 0 to 128.
-fn digits(w: Wide) -> i16
-    ensures { UpTo 128 result × Long (two w) (mag result) }
-{
-    if w.hi == 0 {
-        64 - zeros(w.lo)
-    } else {
-        128 - zeros(w.hi)
-    }
+    128 - x.leading_zeros() as i16
 }
 
 // How many digits of a root are dropped, 1 to 28: all but 53, and at least the one below the unit.
-pub(crate) fn dropped(root: Wide) -> i16
-    requires { two root < 2 ^ 81 }
-    ensures { UpTo 28 result × Dropped (two root) (mag result) }
+pub(crate) fn dropped(root: u128) -> i16
+    requires { root < 2 ^ 81 }
+    ensures { UpTo 28 result × Dropped root (mag result) }
 {
     let z = digits(root);
     if reaches(z, 54) { z - 53 } else { 1 }

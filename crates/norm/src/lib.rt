@@ -7,7 +7,7 @@ mod near_root;
 mod nearest;
 mod parts;
 mod square_root;
-mod wide;
+mod squares;
 
 ghost use Rattle.std.specs.Prelude.{◌≡◌};
 ghost use Rattle.lists.specs.Prelude.{max, min};

@@ -6,11 +6,11 @@ ghost use Rattle.norm.specs.Checked.{Settles};
 ghost use Rattle.norm.specs.Norm.{rounded_root};
 ghost use Rattle.norm.specs.Parts.{UpTo, significand_of, units_of};
 
-use super::exponent::{FAR, gap, reaches, shift, square_shift};
+use super::exponent::{FAR, gap, power, reaches, shift, square_shift};
 use super::guess::guessed;
 use super::nearest::rounded;
 use super::square_root::root_of;
-use super::wide::{plus, raised, square};
+use super::squares::sum_of_squares;
 
 fn significand(a: u64) -> u64
     ensures { result ≡ significand_of a }
@@ -28,7 +28,7 @@ fn by_digits(qa: u64, qb: u64, gap: i16, unit: i16) -> u64
     requires { (qa < 2 ^ 53) × (qb < 2 ^ 53) × UpTo 26 gap × UpTo 2045 unit × ((mag unit ≡ 0) ⊎ (2 ^ 52 ≤ qa)) }
     ensures { Settles qa qb (mag gap) (mag gap + mag unit) result }
 {
-    let n = plus(raised(square(qa), square_shift(gap)), square(2 * qb));
+    let n = sum_of_squares(qa, power(square_shift(gap)), 2 * qb);
     rounded(root_of(n), unit)
 }
 
@@ -46,8 +46,7 @@ pub(crate) fn norm_bits(a: u64, b: u64) -> u64
     }
     let qa = significand(a);
     let qb = significand(b);
-    let quick = guessed(qa, qb, apart, shift(a));
-    if quick > 0 {
+    if let Some(quick) = guessed(qa, qb, apart, shift(a)) {
         return quick;
     }
     by_digits(qa, qb, apart, shift(b))

@@ -1,18 +1,15 @@
 -- What a call answers where a question refuses, and where all pass. Assumes nothing.
-use Rattle.std.specs.Prelude.{◌≡◌}
+use Rattle.std.specs.Prelude.{Ok, Err, ◌≡◌}
 use Rattle.lists.specs.Prelude.{refl, sym, ap, ◌∙◌, List, ℕ, Float}
 use Rattle.complex.specs.declared.Complex.{Complex}
 use Rattle.complex.specs.Arithmetic.{cfinite}
 use Rattle.refusal.specs.declared.Refusal.{Refusal}
-use Rattle.refusal.specs.declared.Verdict.{Verdict}
-use Rattle.refusal.specs.declared.Verdict.TheVariants.{Pass, Refused}
-use Rattle.refusal.specs.Verdict.{◌then◌}
+use Rattle.refusal.specs.Verdict.{pass, Verdict, ◌then◌}
 use Rattle.refusal.specs.Agreement.{then-assoc, then-after, then-refused}
 use Rattle.refusal.specs.Checks.{time_below, valid_tolerance, real_within, finite_work}
 use Rattle.matrix.specs.declared.DenseMatrix.{DenseMatrix}
-use Rattle.matrix.specs.declared.Checked.{Checked}
 use Rattle.block.specs.Block.{Entries, entries_in}
-use Rattle.matrix.specs.Dense.{entries_of, no_block, checked}
+use Rattle.matrix.specs.Dense.{entries_of, checked}
 use Rattle.block.specs.Operations.{product, trace, finite_trace, all_finite}
 use Rattle.observables.specs.declared.Observed.{Observed}
 use Rattle.observables.specs.declared.Observed.TheVariants.{Number}
@@ -23,22 +20,22 @@ use Rattle.observables.specs.LesserChecks.{block_at}
 
 -- ---- blocks
 
-pub checked_yes : {v w : Verdict} {block made : DenseMatrix} → v ≡ Pass → v ≡ w → block ≡ made → ◌≡◌ {A = Checked} (record { verdict = v; block = block }) (checked w made)
+pub checked_yes : {v w : Verdict} {block made : DenseMatrix} → v ≡ pass → v ≡ w → block ≡ made → Ok block ≡ checked w made
 unfolding checked
 checked_yes p e b = rw (← e, b, p)
 
-pub checked-no : {v w : Verdict} {r : Refusal} (made : DenseMatrix) → v ≡ Refused r → v ≡ w → ◌≡◌ {A = Checked} (record { verdict = v; block = no_block }) (checked w made)
+pub checked-no : {v w : Verdict} {r : Refusal} (made : DenseMatrix) → v ≡ Err r → v ≡ w → Err r ≡ checked w made
 unfolding checked
 checked-no made p e = rw (← e, p)
 
 -- ---- observables
 
 -- a number, and a refusal whatever the number is
-pub observed_yes : {v : Verdict} {x y : Float} → v ≡ Pass → y ≡ x → Number y ≡ observed v x
+pub observed_yes : {v : Verdict} {x y : Float} → v ≡ pass → y ≡ x → Number y ≡ observed v x
 unfolding observed
 observed_yes p e = rw (p, e)
 
-pub observed-no : {v : Verdict} {r : Refusal} (x y : Float) → v ≡ Refused r → observed (Refused r) x ≡ observed v y
+pub observed-no : {v : Verdict} {r : Refusal} (x y : Float) → v ≡ Err r → observed (Err r) x ≡ observed v y
 unfolding observed
 observed-no x y p = rw p
 
@@ -55,10 +52,10 @@ module _ (a b c w : Verdict) {v : Verdict} (asked : v ≡ (a then b then c)) whe
   in-line : ((a then b then c) then w) ≡ (a then b then c then w)
   in-line = then-assoc a (b then c) w ∙ ap (λ (u : Verdict). a then u) (then-assoc b c w)
 
-  pub first-refused : {r : Refusal} (x y : Float) → v ≡ Refused r → observed (Refused r) x ≡ observed (a then b then c then w) y
+  pub first-refused : {r : Refusal} (x y : Float) → v ≡ Err r → observed (Err r) x ≡ observed (a then b then c then w) y
   first-refused {r} x y p = observed-no x y (sym in-line ∙ then-refused (a then b then c) w r (sym asked ∙ p))
 
-  pub first-passed : (x : Float) → v ≡ Pass → observed w x ≡ observed (a then b then c then w) x
+  pub first-passed : (x : Float) → v ≡ pass → observed w x ≡ observed (a then b then c then w) x
   first-passed x p = ap (λ (u : Verdict). observed u x) (sym (then-after (a then b then c) w (sym asked ∙ p)) ∙ in-line)
 
 -- the trace of the density

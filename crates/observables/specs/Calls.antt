@@ -1,16 +1,14 @@
 -- Document 01, observables: the outcome of each call. Checks 1, 2, 3, 16 and 7 of the lesser function (operand 0) and of the observable's block
 -- (operand 1) come before the order that the module names. Document 02, L1: "observables read the same layout over the points".
-use Rattle.std.specs.Prelude.{◌&&◌}
+use Rattle.std.specs.Prelude.{Result, Ok, Err, ◌&&◌}
 use Rattle.lists.specs.Prelude.{ℕ, cond, List, eqb, length, Float, binary64, of_bits}
 use Rattle.complex.specs.declared.Complex.{Complex}
 use Rattle.complex.specs.Arithmetic.{mul, cmul}
-use Rattle.refusal.specs.declared.Verdict.{Verdict}
-use Rattle.refusal.specs.declared.Verdict.TheVariants.{Pass, Refused}
-use Rattle.refusal.specs.Verdict.{◌then◌}
+use Rattle.refusal.specs.Verdict.{pass, Verdict, ◌then◌}
 use Rattle.refusal.specs.Checks.{large_enough, not_empty, within_limits, within_block, fitting, finite_entries, valid_tolerance, finite_work, time_below, orbital_below, within_capacity}
 use Rattle.refusal.specs.Checks.{finite_factors, real_within}
 use Rattle.matrix.specs.declared.DenseMatrix.{DenseMatrix}
-use Rattle.matrix.specs.declared.Checked.{Checked}
+use Rattle.refusal.specs.declared.Refusal.{Refusal}
 use Rattle.block.specs.Block.{Entries}
 use Rattle.matrix.specs.Dense.{entries_of, count_of, block_of, checked}
 use Rattle.block.specs.Operations.{product, trace, finite_trace, all_finite}
@@ -28,8 +26,8 @@ observed_number (NotObserved r) = r.number
 
 -- "An observable's answer is a number, or a refusal that carries the imaginary part": number 14 carries it, any other its places
 unfoldable pub observed : Verdict → Float → Observed
-observed Pass x = Number x
-observed (Refused r) x = cond (eqb r.number 14) (NotReal r.part) (NotObserved r)
+observed (Ok tt) x = Number x
+observed (Err r) x = cond (eqb r.number 14) (NotReal r.part) (NotObserved r)
 
 -- checks 1, 2, 3, 16 and 7 of the lesser function
 unfoldable pub lesser_checks : ℕ → ℕ → ℕ → List Float → Verdict
@@ -49,7 +47,7 @@ module _ (capacity points orbitals : ℕ) (lesser : List Float) where
   rho = density (read_as capacity orbitals lesser)
 
   -- `density_matrix`: its questions, then 11
-  unfoldable pub density_matrix : ℕ → Checked
+  unfoldable pub density_matrix : ℕ → Result DenseMatrix Refusal
   density_matrix time = checked (lesser_checks capacity points orbitals lesser then time_below time points) (block_of orbitals orbitals (rho time))
 
   -- `particle_number`: 8, 11, 10 (the trace), 14. "8 comes before 11 and before 10" (document 02, L8); "The trace itself shall give 10 when a part of

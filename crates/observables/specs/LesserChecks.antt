@@ -1,13 +1,11 @@
 -- The checks of a lesser function with a block beside it as the code asks them, and what it says that they pass. Assumes nothing.
-use Rattle.std.specs.Prelude.{◌≡◌, ◌&&◌, ◌∷◌, ◌≤◌}
+use Rattle.std.specs.Prelude.{Err, ◌≡◌, ◌&&◌, ◌∷◌, ◌≤◌}
 use Rattle.lists.specs.Prelude.{refl, sym, ap, ◌∙◌, Bool, true, and-true, List, [], ℕ, le_of_eq, le_trans, lt_of_lt_of_le, eqb, length, Float, eqb-true, leb-true, le-leb}
 use Rattle.lists.specs.Agreement.{both}
 use Rattle.refusal.specs.declared.Refusal.{Refusal}
-use Rattle.refusal.specs.declared.Verdict.{Verdict}
-use Rattle.refusal.specs.declared.Verdict.TheVariants.{Pass, Refused}
-use Rattle.refusal.specs.Verdict.{by, ◌then◌}
+use Rattle.refusal.specs.Verdict.{pass, Verdict, by, ◌then◌}
 use Rattle.refusal.specs.Agreement.{ask_pass, then-pass, then-agree, then-assoc, then-after, then-refused}
-use Rattle.refusal.specs.Checks.{fitting, finite_entries, within_capacity, time_below}
+use Rattle.refusal.specs.Checks.{large_enough, not_empty, within_limits, within_block, fitting, finite_entries, within_capacity, time_below}
 use Rattle.matrix.specs.declared.DenseMatrix.{DenseMatrix}
 use Rattle.matrix.specs.Dense.{count_of}
 use Rattle.two_time.specs.Layout.{length_of}
@@ -30,8 +28,8 @@ module _ (capacity points orbitals : ℕ) (lesser : List Float) (x : DenseMatrix
   unfolding all_fit all_long
   sizes_asked_lem f e =
       e
-      ∙ then-agree _ _ _ _ refl
-      (λ l. then-agree _ _ _ _ refl
+      ∙ then-agree _ (large_enough points orbitals then not_empty x.rows x.columns) _ _ refl
+      (λ l. then-agree _ (within_limits capacity orbitals then within_block x.rows x.columns) _ (fitting (eqb (length lesser) (length_of capacity orbitals) && square) then within_capacity points capacity) refl
       (λ m. let most = limited capacity orbitals (then-pass _ _ m).0 in rw (f, le-leb _ _ most.0, le-leb _ _ most.1, and-true (eqb (length lesser) (length_of capacity orbitals)))))
 
   sizes-first : (sizes then (point_entries capacity points orbitals 0 lesser then finite_entries 1 x.values (count_of x))) ≡ lesser_block_checks capacity points orbitals lesser x
@@ -46,7 +44,7 @@ module _ (capacity points orbitals : ℕ) (lesser : List Float) (x : DenseMatrix
     pub square-rows : x.rows ≡ orbitals
     pub square-columns : x.columns ≡ orbitals
 
-  pub block-passed : sizes ≡ Pass → BlockPassed
+  pub block-passed : sizes ≡ pass → BlockPassed
   unfolding fitting within_capacity
   block-passed h =
       let first = then-pass _ _ h in
@@ -73,10 +71,10 @@ module _ (capacity points orbitals : ℕ) (lesser : List Float) (x : DenseMatrix
       }
 
   -- they refuse, or pass before check 7
-  pub block_refused : {v : Verdict} {r : Refusal} → v ≡ sizes → v ≡ Refused r → v ≡ lesser_block_checks capacity points orbitals lesser x
+  pub block_refused : {v : Verdict} {r : Refusal} → v ≡ sizes → v ≡ Err r → v ≡ lesser_block_checks capacity points orbitals lesser x
   block_refused e p = p ∙ sym (then-refused _ _ _ (sym e ∙ p)) ∙ sizes-first
 
-  pub block-asked : {v entries all : Verdict} → v ≡ sizes → v ≡ Pass → entries ≡ point_checks capacity points orbitals 0 lesser → all ≡ (entries then finite_entries 1 x.values (count_of x))
+  pub block-asked : {v entries all : Verdict} → v ≡ sizes → v ≡ pass → entries ≡ point_checks capacity points orbitals 0 lesser → all ≡ (entries then finite_entries 1 x.values (count_of x))
       → all ≡ lesser_block_checks capacity points orbitals lesser x
   block-asked e p q h =
       let passes = sym e ∙ p in
@@ -84,7 +82,7 @@ module _ (capacity points orbitals : ℕ) (lesser : List Float) (x : DenseMatrix
       h ∙ ap (λ (w : Verdict). w then finite_entries 1 x.values (count_of x)) (points-asked capacity points orbitals s.least s.within 0 s.sized q)
       ∙ sym (then-after _ _ passes) ∙ sizes-first
 
-  pub block_at : (time : ℕ) → lesser_block_checks capacity points orbitals lesser x ≡ Pass → time_below time points ≡ Pass → Passed capacity orbitals lesser time × (x.columns ≡ orbitals)
+  pub block_at : (time : ℕ) → lesser_block_checks capacity points orbitals lesser x ≡ pass → time_below time points ≡ pass → Passed capacity orbitals lesser time × (x.columns ≡ orbitals)
   block_at time l t =
       let s = block-passed (then-pass _ _ (sizes-first ∙ l)).0 in
       let z = s.sized in (

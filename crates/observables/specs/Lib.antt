@@ -11,3 +11,5 @@ pub mod LesserChecks
 pub mod Answers
 -- A query of a bond flow, as the single call and a list of queries ask it.
 pub mod Query
+-- What each observable measures by its questions in order.
+pub mod Measured

@@ -1,15 +1,11 @@
 -- A lesser function that passed its checks, and a time index below the points: each entry of its block there is read. Assumes nothing.
-use Rattle.std.specs.Prelude.{◌≡◌, ◌∷◌, ◌*◌, ◌≤◌, ◌<◌}
+use Rattle.std.specs.Prelude.{Option, Some, None, ◌≡◌, ◌∷◌, ◌*◌, ◌≤◌, ◌<◌}
 use Rattle.lists.specs.Prelude.{sym, ◌∙◌, true, List, [], ℕ, lt_of_lt_of_le, le_of_eq, le_trans, zero-mul, zero-add, arith, ltb, length, Float, ltb-true}
 use Rattle.complex.specs.declared.Complex.{Complex}
-use Rattle.refusal.specs.declared.Verdict.{Verdict}
-use Rattle.refusal.specs.declared.Verdict.TheVariants.{Pass}
-use Rattle.refusal.specs.Verdict.{by, ◌then◌}
+use Rattle.refusal.specs.Verdict.{pass, Verdict, by, ◌then◌}
 use Rattle.refusal.specs.Agreement.{ask_pass, then-pass}
 use Rattle.refusal.specs.Checks.{time_below, orbital_below}
 use Rattle.block.specs.Block.{entries_in}
-use Rattle.two_time.specs.declared.layout.Stored.{Stored}
-use Rattle.two_time.specs.declared.layout.Stored.TheVariants.{Entry, Outside}
 use Rattle.two_time.specs.Layout.{length_of, read_as}
 use Rattle.two_time.specs.Places.{Placed, product-most}
 use Rattle.two_time.specs.Calls.{point_checks}
@@ -24,37 +20,37 @@ pub record Passed (capacity orbitals : ℕ) (lesser : List Float) (time : ℕ) :
   pub room : length_of capacity orbitals ≤ length lesser
 
 -- what it says that check 11 passes
-pub below : (time points : ℕ) → time_below time points ≡ Pass → time < points
+pub below : (time points : ℕ) → time_below time points ≡ pass → time < points
 unfolding time_below
 below time points e = ltb-true time points (ask_pass (ltb time points) (by 11) e)
 
 -- and check 12
-pub orbital : (a orbitals : ℕ) → orbital_below a orbitals ≡ Pass → a < orbitals
+pub orbital : (a orbitals : ℕ) → orbital_below a orbitals ≡ pass → a < orbitals
 unfolding orbital_below
 orbital a orbitals e = ltb-true a orbitals (ask_pass (ltb a orbitals) (by 12) e)
 
 -- the first and the last of three that pass
-pub ends-passed : (x y z : Verdict) → (x then y then z) ≡ Pass → (x ≡ Pass) × (z ≡ Pass)
+pub ends-passed : (x y z : Verdict) → (x then y then z) ≡ pass → (x ≡ pass) × (z ≡ pass)
 ends-passed x y z h = let first = then-pass x _ h in (first.0, (then-pass y z first.1).1)
 
 module _ (capacity points orbitals : ℕ) (lesser : List Float) (time : ℕ) where
   -- what it says that all of them pass
-  pub passed : lesser_checks capacity points orbitals lesser ≡ Pass → time_below time points ≡ Pass → Passed capacity orbitals lesser time
+  pub passed : lesser_checks capacity points orbitals lesser ≡ pass → time_below time points ≡ pass → Passed capacity orbitals lesser time
   unfolding lesser_checks point_checks
   passed l t =
       let s = capacity-passed capacity points orbitals true (lesser ∷ []) (then-pass _ _ l).0 in
       record { time_inside = lt_of_lt_of_le (below time points t) s.1; capacity-most = s.2.points-most; orbitals-most = s.2.orbitals-most; room = le_of_eq (sym (long-first _ _ _ s.2.long).0) }
 
-  pub time_passed : {v : Verdict} → v ≡ (lesser_checks capacity points orbitals lesser then time_below time points) → v ≡ Pass → Passed capacity orbitals lesser time
+  pub time_passed : {v : Verdict} → v ≡ (lesser_checks capacity points orbitals lesser then time_below time points) → v ≡ pass → Passed capacity orbitals lesser time
   time_passed e p = let both = then-pass _ _ (sym e ∙ p) in passed both.0 both.1
 
   -- the same with the tolerance's between them
-  pub arguments_passed : {v : Verdict} (w : Verdict) → v ≡ (lesser_checks capacity points orbitals lesser then w then time_below time points) → v ≡ Pass → Passed capacity orbitals lesser time
+  pub arguments_passed : {v : Verdict} (w : Verdict) → v ≡ (lesser_checks capacity points orbitals lesser then w then time_below time points) → v ≡ pass → Passed capacity orbitals lesser time
   arguments_passed w e p = let all = ends-passed _ w _ (sym e ∙ p) in passed all.0 all.1
 
   -- the same of the checks of a bond, with one between
   pub bond_passed : (a b : ℕ) (w : Verdict)
-      → (lesser_checks capacity points orbitals lesser then w then (orbital_below a orbitals then orbital_below b orbitals) then time_below time points) ≡ Pass
+      → (lesser_checks capacity points orbitals lesser then w then (orbital_below a orbitals then orbital_below b orbitals) then time_below time points) ≡ pass
       → Passed capacity orbitals lesser time × ((b < orbitals) × (a < orbitals))
   bond_passed a b w h =
       let first = then-pass _ _ h in
@@ -77,8 +73,8 @@ pub block_read : (orbitals : ℕ) (values : List Float) (a b : ℕ) → read_as 
 block_read orbitals values a b = rw (zero-mul, zero-add)
 
 -- an entry that is there is the one that is found
-pub entry_found : {s : Stored} (z w : Complex) → s ≡ Entry z → s ≡ Entry w → w ≡ z
+pub entry_found : {s : Option Complex} (z w : Complex) → s ≡ Some z → s ≡ Some w → w ≡ z
 entry_found z w e f = cc
 
-pub not_outside : {P : Type 0} {s : Stored} (z : Complex) → s ≡ Entry z → s ≡ Outside → P
+pub not_outside : {P : Type 0} {s : Option Complex} (z : Complex) → s ≡ Some z → s ≡ None → P
 not_outside z e f = absurd (let n : ◌≡◌ {A = ℕ} 0 1 = cc in omega arith)

@@ -11,7 +11,7 @@ ghost use Rattle.observables.specs.Passed.{Passed};
 
 use complex::Complex;
 use matrix::DenseMatrix;
-use two_time::layout::{Stored, read};
+use two_time::layout::read;
 
 // Entry (a, b) of block (t, u), which the slice holds.
 pub(crate) fn stored(
@@ -27,11 +27,8 @@ pub(crate) fn stored(
     requires orbitals_in_bounds { length_of stride orbitals ≤ length xs.now }
     ensures { result ≡ read_as stride orbitals xs.now t u a b }
 {
-    // The other case never comes.
-    let Stored::Entry(z) = read(xs, stride, orbitals, t, u, a, b) else {
-        return Complex::ZERO;
-    };
-    z
+    // Zero is never taken: the entry is there.
+    read(xs, stride, orbitals, t, u, a, b).unwrap_or(Complex::ZERO)
 }
 
 // Entry (a, b) of the density.

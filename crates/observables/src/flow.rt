@@ -2,27 +2,24 @@
 // (document 02, L6).
 ghost use Rattle.std.specs.Prelude.{◌≡◌};
 ghost use Rattle.two_time.specs.Layout.{stored_at};
-ghost use Rattle.observables.specs.Query.{found, queried};
+ghost use Rattle.observables.specs.Query.{found};
+ghost use Rattle.observables.specs.Measured.{flow_measured};
 
-use crate::Observed;
-use crate::answer::refused;
 use complex::Complex;
-use refusal::Verdict;
+use refusal::Refusal;
 use refusal::checks::{finite_factors, orbital_below, time_below};
 use two_time::capacity::Shape;
-use two_time::layout::{Stored, read};
+use two_time::layout::read;
 
 // Entry (a, b) of block (t, t), zero where the slice has none: a slice that passed its checks has it.
 fn found(lesser: &[f64], shape: Shape, time: usize, a: usize, b: usize) -> Complex
     ensures { result ≡ found (stored_at shape.capacity shape.orbitals lesser.now time time a b) }
 {
-    let Stored::Entry(z) = read(lesser, shape.capacity, shape.orbitals, time, time, a, b) else {
-        return Complex::ZERO;
-    };
-    z
+    read(lesser, shape.capacity, shape.orbitals, time, time, a, b).unwrap_or(Complex::ZERO)
 }
 
 // 13, 12, 11, then the flow into orbital a from b.
+#[tactic(auto, unfolding(refusal::specs::Verdict::measured))]
 pub fn flow_of(
     lesser: &[f64],
     shape: Shape,
@@ -31,15 +28,13 @@ pub fn flow_of(
     b: usize,
     hopping: Complex,
     charge: f64,
-) -> Observed
-    ensures { result ≡ queried shape.capacity shape.points shape.orbitals lesser.now time a b hopping charge }
+) -> Result<f64, Refusal>
+    ensures { result ≡ flow_measured shape.capacity shape.points shape.orbitals lesser.now time a b hopping charge }
 {
-    let bond = orbital_below(a, shape.orbitals).then(orbital_below(b, shape.orbitals));
-    let places = bond.then(time_below(time, shape.points));
-    let verdict = finite_factors(hopping, charge).then(places);
-    if let Verdict::Refused(r) = verdict {
-        return refused(r);
-    }
+    finite_factors(hopping, charge)?;
+    orbital_below(a, shape.orbitals)?;
+    orbital_below(b, shape.orbitals)?;
+    time_below(time, shape.points)?;
     let rho_ba = Complex::MINUS_I.times(found(lesser, shape, time, b, a));
-    Observed::Number(2.0 * charge * hopping.times(rho_ba).im)
+    Ok(2.0 * charge * hopping.times(rho_ba).im)
 }

@@ -2,25 +2,24 @@
 // call is in specs/.
 #![tactic(auto)]
 
-mod answer;
 pub mod checks;
 mod density;
 pub mod flow;
+mod measure;
 mod product;
 
 ghost use Rattle.std.specs.Prelude.{◌≡◌};
 ghost use Rattle.observables.specs.Calls.{density_matrix, particle_number, one_body_expectation, bond_flow_into};
+ghost use Rattle.observables.specs.Measured.{outcome};
 
-use answer::{real_checked, refused};
-use checks::{check_arguments, check_lesser, check_lesser_block, check_lesser_time};
+use checks::check_lesser;
 use complex::Complex;
-use flow::flow_of;
-use matrix::{Checked, DenseMatrix};
-use refusal::checks::finite_work;
-use refusal::{Refusal, Verdict};
+use matrix::DenseMatrix;
+use refusal::Refusal;
+use refusal::checks::time_below;
 use two_time::capacity::Shape;
 
-// An observable's answer (document 01, "How to write each place").
+// An observable's answer (document 01, "How to write each place"). It is an enum of its own, as that paper names its three cases: a `Result` has two.
 #[derive(Clone, Copy)]
 pub enum Observed {
     // The number; a bond flow may be infinite or a NaN.
@@ -31,43 +30,43 @@ pub enum Observed {
     Refused(Refusal),
 }
 
+impl From<Result<f64, Refusal>> for Observed {
+    ghost from_gives = { λ measured observed. observed ≡ outcome measured };
+
+    #[tactic(auto, unfolding(crate::specs::Measured::outcome))]
+    fn from(measured: Result<f64, Refusal>) -> Observed {
+        match measured {
+            Ok(x) => Observed::Number(x),
+            Err(r) if r.number == 14 => Observed::NotReal(r.part),
+            Err(r) => Observed::Refused(r),
+        }
+    }
+}
+
 // The one-particle density matrix rho(t) = -i G^<(t,t).
-pub fn density_matrix(lesser: &[f64], shape: Shape, time_index: usize) -> Checked
+#[tactic(auto, unfolding(crate::specs::Calls::density_matrix, matrix::specs::Dense::checked))]
+pub fn density_matrix(
+    lesser: &[f64],
+    shape: Shape,
+    time_index: usize,
+) -> Result<DenseMatrix, Refusal>
     ensures { result ≡ density_matrix shape.capacity shape.points shape.orbitals lesser.now time_index }
 {
-    let verdict = check_lesser_time(lesser, shape, time_index);
-    let Verdict::Pass = verdict else {
-        return Checked {
-            verdict,
-            block: DenseMatrix {
-                rows: 0,
-                columns: 0,
-                values: [0.0; 512],
-            },
-        };
-    };
-    Checked {
-        verdict,
-        block: density::block(lesser, shape.capacity, shape.orbitals, time_index),
-    }
+    check_lesser(lesser, shape)?;
+    time_below(time_index, shape.points)?;
+    Ok(density::block(lesser, shape.capacity, shape.orbitals, time_index))
 }
 
 // Tr rho, which is to be finite, and real within the tolerance.
+#[tactic(auto, using(crate::proofs::Outcomes::number_outcome))]
 pub fn particle_number(lesser: &[f64], shape: Shape, time_index: usize, tolerance: f64) -> Observed
     ensures { result ≡ particle_number shape.capacity shape.points shape.orbitals lesser.now time_index tolerance }
 {
-    let inputs = check_lesser(lesser, shape);
-    let verdict = check_arguments(inputs, tolerance, time_index, shape.points);
-    if let Verdict::Refused(r) = verdict {
-        return refused(r);
-    }
-    real_checked(
-        density::trace(lesser, shape.capacity, shape.orbitals, time_index),
-        tolerance,
-    )
+    Observed::from(measure::particle_number(lesser, shape, time_index, tolerance))
 }
 
-// Tr[O rho] of a one-body matrix O, which is to be finite, and real within the tolerance: n³ products O_ak·rho_kb for check 10, n² for the trace.
+// Tr[O rho] of a one-body matrix O, which is to be finite, and real within the tolerance.
+#[tactic(auto, using(crate::proofs::Outcomes::expectation_outcome))]
 pub fn one_body_expectation(
     lesser: &[f64],
     shape: Shape,
@@ -77,31 +76,12 @@ pub fn one_body_expectation(
 ) -> Observed
     ensures { result ≡ one_body_expectation shape.capacity shape.points shape.orbitals lesser.now time_index observable tolerance }
 {
-    let rows = observable.rows;
-    let columns = observable.columns;
-    let values = observable.values;
-    let inputs = check_lesser_block(lesser, shape, rows, columns, &values);
-    let verdict = check_arguments(inputs, tolerance, time_index, shape.points);
-    if let Verdict::Refused(r) = verdict {
-        return refused(r);
-    }
-    let work = finite_work(product::is_finite(
-        &values,
-        lesser,
-        shape.capacity,
-        shape.orbitals,
-        time_index,
-    ));
-    if let Verdict::Refused(r) = work {
-        return refused(r);
-    }
-    real_checked(
-        product::trace(&values, lesser, shape.capacity, shape.orbitals, time_index),
-        tolerance,
-    )
+    let measured = measure::one_body_expectation(lesser, shape, time_index, &observable, tolerance);
+    Observed::from(measured)
 }
 
 // The flow into orbital a from b, J = 2 q/hbar Im[h_ab rho_ba], with hopping_ab and charge_over_hbar = q/hbar.
+#[tactic(auto, using(crate::proofs::Outcomes::flow_outcome))]
 pub fn bond_flow_into(
     lesser: &[f64],
     shape: Shape,
@@ -113,11 +93,7 @@ pub fn bond_flow_into(
 ) -> Observed
     ensures { result ≡ bond_flow_into shape.capacity shape.points shape.orbitals lesser.now time_index a b hopping_ab charge_over_hbar }
 {
-    let inputs = check_lesser(lesser, shape);
-    if let Verdict::Refused(r) = inputs {
-        return refused(r);
-    }
-    flow_of(
+    Observed::from(measure::bond_flow(
         lesser,
         shape,
         time_index,
@@ -125,5 +101,5 @@ pub fn bond_flow_into(
         b,
         hopping_ab,
         charge_over_hbar,
-    )
+    ))
 }

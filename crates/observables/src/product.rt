@@ -42,7 +42,7 @@ fn entry(
     sum
 }
 
-// Whether row a of the product is finite.
+// Whether row a of the product is finite. A loop, as a closure for `all` would need a `requires` of its own, that b is below n.
 fn row_is_finite(
     values: &[f64],
     lesser: &[f64],

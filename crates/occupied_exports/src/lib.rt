@@ -16,10 +16,11 @@ use answers::blocks::block;
 use answers::write_answer;
 use counters::{session_of, write_booked};
 use refusal::Verdict;
-use refusal::checks::{desk_known, least};
+use refusal::checks::desk_known;
 use two_time::capacity::{Shape, check_block_sizes};
 
 // Checks 22, 1 and 2, those of the block in their lines, then 3 of counters that are not eight.
+#[tactic(auto, unfolding(transient_run::specs::Form::form_sizes))]
 fn no_counters_beside(
     desk: usize,
     points: usize,
@@ -35,7 +36,8 @@ fn no_counters_beside(
         capacity,
         orbitals,
     };
-    desk_known(desk).then(check_block_sizes(shape, rows, columns, false))
+    desk_known(desk)?;
+    check_block_sizes(shape, rows, columns, false)
 }
 
 // The transient run over the points from g0: G^R and G^< in the outputs, K and X in the scratch.
@@ -138,14 +140,7 @@ pub extern "C" fn leechgrommet_append_point_occupied(
 {
     if counters.len() != 8 {
         return write_answer(
-            no_counters_beside(
-                desk,
-                least(points, 256) + 1,
-                capacity,
-                orbitals,
-                rows,
-                columns,
-            ),
+            no_counters_beside(desk, points.min(256) + 1, capacity, orbitals, rows, columns),
             places,
             part,
         );

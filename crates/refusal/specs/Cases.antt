@@ -1,11 +1,10 @@
 -- Closed cases of the checks: each at its edge, and questions in order.
-use Rattle.std.specs.Prelude.{◌≡◌, ◌∷◌}
+use Rattle.std.specs.Prelude.{Err, ◌≡◌, ◌∷◌}
 use Rattle.lists.specs.Prelude.{refl, true, false, [], map, Float, nan, inf, binary64}
 use Rattle.std.specs.Float.Ieee as Ieee
 use Rattle.lists.specs.Indexed.{all_below}
 use Rattle.complex.specs.Arithmetic.{plus_zero, one, czero, size, finite, cfinite}
-use Rattle.refusal.specs.declared.Verdict.TheVariants.{Pass, Refused}
-use Rattle.refusal.specs.Verdict.{by, ask, ◌then◌, ask_all, number_of, zeroed, afterwards, decide, decision_number}
+use Rattle.refusal.specs.Verdict.{pass, by, ask, ◌then◌, ask_all, number_of, zeroed, afterwards, decide, decision_number}
 use Rattle.refusal.specs.Checks.{large_enough, not_empty, within_limits, within_block, within_program, fitting, finite_times, rising_times, finite_weights, finite_entries}
 use Rattle.refusal.specs.Checks.{valid_tolerance, retarded_at, finite_work, time_below, orbital_below, finite_factors, real_within, well_formed, within_capacity, counter_holds, within_list, desk_known}
 
@@ -27,15 +26,15 @@ limits = refl
 -- the times 0, 0: 5 at 1; a NaN is no time; 0, -0 do not rise
 times : finite_times 2 (plus_zero ∷ nan ∷ []) ∷ finite_times 2 (plus_zero ∷ one ∷ []) ∷ rising_times 2 (plus_zero ∷ plus_zero ∷ []) ∷ rising_times 3 (plus_zero ∷ one ∷ half ∷ [])
     ∷ rising_times 2 (plus_zero ∷ Ieee.of_bits binary64 0x8000_0000_0000_0000 ∷ []) ∷ rising_times 2 (plus_zero ∷ one ∷ []) ∷ []
-    ≡ Refused (by 4) ∷ Pass ∷ Refused (record { number = 5; operand = 0; first = 1; second = 0; part = plus_zero })
-    ∷ Refused (record { number = 5; operand = 0; first = 2; second = 0; part = plus_zero }) ∷ Refused (record { number = 5; operand = 0; first = 1; second = 0; part = plus_zero }) ∷ Pass ∷ []
-unfolding finite_times rising_times Ieee.lt Ieee.of_bits ◌then◌ all_below ask ask_all finite
+    ≡ Err (by 4) ∷ pass ∷ Err (record { number = 5; operand = 0; first = 1; second = 0; part = plus_zero })
+    ∷ Err (record { number = 5; operand = 0; first = 2; second = 0; part = plus_zero }) ∷ Err (record { number = 5; operand = 0; first = 1; second = 0; part = plus_zero }) ∷ pass ∷ []
+unfolding finite_times rising_times Ieee.lt Ieee.of_bits all_below ask ask_all finite
 times = refl
 
 -- the first number that is not finite, by operand and position
 entries : finite_entries 1 (plus_zero ∷ one ∷ inf true ∷ nan ∷ []) 4 ∷ finite_entries 1 (plus_zero ∷ one ∷ inf true ∷ nan ∷ []) 2 ∷ []
-    ≡ Refused (record { number = 7; operand = 1; first = 2; second = 0; part = plus_zero }) ∷ Pass ∷ []
-unfolding finite_entries Ieee.of_bits ◌then◌ ask ask_all finite
+    ≡ Err (record { number = 7; operand = 1; first = 2; second = 0; part = plus_zero }) ∷ pass ∷ []
+unfolding finite_entries Ieee.of_bits ask ask_all finite
 entries = refl
 
 tolerances : map number_of (valid_tolerance one ∷ valid_tolerance plus_zero ∷ valid_tolerance nan ∷ valid_tolerance (inf false) ∷ valid_tolerance (Ieee.neg one) ∷ []) ≡ 0 ∷ 8 ∷ 8 ∷ 8 ∷ 8 ∷ []
@@ -44,8 +43,8 @@ tolerances = refl
 
 -- a residual or an imaginary part equal to the tolerance passes, and a NaN does; -0.75 is refused with its sign
 residuals : retarded_at 1 0 2 half half ∷ retarded_at 1 0 2 half nan ∷ retarded_at 1 0 2 half three_quarters ∷ real_within half half ∷ real_within half nan ∷ real_within half (Ieee.neg three_quarters) ∷ []
-    ≡ Pass ∷ Pass ∷ Refused (record { number = 9; operand = 1; first = 0; second = 2; part = three_quarters }) ∷ Pass ∷ Pass
-    ∷ Refused (record { number = 14; operand = 0; first = 0; second = 0; part = Ieee.neg three_quarters }) ∷ []
+    ≡ pass ∷ pass ∷ Err (record { number = 9; operand = 1; first = 0; second = 2; part = three_quarters }) ∷ pass ∷ pass
+    ∷ Err (record { number = 14; operand = 0; first = 0; second = 0; part = Ieee.neg three_quarters }) ∷ []
 unfolding retarded_at real_within Ieee.lt Ieee.neg Ieee.of_bits ask size
 residuals = refl
 
@@ -60,16 +59,16 @@ unfolding number_of within_list ask
 lists = refl
 
 -- the first refusal is the answer
-in_order : (Pass then Refused (by 3) then Refused (by 7)) ∷ ask_all 3 (λ i. Pass) ∷ [] ≡ Refused (by 3) ∷ Pass ∷ []
-unfolding ◌then◌ ask_all
+in_order : (pass then Err (by 3) then Err (by 7)) ∷ ask_all 3 (λ i. pass) ∷ [] ≡ Err (by 3) ∷ pass ∷ []
+unfolding ask_all
 in_order = refl
 
 -- accepted: what was made; 10: +0 throughout; any other: as before
-leaves : afterwards zeroed Pass (one ∷ []) (half ∷ []) ∷ afterwards zeroed (Refused (by 10)) (one ∷ []) (half ∷ []) ∷ afterwards zeroed (Refused (by 9)) (one ∷ []) (half ∷ []) ∷ []
+leaves : afterwards zeroed pass (one ∷ []) (half ∷ []) ∷ afterwards zeroed (Err (by 10)) (one ∷ []) (half ∷ []) ∷ afterwards zeroed (Err (by 9)) (one ∷ []) (half ∷ []) ∷ []
     ≡ (one ∷ []) ∷ (plus_zero ∷ []) ∷ (half ∷ []) ∷ []
 unfolding afterwards
 leaves = refl
 
-decisions : map decision_number (decide Pass true ∷ decide Pass false ∷ decide (Refused (by 8)) true ∷ []) ≡ 0 ∷ 0 ∷ 8 ∷ []
+decisions : map decision_number (decide pass true ∷ decide pass false ∷ decide (Err (by 8)) true ∷ []) ≡ 0 ∷ 0 ∷ 8 ∷ []
 unfolding decision_number decide
 decisions = refl

@@ -5,8 +5,7 @@ use Rattle.lists.specs.Prelude.{ℕ, Bool, not, List, leb, ltb, get_or, Float, n
 use Rattle.lists.specs.Indexed.{all_below}
 use Rattle.complex.specs.declared.Complex.{Complex}
 use Rattle.complex.specs.Arithmetic.{plus_zero, finite, cfinite, size}
-use Rattle.refusal.specs.declared.Verdict.{Verdict}
-use Rattle.refusal.specs.Verdict.{by, ask, ask_all}
+use Rattle.refusal.specs.Verdict.{Verdict, by, ask, ask_all}
 
 -- 1: "Are N at least 2 and n at least 1?" A block has at least one row and one column (document 01, matrix).
 unfoldable pub large_enough : ℕ → ℕ → Verdict

@@ -1,14 +1,12 @@
 -- How far a search for the first question that is answered no has come, and what that says of all the questions. Assumes nothing.
-use Rattle.std.specs.Prelude.{◌≡◌, ◌+◌, ◌≤◌, ◌<◌}
+use Rattle.std.specs.Prelude.{Err, ◌≡◌, ◌+◌, ◌≤◌, ◌<◌}
 use Rattle.lists.specs.Prelude.{refl, sym, ◌∙◌, Bool, true, false, List, ⊎_elim, ℕ, zero, suc, le_of_suc-le-suc, eq-or-lt_of_le, arith, eqb, length}
 use Rattle.lists.specs.Prelude.{get_or, get_or-eq_default, Float, nan, inf, fin, lt, eq-eqb, ne_eqb}
 use Rattle.lists.specs.Indexed.{all_below}
 use Rattle.lists.specs.Agreement.{never, all-each, each_all}
 use Rattle.complex.specs.Arithmetic.{finite}
 use Rattle.refusal.specs.declared.Refusal.{Refusal}
-use Rattle.refusal.specs.declared.Verdict.{Verdict}
-use Rattle.refusal.specs.declared.Verdict.TheVariants.{Pass, Refused}
-use Rattle.refusal.specs.Verdict.{ask, ◌then◌, ask_all}
+use Rattle.refusal.specs.Verdict.{pass, Verdict, ask, ask_all}
 use Rattle.refusal.specs.Agreement.{all_asked, ask_yes}
 
 -- of n questions the first r are answered yes, and the next one, if there is one, no
@@ -18,8 +16,8 @@ pub record Prefix (p : ℕ → Bool) (n r : ℕ) : Type 0 where
   pub ended : r < n → p r ≡ false
 
 -- the first question that is refused is the answer to all n in order
-pub first-refused : (f : ℕ → Verdict) (x : Refusal) (n r : ℕ) → r < n → ((k : ℕ) → k < r → f k ≡ Pass) → f r ≡ Refused x → ask_all n f ≡ Refused x
-unfolding ask_all ◌then◌
+pub first-refused : (f : ℕ → Verdict) (x : Refusal) (n r : ℕ) → r < n → ((k : ℕ) → k < r → f k ≡ pass) → f r ≡ Err x → ask_all n f ≡ Err x
+unfolding ask_all
 first-refused f x zero r l h e = absurd (omega arith)
 first-refused f x (suc n) r l h e =
     ⊎_elim
@@ -44,7 +42,7 @@ module _ (p : ℕ → Bool) where
       (λ less. ne_eqb r n (λ e. omega arith) ∙ sym (all-no n r less (s.ended less)))
       (eq-or-lt_of_le s.within)
 
-  first-no : (f : ℕ → Refusal) (n r : ℕ) → r < n → ((k : ℕ) → k < r → p k ≡ true) → p r ≡ false → ask_all n (λ i. ask (p i) (f i)) ≡ Refused (f r)
+  first-no : (f : ℕ → Refusal) (n r : ℕ) → r < n → ((k : ℕ) → k < r → p k ≡ true) → p r ≡ false → ask_all n (λ i. ask (p i) (f i)) ≡ Err (f r)
   unfolding ask
   first-no f n r l h e = first-refused (λ i. ask (p i) (f i)) (f r) n r l (λ k m. ask_yes (p k) (f k) (h k m)) (rw e)
 

@@ -1,38 +1,40 @@
 -- Document 01, "Questions in order": the answer to a question, how a call asks several, and what it leaves in what it was lent.
+use Rattle.std.specs.Prelude.{⊤, Result, Ok, Err}
 use Rattle.lists.specs.Prelude.{ℕ, zero, suc, Bool, true, false, cond, List, eqb, length, replicate, Float}
 use Rattle.complex.specs.Arithmetic.{plus_zero}
 use Rattle.refusal.specs.declared.Refusal.{Refusal}
-use Rattle.refusal.specs.declared.Verdict.{Verdict}
-use Rattle.refusal.specs.declared.Verdict.TheVariants.{Pass, Refused}
-use Rattle.refusal.specs.declared.Measured.{Measured}
-use Rattle.refusal.specs.declared.Measured.TheVariants.{Of, Refused as Unmeasured}
-use Rattle.refusal.specs.declared.Decision.{Decision}
-use Rattle.refusal.specs.declared.Decision.TheVariants.{Yes, No, Refused as Undecided}
 
 infixr 30 ◌then◌
 -- a refusal by a check that has no places
 abbrev pub by : ℕ → Refusal
 by number = record { number = number; operand = 0; first = 0; second = 0; part = plus_zero }
 
+-- the answer to one question, or to several asked in order, and the answer yes
+abbrev pub Verdict : Type 0
+Verdict = Result ⊤ Refusal
+
+abbrev pub pass : Verdict
+pass = Ok tt
+
 -- "Each line gives the number returned when the answer is no."
 unfoldable pub ask : Bool → Refusal → Verdict
-ask true r = Pass
-ask false r = Refused r
+ask true r = pass
+ask false r = Err r
 
 -- two questions in order: the first refusal is the answer
-unfoldable pub ◌then◌ : Verdict → Verdict → Verdict
-Pass then later = later
-Refused r then later = Refused r
+abbrev pub ◌then◌ : Verdict → Verdict → Verdict
+Ok tt then later = later
+Err r then later = Err r
 
 -- the questions f 0, f 1, .., f (n - 1), in order
 unfoldable pub ask_all : ℕ → (ℕ → Verdict) → Verdict
-ask_all zero f = Pass
+ask_all zero f = pass
 ask_all (suc n) f = ask_all n f then f n
 
 -- the number of an answer; 0 where nothing is refused
 unfoldable pub number_of : Verdict → ℕ
-number_of Pass = 0
-number_of (Refused r) = r.number
+number_of (Ok tt) = 0
+number_of (Err r) = r.number
 
 -- +0 throughout
 abbrev pub zeroed : List Float → List Float
@@ -45,25 +47,25 @@ clears number = eqb number 10
 -- What a slice holds afterwards: what was made, where the call is accepted. "After 10 every output and scratch slice holds +0
 -- throughout; after any other number nothing lent has changed." There `cleared` is `zeroed`.
 unfoldable pub afterwards : (List Float → List Float) → Verdict → List Float → List Float → List Float
-afterwards cleared Pass made before = made
-afterwards cleared (Refused r) made before = cond (clears r.number) (cleared before) before
+afterwards cleared (Ok tt) made before = made
+afterwards cleared (Err r) made before = cond (clears r.number) (cleared before) before
 
 -- a number that is measured, once its questions are asked, and the refusal's number of such an answer: 0 where nothing is refused
-unfoldable pub measured : Verdict → Float → Measured
-measured Pass x = Of x
-measured (Refused r) x = Unmeasured r
+unfoldable pub measured : Verdict → Float → Result Float Refusal
+measured (Ok tt) x = Ok x
+measured (Err r) x = Err r
 
-unfoldable pub measured_number : Measured → ℕ
-measured_number (Of x) = 0
-measured_number (Unmeasured r) = r.number
+unfoldable pub measured_number : Result Float Refusal → ℕ
+measured_number (Ok x) = 0
+measured_number (Err r) = r.number
 
 -- a yes-or-no answer alike
-unfoldable pub decide : Verdict → Bool → Decision
-decide Pass true = Yes
-decide Pass false = No
-decide (Refused r) b = Undecided r
+unfoldable pub decide : Verdict → Bool → Result Bool Refusal
+decide (Ok tt) true = Ok true
+decide (Ok tt) false = Ok false
+decide (Err r) b = Err r
 
-unfoldable pub decision_number : Decision → ℕ
-decision_number Yes = 0
-decision_number No = 0
-decision_number (Undecided r) = r.number
+unfoldable pub decision_number : Result Bool Refusal → ℕ
+decision_number (Ok true) = 0
+decision_number (Ok false) = 0
+decision_number (Err r) = r.number

@@ -1,7 +1,7 @@
 // The checks of document 01, "Questions in order", and 16, 17, 18 and 22 of document 02, each a question over plain values. All are total: a number past the end
 // of a slice is a NaN to them.
-ghost use Rattle.std.specs.Prelude.{◌≡◌, ◌-◌, ◌+◌, ◌≤◌};
-ghost use Rattle.lists.specs.Prelude.{min, max, get_or, length, nan, lt};
+ghost use Rattle.std.specs.Prelude.{◌≡◌, ◌+◌, ◌≤◌};
+ghost use Rattle.lists.specs.Prelude.{max, get_or, length, nan, lt};
 ghost use Rattle.complex.specs.Arithmetic.{finite};
 ghost use Rattle.refusal.specs.Verdict.{by, ask, ask_all};
 ghost use Rattle.refusal.specs.Checks.{large_enough, not_empty, within_limits, within_block, within_program, fitting, finite_times, rising_times, finite_at, finite_entries, valid_tolerance, retarded_at, finite_work, time_below, orbital_below, finite_factors, real_within, well_formed, within_capacity, counter_holds, within_list, desk_known};
@@ -11,14 +11,11 @@ use crate::{Refusal, Verdict};
 use complex::Complex;
 
 // The answer to one question.
+#[tactic(auto, unfolding(crate::specs::Verdict::ask))]
 fn asked(yes: bool, refusal: Refusal) -> Verdict
     ensures { result ≡ ask yes refusal }
 {
-    if yes {
-        Verdict::Pass
-    } else {
-        Verdict::Refused(refusal)
-    }
+    if yes { Ok(()) } else { Err(refusal) }
 }
 
 // The answer to a question of a check that has no places.
@@ -28,50 +25,40 @@ pub fn numbered(yes: bool, number: u8) -> Verdict
     asked(yes, Refusal::by(number))
 }
 
-pub fn least(x: usize, y: usize) -> usize
-    ensures { result ≡ min x y }
+// How many numbers are finite before the first that is not.
+fn finite_before(xs: &[f64]) -> usize
+    ensures { Prefix (λ i. finite (get_or xs.now i nan)) (length xs.now) result }
 {
-    if x < y { x } else { y }
-}
-
-// x - y, and 0 where that is below 0.
-fn less(x: usize, y: usize) -> usize
-    ensures { result ≡ x - y }
-{
-    if x < y { 0 } else { x - y }
+    xs.iter()
+        .position(|x| !complex::is_finite(*x))
+        .unwrap_or(xs.len())
 }
 
 // How many of the count numbers from `start` on are finite before the first that is not.
 fn finite_prefix(xs: &[f64], start: usize, count: usize) -> usize
     ensures { (result + start ≤ max start (length xs.now)) × Prefix (λ i. finite (get_or xs.now (i + start) nan)) count result }
 {
-    let end = least(count, less(xs.len(), start));
-    let mut i = 0;
-    while i < end {
-        if !complex::is_finite(xs[i + start]) {
-            return i;
-        }
-        i += 1;
-    }
-    i
+    let from = start.min(xs.len());
+    let end = from + count.min(xs.len() - from);
+    finite_before(&xs[from..end])
 }
 
 // How many of the first steps rise before the first that does not.
 fn rising_prefix(times: &[f64], steps: usize) -> usize
     ensures { Prefix (λ i. lt (get_or times.now i nan) (get_or times.now (i + 1) nan)) steps result }
 {
-    let end = least(steps, less(times.len(), 1));
-    let mut i = 0;
-    while i < end {
+    let end = steps.min(times.len().saturating_sub(1));
+    // By index: std has no lemma on a search over `windows`.
+    for i in 0..end {
         if !(times[i] < times[i + 1]) {
             return i;
         }
-        i += 1;
     }
-    i
+    end
 }
 
 // 1, of a call on a grid: N is at least 2 and n at least 1.
+#[tactic(auto, unfolding(crate::specs::Checks::large_enough))]
 pub fn large_enough(points: usize, orbitals: usize) -> Verdict
     ensures { result ≡ large_enough points orbitals }
 {
@@ -79,6 +66,7 @@ pub fn large_enough(points: usize, orbitals: usize) -> Verdict
 }
 
 // 1, of a block: it has a row and a column.
+#[tactic(auto, unfolding(crate::specs::Checks::not_empty))]
 pub fn not_empty(rows: usize, columns: usize) -> Verdict
     ensures { result ≡ not_empty rows columns }
 {
@@ -86,6 +74,7 @@ pub fn not_empty(rows: usize, columns: usize) -> Verdict
 }
 
 // 2, of a call on a grid: N is at most 256 and n at most 16.
+#[tactic(auto, unfolding(crate::specs::Checks::within_limits))]
 pub fn within_limits(points: usize, orbitals: usize) -> Verdict
     ensures { result ≡ within_limits points orbitals }
 {
@@ -93,23 +82,23 @@ pub fn within_limits(points: usize, orbitals: usize) -> Verdict
 }
 
 // 2, of a block: it has at most 16 rows and columns.
+#[tactic(auto, unfolding(crate::specs::Checks::within_block))]
 pub fn within_block(rows: usize, columns: usize) -> Verdict
     ensures { result ≡ within_block rows columns }
 {
     numbered((rows <= 16) & (columns <= 16), 2)
 }
 
-// 2, of the program: N·n is at most 16, asked by a division, as the product may wrap.
+// 2, of the program: N·n is at most 16.
+#[tactic(auto, unfolding(crate::specs::Checks::within_program))]
 pub fn within_program(points: usize, orbitals: usize) -> Verdict
     ensures { result ≡ within_program points orbitals }
 {
-    if orbitals == 0 {
-        return numbered(true, 2);
-    }
-    numbered(points <= 16 / orbitals, 2)
+    numbered(points.saturating_mul(orbitals) <= 16, 2)
 }
 
 // 3: each lent slice has its exact length, or the shapes of blocks fit.
+#[tactic(auto, unfolding(crate::specs::Checks::fitting))]
 pub fn fitting(all: bool) -> Verdict
     ensures { result ≡ fitting all }
 {
@@ -117,6 +106,7 @@ pub fn fitting(all: bool) -> Verdict
 }
 
 // 4: the times are finite.
+#[tactic(auto, unfolding(crate::specs::Checks::finite_times))]
 pub fn finite_times(points: usize, times: &[f64]) -> Verdict
     ensures { result ≡ finite_times points times.now }
 {
@@ -124,22 +114,21 @@ pub fn finite_times(points: usize, times: &[f64]) -> Verdict
 }
 
 // 5: each time exceeds the one before; with the first index that does not.
+#[tactic(auto, unfolding(crate::specs::Checks::rising_times))]
 pub fn rising_times(points: usize, times: &[f64]) -> Verdict
     ensures { result ≡ rising_times points times.now }
 {
-    let steps = less(points, 1);
+    let steps = points.saturating_sub(1);
     let risen = rising_prefix(times, steps);
     let refusal = Refusal {
-        number: 5,
-        operand: 0,
         first: risen + 1,
-        second: 0,
-        part: 0.0,
+        ..Refusal::by(5)
     };
     asked(risen == steps, refusal)
 }
 
 // 7: the first count numbers of an operand are finite; with the operand and the first position that is not.
+#[tactic(auto, unfolding(crate::specs::Checks::finite_entries))]
 pub fn finite_entries(operand: usize, xs: &[f64], count: usize) -> Verdict
     ensures { result ≡ finite_entries operand xs.now count }
 {
@@ -152,16 +141,15 @@ pub fn entries_from(operand: usize, xs: &[f64], start: usize, count: usize) -> V
 {
     let passed = finite_prefix(xs, start, count);
     let refusal = Refusal {
-        number: 7,
         operand,
         first: passed + start,
-        second: 0,
-        part: 0.0,
+        ..Refusal::by(7)
     };
     asked(passed == count, refusal)
 }
 
 // 8: the tolerance is finite and above 0.
+#[tactic(auto, unfolding(crate::specs::Checks::valid_tolerance))]
 pub fn valid_tolerance(tolerance: f64) -> Verdict
     ensures { result ≡ valid_tolerance tolerance }
 {
@@ -169,6 +157,7 @@ pub fn valid_tolerance(tolerance: f64) -> Verdict
 }
 
 // 9, at one place: the residual does not exceed the tolerance; a NaN does not.
+#[tactic(auto, unfolding(crate::specs::Checks::retarded_at))]
 pub fn retarded_at(
     operand: usize,
     first: usize,
@@ -189,6 +178,7 @@ pub fn retarded_at(
 }
 
 // 10: every block made during the work is finite.
+#[tactic(auto, unfolding(crate::specs::Checks::finite_work))]
 pub fn finite_work(all: bool) -> Verdict
     ensures { result ≡ finite_work all }
 {
@@ -196,6 +186,7 @@ pub fn finite_work(all: bool) -> Verdict
 }
 
 // 11: the time index is below N.
+#[tactic(auto, unfolding(crate::specs::Checks::time_below))]
 pub fn time_below(index: usize, points: usize) -> Verdict
     ensures { result ≡ time_below index points }
 {
@@ -203,6 +194,7 @@ pub fn time_below(index: usize, points: usize) -> Verdict
 }
 
 // 12: the orbital is below n.
+#[tactic(auto, unfolding(crate::specs::Checks::orbital_below))]
 pub fn orbital_below(index: usize, orbitals: usize) -> Verdict
     ensures { result ≡ orbital_below index orbitals }
 {
@@ -210,6 +202,7 @@ pub fn orbital_below(index: usize, orbitals: usize) -> Verdict
 }
 
 // 13: the hopping and the charge factor are finite.
+#[tactic(auto, unfolding(crate::specs::Checks::finite_factors))]
 pub fn finite_factors(hopping: Complex, charge: f64) -> Verdict
     ensures { result ≡ finite_factors hopping charge }
 {
@@ -217,20 +210,19 @@ pub fn finite_factors(hopping: Complex, charge: f64) -> Verdict
 }
 
 // 14: the imaginary part's size does not exceed the tolerance; with that part. A NaN does not exceed.
+#[tactic(auto, unfolding(crate::specs::Checks::real_within))]
 pub fn real_within(tolerance: f64, part: f64) -> Verdict
     ensures { result ≡ real_within tolerance part }
 {
     let refusal = Refusal {
-        number: 14,
-        operand: 0,
-        first: 0,
-        second: 0,
         part,
+        ..Refusal::by(14)
     };
     asked(!(tolerance < complex::abs(part)), refusal)
 }
 
 // 15: the run file is well formed.
+#[tactic(auto, unfolding(crate::specs::Checks::well_formed))]
 pub fn well_formed(all: bool) -> Verdict
     ensures { result ≡ well_formed all }
 {
@@ -238,6 +230,7 @@ pub fn well_formed(all: bool) -> Verdict
 }
 
 // 16: the points are within the capacity.
+#[tactic(auto, unfolding(crate::specs::Checks::within_capacity))]
 pub fn within_capacity(points: usize, capacity: usize) -> Verdict
     ensures { result ≡ within_capacity points capacity }
 {
@@ -245,13 +238,15 @@ pub fn within_capacity(points: usize, capacity: usize) -> Verdict
 }
 
 // 17: the counter holds the count too.
+#[tactic(auto, unfolding(crate::specs::Checks::counter_holds))]
 pub fn counter_holds(counter: u64, count: u64) -> Verdict
     ensures { result ≡ counter_holds counter count }
 {
-    numbered(count <= 0xffff_ffff_ffff_ffff - counter, 17)
+    numbered(counter.checked_add(count).is_some(), 17)
 }
 
 // 18: the list has at most 1,024 queries.
+#[tactic(auto, unfolding(crate::specs::Checks::within_list))]
 pub fn within_list(queries: usize) -> Verdict
     ensures { result ≡ within_list queries }
 {
@@ -259,6 +254,7 @@ pub fn within_list(queries: usize) -> Verdict
 }
 
 // 22: there are eight desks.
+#[tactic(auto, unfolding(crate::specs::Checks::desk_known))]
 pub fn desk_known(desk: usize) -> Verdict
     ensures { result ≡ desk_known desk }
 {

@@ -2,7 +2,7 @@
 #![tactic(auto)]
 
 ghost use Rattle.std.specs.Prelude.{◌≡◌};
-ghost use Rattle.refusal.specs.Verdict.{by, ◌then◌};
+ghost use Rattle.refusal.specs.Verdict.{by};
 
 pub mod checks;
 
@@ -21,26 +21,7 @@ pub struct Refusal {
 }
 
 // The answer to one question, or to several asked in order.
-#[derive(Clone, Copy)]
-pub enum Verdict {
-    Pass,
-    Refused(Refusal),
-}
-
-// The answer of a call that measures one number.
-#[derive(Clone, Copy)]
-pub enum Measured {
-    Of(f64),
-    Refused(Refusal),
-}
-
-// The answer of a call that says yes or no.
-#[derive(Clone, Copy)]
-pub enum Decision {
-    Yes,
-    No,
-    Refused(Refusal),
-}
+pub type Verdict = Result<(), Refusal>;
 
 impl Refusal {
     // A refusal by a check that has no places.
@@ -53,18 +34,6 @@ impl Refusal {
             first: 0,
             second: 0,
             part: 0.0,
-        }
-    }
-}
-
-impl Verdict {
-    // The first refusal of the two, in the order asked.
-    pub fn then(self, later: Verdict) -> Verdict
-        ensures { result ≡ self then later }
-    {
-        match self {
-            Verdict::Pass => later,
-            Verdict::Refused(r) => Verdict::Refused(r),
         }
     }
 }

@@ -4,6 +4,7 @@
 
 mod blocks;
 mod bonds;
+mod calls;
 mod lent;
 mod made;
 mod observe;
@@ -14,33 +15,29 @@ mod weights;
 mod words;
 mod xorshift;
 
-use lent::{Head, Places};
+use calls::Function;
 use norm::norm;
+use show::Show;
 use std::io::{self, Read, Write};
-use words::Word;
+use words::word;
 
-// The call of a function, and whether the function is one.
 fn call(
     input: &mut impl Read,
     out: &mut impl Write,
-    head: Head,
-    numbers: &[f64],
-    at: &Places,
-) -> io::Result<bool> {
-    let function = head.function;
+    function: Function,
+    number: u64,
+    numbers: &mut [f64],
+) -> io::Result<()> {
+    let head = lent::begin(input, function, number);
+    let lent = lent::lend(input, head, numbers);
     match function {
-        0 | 1 | 3 | 4 | 5 | 12 | 36 | 37 | 42..=45 => solve::call(input, out, head, numbers, at)?,
-        2 | 6..=11 | 38..=41 => observe::call(input, out, head, numbers, at)?,
-        13 => show::number(out, norm(words::number(input), words::number(input)))?,
-        25 => weights::full(input, out, head, lent::part(numbers, at, 0))?,
-        26 | 31 | 32 | 33 | 34 | 35 => weights::call(input, out, head, lent::part(numbers, at, 0))?,
-        _ => {
-            let x = lent::part(numbers, at, 1);
-            let y = lent::part(numbers, at, 2);
-            return blocks::call(input, out, head, x, y);
-        }
+        Function::Solve(solve) => solve::call(input, out, head, solve, &lent),
+        Function::Observe(observe) => observe::call(input, out, head, observe, &lent),
+        Function::Norm => norm(word(input), word(input)).show(out),
+        Function::Blocks(blocks) => blocks::call(input, out, head, blocks, &lent),
+        Function::Weights(weights) => weights::call(input, out, head, weights, &lent),
+        Function::BondFlows => bonds::call(input, out, head, &lent),
     }
-    Ok(true)
 }
 
 // One call, and whether there was one. A function that is none ends the run.
@@ -50,21 +47,16 @@ fn run_call(
     index: u64,
     numbers: &mut [f64],
 ) -> io::Result<bool> {
-    let Word::Of(function) = words::next(input) else {
+    let Some(number) = words::next(input) else {
         return Ok(false);
     };
-    let head = lent::begin(input, function);
-    if head.function == 46 {
-        show::begin(out, index)?;
-        bonds::call(input, out, head, numbers)?;
-        show::text(out, b"\n")?;
-        return Ok(true);
+    write!(out, "{index}")?;
+    let function = Function::try_from(number % 64);
+    if let Ok(function) = function {
+        call(input, out, function, number, numbers)?;
     }
-    let at = lent::lend(input, head, numbers);
-    show::begin(out, index)?;
-    let known = call(input, out, head, numbers, &at)?;
-    show::text(out, b"\n")?;
-    Ok(known)
+    out.write_all(b"\n")?;
+    Ok(function.is_ok())
 }
 
 // A proved loop has to end, so the calls are counted up to a number that no run reaches.

@@ -1,55 +1,48 @@
-// Functions 25, 26 and 31 to 35: the grid of the head's points at the times.
-use crate::lent::{Head, output};
-use crate::show;
-use crate::words::whole;
+// The grid of the head's points at the times.
+use crate::calls::Weights;
+use crate::lent::{HELD, Head, Lent, output};
+use crate::show::{Show, numbers};
+use crate::words::word;
 use grid::{
     check_grid, check_times, checked_interval_weight, full_weight, full_weights, half_step,
     interval_weight,
 };
 use std::io::{self, Read, Write};
 
-fn print_full(
+// The full weights: the output's length.
+fn full(
+    input: &mut impl Read,
     out: &mut impl Write,
     times: &[f64],
     points: usize,
-    weights: &mut [f64],
 ) -> io::Result<()> {
-    show::verdict(out, full_weights(times, points, weights))?;
-    show::output(out, false, weights)
+    let mut room = [0.0; 1024];
+    let weights = output(input, &HELD, &mut room);
+    full_weights(times, points, weights).show(out)?;
+    numbers(out, weights)
 }
 
-// The full weights: the output's length.
-pub(crate) fn full(
-    input: &mut impl Read,
-    out: &mut impl Write,
-    head: Head,
-    times: &[f64],
-) -> io::Result<()> {
-    let mut weights = [0.0; 1024];
-    print_full(out, times, head.points, output(input, &mut weights))
-}
-
-// 26 and 35 have a point, a start and an end, 33 a later point and an earlier one, 34 a point.
+// An interval's weight has a point, a start and an end, a half step a later point and an earlier one, a full weight a point.
 pub(crate) fn call(
     input: &mut impl Read,
     out: &mut impl Write,
     head: Head,
-    times: &[f64],
+    weights: Weights,
+    lent: &Lent,
 ) -> io::Result<()> {
-    let function = head.function;
+    let times = lent.part(0);
     let points = head.points;
-    match function {
-        26 => show::measured(
+    match weights {
+        Weights::Full => full(input, out, times, points),
+        Weights::CheckedInterval => {
+            checked_interval_weight(times, points, word(input), word(input), word(input)).show(out)
+        }
+        Weights::CheckTimes => check_times(times, points).show(out),
+        Weights::CheckGrid => check_grid(times, points).show(out),
+        Weights::HalfStep => half_step(times, word(input), word(input)).show(out),
+        Weights::FullAt => full_weight(times, points, word(input)).show(out),
+        Weights::Interval => interval_weight(times, word(input), word(input), word(input)).show(
             out,
-            checked_interval_weight(times, points, whole(input), whole(input), whole(input)),
-        ),
-        31 => show::verdict(out, check_times(times, points)),
-        32 => show::verdict(out, check_grid(times, points)),
-        33 => show::number(out, half_step(times, whole(input), whole(input))),
-        34 => show::number(out, full_weight(times, points, whole(input))),
-        _ => show::number(
-            out,
-            interval_weight(times, whole(input), whole(input), whole(input)),
         ),
     }
 }

@@ -1,76 +1,63 @@
 // Words of the input: 16 hexadecimal digits each, and one byte after them, a space or a line feed.
-ghost use Rattle.std.specs.Prelude.{◌<◌};
+ghost use Rattle.std.specs.Prelude.{◌≤◌, length};
 
 use complex::bits::from_bits;
 use std::io::Read;
 
-#[derive(Clone, Copy)]
-pub(crate) enum Word {
-    Of(u64),
-    End,
+// What a word stands for: a whole number, or the number that has its bits.
+pub(crate) trait FromWord: Copy {
+    fn from_word(bits: u64) -> Self;
+}
+
+impl FromWord for u64 {
+    fn from_word(bits: u64) -> u64 {
+        bits
+    }
+}
+
+impl FromWord for usize {
+    fn from_word(bits: u64) -> usize {
+        bits as usize
+    }
+}
+
+impl FromWord for f64 {
+    fn from_word(bits: u64) -> f64 {
+        from_bits(bits)
+    }
 }
 
 // The value of a hexadecimal digit, and 0 for any other byte.
-fn digit(b: u8) -> u64
-    ensures { result < 16 }
-{
-    if b < b'0' {
-        return 0;
+fn digit(b: u8) -> u64 {
+    match b {
+        b'0'..=b'9' => u64::from(b - b'0'),
+        b'a'..=b'f' => u64::from(b - b'a') + 10,
+        _ => 0,
     }
-    if b <= b'9' {
-        return (b - b'0') as u64;
-    }
-    if b < b'a' {
-        return 0;
-    }
-    if b <= b'f' {
-        return (b - b'a') as u64 + 10;
-    }
-    0
 }
 
-fn value(bytes: &[u8; 17]) -> u64 {
-    let mut n = 0u64;
-    for i in 0..16 {
-        n = (n % 0x1000_0000_0000_0000) * 16 + digit(bytes[i]);
-    }
-    n
-}
-
-// The next word, where one is left. A read that fails ends the words, as the input's end does.
-pub(crate) fn next(input: &mut impl Read) -> Word {
+// The next word's bits, where one is left. A read that fails ends the words, as the input's end does.
+pub(crate) fn next(input: &mut impl Read) -> Option<u64> {
     let mut bytes = [0u8; 17];
-    match input.read_exact(&mut bytes) {
-        Ok(()) => Word::Of(value(&bytes)),
-        Err(_) => Word::End,
-    }
+    input.read_exact(&mut bytes).ok()?;
+    Some(bytes[..16].iter().fold(0, |n, b| n << 4 | digit(*b)))
 }
 
-// The next word as a whole number, and 0 where none is left.
-pub(crate) fn whole(input: &mut impl Read) -> usize {
-    let Word::Of(n) = next(input) else {
+// The next word, and that of no bits where none is left.
+pub(crate) fn word<T: FromWord>(input: &mut impl Read) -> T {
+    T::from_word(next(input).unwrap_or(0))
+}
+
+// Reads a slice, its length and then its words, to the start of a room, and answers its length: 0 where there is no room for it.
+pub(crate) fn slice<T: FromWord>(input: &mut impl Read, room: &mut [T]) -> usize
+    ensures { result ≤ length room.old }
+{
+    let count = word(input);
+    let Some(slice) = room.get_mut(..count) else {
         return 0;
     };
-    n as usize
-}
-
-// The number that has the next word's bits.
-pub(crate) fn number(input: &mut impl Read) -> f64 {
-    from_bits(whole(input) as u64)
-}
-
-// Reads a slice, its length and then the bits of its numbers, to where it begins, and answers where it ends: where it begins, if there
-// is no room for it.
-pub(crate) fn slice(input: &mut impl Read, numbers: &mut [f64], begin: usize) -> usize {
-    let count = whole(input);
-    if begin > numbers.len() {
-        return begin;
+    for x in slice {
+        *x = word(input);
     }
-    if count > numbers.len() - begin {
-        return begin;
-    }
-    for i in begin..begin + count {
-        numbers[i] = number(input);
-    }
-    begin + count
+    count
 }

@@ -1,7 +1,7 @@
 -- What it says of the components that the report's checks pass, and the mirror of a place. Assumes nothing.
+use Rattle.refusal.specs.Verdict.{pass}
 use Rattle.std.specs.Prelude.{◌≡◌, ◌≤◌}
 use Rattle.lists.specs.Prelude.{true, List, ℕ, length, Float}
-use Rattle.refusal.specs.declared.Verdict.TheVariants.{Pass}
 use Rattle.refusal.specs.Agreement.{then-pass}
 use Rattle.two_time.specs.Layout.{length_of}
 use Rattle.two_time.specs.Places.{Placed}
@@ -17,7 +17,7 @@ module _ (points orbitals : ℕ) (retarded advanced lesser greater : List Float)
     pub lesser-long : length lesser ≡ length_of points orbitals
     pub greater-long : length greater ≡ length_of points orbitals
 
-  pub passed : report_checks points orbitals retarded advanced lesser greater ≡ Pass → Passed
+  pub passed : report_checks points orbitals retarded advanced lesser greater ≡ pass → Passed
   passed p =
       let z = sizes-passed points orbitals true _ (then-pass _ _ p).0 in
       let r = long-first (length_of points orbitals) retarded _ z.long in

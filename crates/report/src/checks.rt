@@ -20,12 +20,14 @@ pub(crate) fn check_inputs(
     ensures { result ≡ report_checks points orbitals retarded.now advanced.now lesser.now greater.now }
 {
     let fits = all_fit(retarded, advanced, lesser, greater, points, orbitals);
-    let last = check_operand(2, lesser).then(check_operand(3, greater));
-    let entries = check_operand(0, retarded).then(check_operand(1, advanced).then(last));
-    check_sizes(points, orbitals, fits).then(entries)
+    check_sizes(points, orbitals, fits)?;
+    check_operand(0, retarded)?;
+    check_operand(1, advanced)?;
+    check_operand(2, lesser)?;
+    check_operand(3, greater)
 }
 
-// Check 10's question of one difference: whether x - y is finite, number by number.
+// Check 10's question of one difference: whether x - y is finite, number by number. The loop counts, as the check left `all` over a zip of both open.
 pub(crate) fn difference_finite(x: &[f64], y: &[f64]) -> bool
     requires { length x.now ≤ length y.now }
     ensures { result ≡ difference_finite (length x.now) x.now y.now }

@@ -43,6 +43,7 @@ fn entry(
 }
 
 // Entry (a, b) of x(t,u) - y(t,u).
+#[tactic(auto, unfolding(block::specs::Operations::subtracted))]
 fn difference(
     x: &[f64],
     y: &[f64],
@@ -130,16 +131,17 @@ pub(crate) fn deviation(
 }
 
 // Whether the identity speaks of the place (t, u).
+#[tactic(auto, unfolding(crate::specs::Residuals::counted))]
 pub(crate) fn counts(identity: Identity, t: usize, u: usize) -> bool
     ensures { result ≡ counted identity t u }
 {
     match identity {
         Identity::RetardedCausality => t < u,
         Identity::AdvancedCausality => u < t,
-        Identity::AdvancedAdjoint => true,
-        Identity::LesserAntihermiticity => true,
-        Identity::GreaterAntihermiticity => true,
-        Identity::Spectral => true,
         Identity::EqualTime => t == u,
+        Identity::AdvancedAdjoint
+        | Identity::LesserAntihermiticity
+        | Identity::GreaterAntihermiticity
+        | Identity::Spectral => true,
     }
 }

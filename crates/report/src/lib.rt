@@ -6,11 +6,11 @@ mod identities;
 mod residuals;
 
 ghost use Rattle.std.specs.Prelude.{◌≡◌};
-ghost use Rattle.report.specs.Calls.{consistency_report, is_consistent};
+ghost use Rattle.report.specs.Calls.{residuals_of, consistency_report, is_consistent};
 
 use checks::{check_inputs, difference_finite};
+use refusal::Refusal;
 use refusal::checks::{finite_work, valid_tolerance};
-use refusal::{Decision, Refusal, Verdict};
 use residuals::residuals;
 
 // The largest violation of each identity, by norm.
@@ -32,30 +32,33 @@ pub struct ConsistencyReport {
     pub equal_time: f64,
 }
 
-// The answer of consistency_report.
-#[derive(Clone, Copy)]
-pub enum Reported {
-    Of(ConsistencyReport),
-    Refused(Refusal),
-}
-
 impl ConsistencyReport {
+    // The seven residuals, in the order of the fields.
+    pub fn residuals(self) -> [f64; 7]
+        ensures { result ≡ residuals_of self }
+    {
+        [
+            self.retarded_causality,
+            self.advanced_causality,
+            self.advanced_adjoint,
+            self.lesser_antihermiticity,
+            self.greater_antihermiticity,
+            self.spectral_identity,
+            self.equal_time,
+        ]
+    }
+
     // Whether all residuals are at most the tolerance. A NaN is not.
-    pub fn is_consistent(self, tolerance: f64) -> Decision
+    #[tactic(auto, unfolding(crate::specs::Calls::is_consistent, refusal::specs::Verdict::decide))]
+    pub fn is_consistent(self, tolerance: f64) -> Result<bool, Refusal>
         ensures { result ≡ is_consistent self tolerance }
     {
-        let verdict = valid_tolerance(tolerance);
-        if let Verdict::Refused(r) = verdict {
-            return Decision::Refused(r);
-        }
-        let all = (self.retarded_causality <= tolerance)
-            & (self.advanced_causality <= tolerance)
-            & (self.advanced_adjoint <= tolerance)
-            & (self.lesser_antihermiticity <= tolerance)
-            & (self.greater_antihermiticity <= tolerance)
-            & (self.spectral_identity <= tolerance)
-            & (self.equal_time <= tolerance);
-        if all { Decision::Yes } else { Decision::No }
+        valid_tolerance(tolerance)?;
+        Ok(
+            self.residuals()
+                .iter()
+                .all(|residual| *residual <= tolerance),
+        )
     }
 }
 
@@ -68,17 +71,11 @@ pub fn consistency_report(
     greater: &[f64],
     points: usize,
     orbitals: usize,
-) -> Reported
+) -> Result<ConsistencyReport, Refusal>
     ensures { result ≡ consistency_report points orbitals retarded.now advanced.now lesser.now greater.now }
 {
-    let verdict = check_inputs(retarded, advanced, lesser, greater, points, orbitals);
-    if let Verdict::Refused(r) = verdict {
-        return Reported::Refused(r);
-    }
+    check_inputs(retarded, advanced, lesser, greater, points, orbitals)?;
     let causal = difference_finite(retarded, advanced);
-    let work = finite_work(causal & difference_finite(greater, lesser));
-    if let Verdict::Refused(r) = work {
-        return Reported::Refused(r);
-    }
-    Reported::Of(residuals(retarded, advanced, lesser, greater, points, orbitals))
+    finite_work(causal & difference_finite(greater, lesser))?;
+    Ok(residuals(retarded, advanced, lesser, greater, points, orbitals))
 }

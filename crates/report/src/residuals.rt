@@ -66,6 +66,7 @@ fn block_norm(
 }
 
 // The same where the place counts, and `largest` elsewhere.
+#[tactic(auto, unfolding(crate::specs::Residuals::residual_at))]
 fn place_norm(
     identity: Identity,
     retarded: &[f64],

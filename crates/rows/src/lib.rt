@@ -37,6 +37,7 @@ fn add_products(x: Complex, row: &[f64], sums: &mut [f64; 32])
     requires { (length row.now ≡ 32) × (length sums.old ≡ 32) }
     ensures { Mapped (λ c z. cadd z (cmul x (number_at row.now c))) 16 sums.old sums.new }
 {
+    // By index: the parts of a lane stand 16 apart.
     for c in 0..16 {
         let z = Complex::new(sums[c], sums[c + 16]);
         let sum = z.plus(x.times(number(row, c)));
@@ -65,6 +66,7 @@ fn scale_lanes(weight: f64, sums: &[f64; 32], lo: usize, hi: usize, totals: &mut
     requires { (lo ≤ hi) × (hi ≤ 16) × (length totals.old ≡ 32) }
     ensures { Mapped (only_from lo (λ c z. cadd z (cmul (number_at sums.now c) (real weight)))) hi totals.old totals.new }
 {
+    // By index: the parts of a lane stand 16 apart.
     for c in lo..hi {
         let p = Complex::new(sums[c], sums[c + 16]);
         let z = number(totals, c);
@@ -97,6 +99,7 @@ fn add_rows(left: &[f64], i: usize, orbitals: usize, rows: &[f64], term: Term, t
     ensures { totals.new ≡ with_lanes orbitals term.lanes (λ a c. stepped term c (packed_product orbitals left.now i rows.now a c) (lane_at totals.old a c)) totals.old }
 {
     let width = 2 * orbitals;
+    // By index: once `chunks_mut` is over a proof does not know what it wrote.
     for a in 0..orbitals {
         let at = 32 * a;
         let end = at + 32;
@@ -107,6 +110,7 @@ fn add_rows(left: &[f64], i: usize, orbitals: usize, rows: &[f64], term: Term, t
 }
 
 // Whether the ranges of a term follow each other, within sixteen lanes.
+#[tactic(auto, unfolding(crate::specs::Rows::is_ranged))]
 fn is_ranged(term: Term) -> bool
     ensures { result ≡ is_ranged term }
 {
@@ -116,14 +120,12 @@ fn is_ranged(term: Term) -> bool
 }
 
 // Whether a block from i on lies in the left factor; a sum of places in one of this length is a usize.
+#[tactic(auto, unfolding(crate::specs::Rows::has_block))]
 fn has_block(left: &[f64], i: usize, orbitals: usize) -> bool
     ensures { result ≡ has_block left.now i orbitals }
 {
     let len = left.len();
-    if !((orbitals <= 16) & ((len <= 33554432) & (i <= len))) {
-        return false;
-    }
-    i + 2 * (orbitals * orbitals) <= len
+    orbitals <= 16 && len <= 33554432 && i <= len && i + 2 * (orbitals * orbitals) <= len
 }
 
 // Adds a term to the totals of all rows, each lane by its weight, and answers whether it fits; one that does not changes nothing. `i` is where

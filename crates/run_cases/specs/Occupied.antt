@@ -1,14 +1,13 @@
 -- Closed cases of a dot that starts occupied (document 02, L5): P12's first two points with g0 = i and its third appended; an isolated dot that keeps its
 -- occupation; the lines of the block in their order; 10 by each product of the start; a counter with room for the empty form alone.
-use Rattle.std.specs.Prelude.{◌≡◌, ◌∷◌, ◌-◌}
+use Rattle.std.specs.Prelude.{Result, Ok, Err, ◌≡◌, ◌∷◌, ◌-◌}
 use Rattle.lists.specs.Prelude.{refl, List, [], map, ℕ, set, replicate, Float, nan}
 use Rattle.complex.specs.Arithmetic.{plus_zero, one}
+use Rattle.refusal.specs.declared.Refusal.{Refusal}
 use Rattle.refusal.specs.Checks.{not_empty, within_block}
 use Rattle.matrix.specs.declared.DenseMatrix.{DenseMatrix}
 use Rattle.two_time.specs.Example.{floats, bits}
 use Rattle.transient_run.specs.declared.Session.{Session}
-use Rattle.transient_run.specs.declared.Solved.{Solved}
-use Rattle.transient_run.specs.declared.Solved.TheVariants.{Accepted, Refused as NotSolved}
 use Rattle.transient_run.specs.Form.{Form}
 use Rattle.transient_run.specs.Form.Form.{empty, occupied}
 use Rattle.transient_run.specs.Calls.{Run, run_of, Outcome, transient_run, append_point}
@@ -19,9 +18,9 @@ abbrev block : ℕ → ℕ → List ℕ → Form
 block rows columns values = occupied (record { rows = rows; columns = columns; values = floats values })
 
 -- the count of an accepted call, or the number, operand and position of its refusal
-unfoldable told : Solved → List ℕ
-told (Accepted count) = 0 ∷ count ∷ []
-told (NotSolved r) = r.number ∷ r.operand ∷ r.first ∷ []
+unfoldable told : Result ℕ Refusal → List ℕ
+told (Ok count) = 0 ∷ count ∷ []
+told (Err r) = r.number ∷ r.operand ∷ r.first ∷ []
 
 abbrev seen : Outcome → List (List ℕ)
 seen o = told o.answer ∷ bits o.retarded ∷ bits o.lesser ∷ bits o.kernel ∷ bits o.lesser_advanced ∷ []

@@ -1,5 +1,5 @@
 -- Closed cases of the transient run: two orbitals (reference/expected.py, case d), the order of its questions, and 10 by X and by G^<.
-use Rattle.std.specs.Prelude.{◌≡◌, ◌∷◌, ◌++◌}
+use Rattle.std.specs.Prelude.{Ok, Err, ◌≡◌, ◌∷◌, ◌++◌}
 use Rattle.lists.specs.Prelude.{refl, List, [], map, ℕ, replicate, take, Float, nan, binary64}
 use Rattle.std.specs.Float.Ieee as Ieee
 use Rattle.complex.specs.Arithmetic.{plus_zero, one}
@@ -9,7 +9,6 @@ use Rattle.two_time.specs.Sums.{sums_numbers}
 use Rattle.two_time.specs.Computation.{computation}
 use Rattle.two_time.specs.Example as Example
 use Rattle.two_time.specs.Example.{floats, bits}
-use Rattle.transient_run.specs.declared.Solved.TheVariants.{Accepted, Refused as NotSolved}
 use Rattle.transient_run.specs.Form.Form.{empty}
 use Rattle.transient_run.specs.Calls.{Run, run_of, solved_number, transient_run}
 use Rattle.transient_run.specs.Computation.{run_computation}
@@ -65,7 +64,7 @@ one_point = refl
 -- 7 of Σ^<, operand 2, before 8 and 9; 8 before 9; 9 of the retarded self-energy, operand 1; Σ^< need not be retarded
 order : map (λ r. (transient_run r).answer) (run plus_zero none none (plus_zero ∷ nan ∷ replicate 6 one) ∷ run plus_zero (square 0 0x3ff0000000000000 0 0) none none
     ∷ run half none (square 0 0x3ff0000000000000 0 0) none ∷ run half none none (square 0 0x3ff0000000000000 0 0) ∷ [])
-    ≡ NotSolved (record { number = 7; operand = 2; first = 1; second = 0; part = plus_zero }) ∷ NotSolved (by 8)
-    ∷ NotSolved (record { number = 9; operand = 1; first = 0; second = 1; part = one }) ∷ Accepted 11 ∷ []
+    ≡ Err (record { number = 7; operand = 2; first = 1; second = 0; part = plus_zero }) ∷ Err (by 8)
+    ∷ Err (record { number = 9; operand = 1; first = 0; second = 1; part = one }) ∷ Ok 11 ∷ []
 unfolding run_computation
 order = refl

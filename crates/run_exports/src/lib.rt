@@ -15,10 +15,11 @@ ghost use Rattle.counters.specs.Counters.{session_of, solved_verdict, counted_ru
 use answers::write_answer;
 use counters::{session_of, write_booked};
 use refusal::Verdict;
-use refusal::checks::{desk_known, least};
+use refusal::checks::desk_known;
 use two_time::capacity::{Shape, check_capacity};
 
 // Checks 22, 1 and 2, then 3 of counters that are not eight.
+#[tactic(auto, unfolding(transient_run::specs::Form::form_sizes))]
 fn no_counters(desk: usize, points: usize, capacity: usize, orbitals: usize) -> Verdict
     ensures { result ≡ (desk_known desk then form_sizes empty capacity points orbitals false) }
 {
@@ -27,7 +28,8 @@ fn no_counters(desk: usize, points: usize, capacity: usize, orbitals: usize) -> 
         capacity,
         orbitals,
     };
-    desk_known(desk).then(check_capacity(shape, false))
+    desk_known(desk)?;
+    check_capacity(shape, false)
 }
 
 // The transient run over the points: G^R and G^< in the outputs, K and X in the scratch.
@@ -118,7 +120,7 @@ pub extern "C" fn leechgrommet_append_point(
 {
     if counters.len() != 8 {
         return write_answer(
-            no_counters(desk, least(points, 256) + 1, capacity, orbitals),
+            no_counters(desk, points.min(256) + 1, capacity, orbitals),
             places,
             part,
         );

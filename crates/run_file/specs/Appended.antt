@@ -1,8 +1,8 @@
 -- Text that is written over the start of a slice, one word after the other. Assumes nothing.
 use Rattle.std.specs.Prelude.{◌≡◌, ◌∷◌, ◌++◌, ◌+◌, ◌-◌, ◌≤◌, ◌<◌}
 use Rattle.lists.specs.Prelude.{refl, sym, ap, ◌∙◌, List, [], append_assoc, append-nil, ℕ, add_assoc, add-zero, zero-add}
-use Rattle.lists.specs.Prelude.{le_antisymm, add-one, arith, length, get_or, take, set, length-append, length-drop, take-suc, take_all}
-use Rattle.lists.specs.Filling.{over, over_none, over-one}
+use Rattle.lists.specs.Prelude.{le_antisymm, add-one, arith, length, get_or, take, set, put_mid, length-append, length-drop, take-suc, take_all}
+use Rattle.lists.specs.Filling.{over, over_none, over-one, over-part}
 
 -- a word was written at `at`, just past what stood before it, and ends at `ended`
 pub record Appended (before after : List ℕ) (at ended : ℕ) (word : List ℕ) : Type 0 where
@@ -39,6 +39,10 @@ one_byte a at b h =
           let room : length (over d xs) ≡ length a = ap length (sym e) in
           ap (λ (z : List ℕ). set z at b) e ∙ over-one d xs at b l (omega arith);
     }
+
+-- a word in one part
+pub one_word : (a word : List ℕ) (at count : ℕ) {ys : List ℕ} → ys ≡ word → length word ≡ count → Appended a (put_mid at count a ys) at (at + length word) word
+one_word a word at count s n = record { ends = refl; holds = λ d xs e l. rw (s, e) (over-part d xs word at count l n) }
 
 -- from the start of the slice
 pub whole-text : {a b text : List ℕ} {ended : ℕ} → Appended a b 0 ended text → (ended ≡ length text) × (b ≡ over a text)

@@ -28,12 +28,12 @@ order : number_of (file_checks (replicate 39 1)) ∷ answer (1 ∷ 1 ∷ replica
     ∷ answer (2 ∷ 1 ∷ 40 ∷ 2 ∷ 56 ∷ 8 ∷ 120 ∷ 8 ∷ 184 ∷ 8 ∷ []) 207 ∷ answer (2 ∷ 1 ∷ 40 ∷ 2 ∷ 57 ∷ 8 ∷ 121 ∷ 8 ∷ 185 ∷ 8 ∷ []) 209
     ∷ answer (2 ∷ 1 ∷ 40 ∷ 2 ∷ 56 ∷ 9 ∷ 120 ∷ 8 ∷ 184 ∷ 8 ∷ []) 208 ∷ answer (2 ∷ 1 ∷ 40 ∷ 2 ∷ 120 ∷ 8 ∷ 56 ∷ 8 ∷ 184 ∷ 8 ∷ []) 208 ∷ []
     ≡ 15 ∷ 1 ∷ 1 ∷ 2 ∷ 2 ∷ 15 ∷ 0 ∷ 15 ∷ 15 ∷ 15 ∷ 15 ∷ 15 ∷ []
-unfolding number_of file_checks table_fits little_endian well_formed large_enough within_program ask ◌then◌
+unfolding number_of file_checks table_fits little_endian well_formed large_enough within_program ask
 order = refl
 
 -- "refused 15"
 refused : printed [] ≡ 114 ∷ 101 ∷ 102 ∷ 117 ∷ 115 ∷ 101 ∷ 100 ∷ 32 ∷ 49 ∷ 53 ∷ 10 ∷ []
-unfolding printed file_text file_checks table_fits little_endian well_formed large_enough within_program ask ◌then◌ line decimal decimal_in
+unfolding printed file_text file_checks table_fits little_endian well_formed large_enough within_program ask line decimal decimal_in
 refused = refl
 
 -- little-endian: the bytes of 1.5 give 1.5; P12's file has the number 1 at byte 48

@@ -52,7 +52,7 @@ module _ (k : ℕ) (h : k < 16) where
   pub unit-above_0 : 0 < 16 ^ (16 - k) / 16
   unit-above_0 = rw unit-is (one-le-pow (15 - k) 16 (omega arith))
 
-  next_digit : (n : ℕ) → hexadecimal k (n / 16 ^ (16 - k)) ++ (hex_digit (n / (16 ^ (16 - k) / 16) % 16) ∷ []) ≡ hexadecimal (k + 1) (n / 16 ^ (16 - (k + 1)))
+  pub next_digit : (n : ℕ) → hexadecimal k (n / 16 ^ (16 - k)) ++ (hex_digit (n / (16 ^ (16 - k) / 16) % 16) ∷ []) ≡ hexadecimal (k + 1) (n / 16 ^ (16 - (k + 1)))
   unfolding hexadecimal
   next_digit n =
       let cut : n / 16 ^ (16 - k) ≡ n / 16 ^ (15 - k) / 16 = sym (div-div-eq-div-mul n (16 ^ (15 - k)) 16 ∙ ap (λ (x : ℕ). n / x) (sym power)) in

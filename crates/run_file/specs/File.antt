@@ -4,8 +4,7 @@
 use Rattle.std.specs.Prelude.{◌+◌, ◌*◌, ◌&&◌, ◌∷◌}
 use Rattle.lists.specs.Prelude.{ℕ, suc, Bool, List, [], leb, eqb, length, replicate}
 use Rattle.complex.specs.Arithmetic.{plus_zero}
-use Rattle.refusal.specs.declared.Verdict.{Verdict}
-use Rattle.refusal.specs.Verdict.{◌then◌}
+use Rattle.refusal.specs.Verdict.{pass, Verdict, ◌then◌}
 use Rattle.refusal.specs.Checks.{large_enough, within_program, well_formed}
 use Rattle.two_time.specs.declared.capacity.Shape.{Shape}
 use Rattle.two_time.specs.Layout.{length_of}

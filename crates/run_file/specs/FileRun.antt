@@ -1,20 +1,16 @@
 -- The run of a file, and the text of its answer. Assumes nothing.
-use Rattle.std.specs.Prelude.{◌≡◌, ◌∷◌, ◌+◌, ◌*◌, ◌≤◌}
+use Rattle.std.specs.Prelude.{Result, ◌≡◌, ◌∷◌, ◌+◌, ◌*◌, ◌≤◌}
 use Rattle.lists.specs.Prelude.{refl, sym, ap, ◌∙◌, List, ℕ, zero, suc, zero-mul, not-suc-le-zero, le_of_suc-le-suc, arith, length, take, replicate}
 use Rattle.lists.specs.Prelude.{length-replicate, length-append, le-leb, Float}
 use Rattle.lists.specs.Filling.{over}
 use Rattle.complex.specs.Arithmetic.{plus_zero}
 use Rattle.refusal.specs.declared.Refusal.{Refusal}
-use Rattle.refusal.specs.declared.Verdict.{Verdict}
-use Rattle.refusal.specs.declared.Verdict.TheVariants.{Pass, Refused}
-use Rattle.refusal.specs.Verdict.{by, ask}
+use Rattle.refusal.specs.Verdict.{pass, Verdict, by, ask}
 use Rattle.refusal.specs.Checks.{counter_holds, desk_known}
 use Rattle.refusal.specs.Agreement.{ask_yes}
 use Rattle.two_time.specs.Layout.{length_of}
 use Rattle.dyson.specs.Calls.{default_tolerance}
 use Rattle.transient_run.specs.declared.Session.{Session}
-use Rattle.transient_run.specs.declared.Solved.{Solved}
-use Rattle.transient_run.specs.declared.Solved.TheVariants.{Accepted, Refused as NotSolved}
 use Rattle.transient_run.specs.Products.{formed, formed-count, steps}
 use Rattle.transient_run.specs.Form.Form.{empty}
 use Rattle.transient_run.specs.Calls.{Run, counter_of, run_of, transient_run}
@@ -33,7 +29,7 @@ unfolding file_run
 decoded-run s o h i j k z = rw (o, h, i, j, k, z, s.points_named, s.orbitals_named)
 
 -- its desk is known and has room for its products, so it is never refused by 22 or 17
-pub file-counted : (bytes : List ℕ) → file_checks bytes ≡ Pass → let r = file_run bytes in (desk_known r.desk ≡ Pass) × (counter_holds (counter_of r.session r.desk) (formed 0 0 r.points) ≡ Pass)
+pub file-counted : (bytes : List ℕ) → file_checks bytes ≡ pass → let r = file_run bytes in (desk_known r.desk ≡ pass) × (counter_holds (counter_of r.session r.desk) (formed 0 0 r.points) ≡ pass)
 unfolding file_run counter_holds desk_known ask
 file-counted bytes h =
     let points = points_of bytes in
@@ -44,7 +40,7 @@ file-counted bytes h =
     (refl, ask_yes _ (by 17) (le-leb (0 + formed 0 0 points) 0xffff_ffff_ffff_ffff (let e = formed-count 0 points in let z = zero-mul (points * points) in omega arith)))
 
 -- what its answer prints
-pub answer-printed : (r : Run) {answer : Solved} {lesser : List Float} → answer ≡ (transient_run r).answer → lesser ≡ (transient_run r).lesser
+pub answer-printed : (r : Run) {answer : Result ℕ Refusal} {lesser : List Float} → answer ≡ (transient_run r).answer → lesser ≡ (transient_run r).lesser
     → solved_text r.points r.orbitals r.tolerance answer lesser ≡ run_answer r
 unfolding run_answer
 answer-printed r a l = rw (a, l)

@@ -1,12 +1,10 @@
 -- The questions of a run file as the code asks them, and the sizes of a file that passes checks 1 and 2. Assumes nothing.
-use Rattle.std.specs.Prelude.{◌≡◌, ◌&&◌, ◌∷◌, ◌+◌, ◌*◌, ◌≤◌}
+use Rattle.std.specs.Prelude.{Err, ◌≡◌, ◌&&◌, ◌∷◌, ◌+◌, ◌*◌, ◌≤◌}
 use Rattle.lists.specs.Prelude.{sym, ap, ◌∙◌, Bool, List, [], ℕ, min, le_refl, mul-le-mul, mul_assoc, mul_comm, min-eq_left, arith, leb}
 use Rattle.lists.specs.Prelude.{eqb, length, leb-true}
 use Rattle.lists.specs.Agreement.{both}
 use Rattle.refusal.specs.declared.Refusal.{Refusal}
-use Rattle.refusal.specs.declared.Verdict.{Verdict}
-use Rattle.refusal.specs.declared.Verdict.TheVariants.{Pass, Refused}
-use Rattle.refusal.specs.Verdict.{by, ◌then◌}
+use Rattle.refusal.specs.Verdict.{pass, Verdict, by, ◌then◌}
 use Rattle.refusal.specs.Checks.{large_enough, within_program, well_formed}
 use Rattle.refusal.specs.Agreement.{ask_pass, then-pass, then-after, then-refused}
 use Rattle.two_time.specs.Layout.{length_of}
@@ -48,7 +46,7 @@ doubled p o =
     let half : 2 * p * p * o * o ≡ 2 * p * (p * o * o) = ap (λ (x : ℕ). x * o) (mul_assoc (2 * p) p o) ∙ mul_assoc (2 * p) (p * o) o in
     half ∙ ap (λ (x : ℕ). 2 * p * x) (mul_comm (p * o) o) ∙ sym (mul_assoc (2 * p) o (p * o)) ∙ ap (λ (x : ℕ). x * (p * o)) (mul_assoc 2 p o) ∙ mul_assoc 2 (p * o) (p * o)
 
-pub sized : (points orbitals : ℕ) → large_enough points orbitals ≡ Pass → within_program points orbitals ≡ Pass → Sized points orbitals
+pub sized : (points orbitals : ℕ) → large_enough points orbitals ≡ pass → within_program points orbitals ≡ pass → Sized points orbitals
 unfolding large_enough within_program
 sized points orbitals h l =
     let large = both (leb 2 points) (leb 1 orbitals) (ask_pass _ (by 1) h) in
@@ -67,17 +65,17 @@ module _ (bytes : List ℕ) where
       → d ≡ within_program points orbitals → points ≡ points_of bytes → orbitals ≡ orbitals_of bytes → v ≡ head_checks bytes
   head_is e f g h i j k = rw (e, f, g, h, i, j, k)
 
-  pub head_refused : {v : Verdict} {r : Refusal} → v ≡ head_checks bytes → v ≡ Refused r → v ≡ file_checks bytes
+  pub head_refused : {v : Verdict} {r : Refusal} → v ≡ head_checks bytes → v ≡ Err r → v ≡ file_checks bytes
   unfolding file_checks
   head_refused {v} {r} e p = p ∙ sym (then-refused (head_checks bytes) _ r (sym e ∙ p))
 
-  pub head_passed : {v w : Verdict} → v ≡ head_checks bytes → v ≡ Pass → w ≡ well_formed (table_fits bytes 0 40 (counts bytes)) → w ≡ file_checks bytes
+  pub head_passed : {v w : Verdict} → v ≡ head_checks bytes → v ≡ pass → w ≡ well_formed (table_fits bytes 0 40 (counts bytes)) → w ≡ file_checks bytes
   unfolding file_checks
   head_passed e p q = q ∙ sym (then-after (head_checks bytes) _ (sym e ∙ p))
 
-  pub head_sized : head_checks bytes ≡ Pass → Sized (points_of bytes) (orbitals_of bytes)
+  pub head_sized : head_checks bytes ≡ pass → Sized (points_of bytes) (orbitals_of bytes)
   head_sized p = let limits = then-pass _ _ (then-pass _ _ p).1 in sized _ _ limits.0 limits.1
 
-  pub file-sized : file_checks bytes ≡ Pass → Sized (points_of bytes) (orbitals_of bytes)
+  pub file-sized : file_checks bytes ≡ pass → Sized (points_of bytes) (orbitals_of bytes)
   unfolding file_checks
   file-sized h = head_sized (then-pass (head_checks bytes) _ h).0

@@ -6,7 +6,7 @@ ghost use Rattle.run_file.specs.Bytes.{little_endian};
 fn byte(bytes: &[u8], i: usize) -> u64
     ensures { (result ≡ get_or bytes.now i 0) × (result < 256) }
 {
-    if i < bytes.len() { bytes[i] as u64 } else { 0 }
+    u64::from(bytes.get(i).copied().unwrap_or(0))
 }
 
 // The number of `count` bytes from place i on.

@@ -45,16 +45,15 @@ fn table_fits(bytes: &[u8], points: usize, orbitals: usize) -> bool
 }
 
 // 15 for the head, 1, 2, and 15 for the rest.
+#[tactic(auto, unfolding(crate::specs::File::file_checks))]
 pub(crate) fn check_file(bytes: &[u8]) -> Verdict
     ensures { result ≡ file_checks bytes.now }
 {
     let points = word(bytes, 0, 4) as usize;
     let orbitals = word(bytes, 4, 4) as usize;
-    let limits = large_enough(points, orbitals).then(within_program(points, orbitals));
-    let head = well_formed(40 <= bytes.len()).then(limits);
-    let Verdict::Pass = head else {
-        return head;
-    };
+    well_formed(40 <= bytes.len())?;
+    large_enough(points, orbitals)?;
+    within_program(points, orbitals)?;
     well_formed(table_fits(bytes, points, orbitals))
 }
 
@@ -63,6 +62,7 @@ pub(crate) fn numbers(bytes: &[u8], at: usize, out: &mut [f64])
     requires { (at ≤ 16384) × (length out.old ≤ 512) }
     ensures { out.new ≡ numbers at (length out.old) bytes.now }
 {
+    // By index: after an adapter of `iter_mut` a proof does not know the values.
     for k in 0..out.len() {
         out[k] = from_bits(word(bytes, at + 8 * k, 8));
     }

@@ -13,54 +13,53 @@ ghost use Rattle.dyson.specs.Calls.{default_tolerance};
 ghost use Rattle.two_time.specs.Layout.{length_of};
 ghost use Rattle.transient_run.specs.Form.Form.{empty};
 ghost use Rattle.transient_run.specs.Calls.{run_of};
-ghost use Rattle.run_file.specs.File.{shape_of, file_run};
-ghost use Rattle.run_file.specs.Program.{run_text, solved_text, run_answer, printed};
+ghost use Rattle.run_file.specs.File.{shape_of, file_checks, file_run};
+ghost use Rattle.run_file.specs.Program.{run_text, solved_text, run_answer, file_text, printed};
 ghost use Rattle.run_file.specs.Table.{FileSizes};
 ghost use Rattle.run_file.specs.Appended.{Appended};
 
 use bytes::word;
 use decoding::{body_length, check_file, numbers};
 use observables::particle_number;
-use refusal::Verdict;
-use text::{refused_line, run_line, time_line};
-use transient_run::{Session, Solved, transient_run};
+use refusal::{Refusal, Verdict};
+use text::Text;
+use transient_run::{Session, transient_run};
 use two_time::capacity::Shape;
 
 // The tolerance of solve and particle number.
 const TOLERANCE: f64 = 1e-12;
 
 // The text of an accepted run: its sizes, and a line for each time.
-fn run_text(points: usize, orbitals: usize, lesser: &[f64], out: &mut [u8]) -> usize
-    requires { (points ≤ 16) × (orbitals ≤ 16) × (512 ≤ length out.old) }
-    ensures { Appended out.old out.new 0 result (run_text points orbitals default_tolerance lesser.now) }
+fn run_text(points: usize, orbitals: usize, lesser: &[f64], text: &mut Text)
+    requires { (points ≤ 16) × (orbitals ≤ 16) × (text.old.length ≡ 0) }
+    ensures { Appended text.old.bytes text.new.bytes text.old.length text.new.length (run_text points orbitals default_tolerance lesser.now) }
 {
     let shape = Shape {
         points,
         capacity: points,
         orbitals,
     };
-    let mut at = run_line(out, points as u8, orbitals as u8);
+    text.run_line(points as u8, orbitals as u8);
     for t in 0..points {
-        let number = particle_number(lesser, shape, t, TOLERANCE);
-        at = time_line(out, at, t as u8, number);
+        text.time_line(t as u8, particle_number(lesser, shape, t, TOLERANCE));
     }
-    at
 }
 
 // The text of a run's answer, with the lesser function that it left.
+#[tactic(auto, unfolding(crate::specs::Program::solved_text))]
 fn answer_text(
     points: usize,
     orbitals: usize,
-    solved: Solved,
+    solved: Result<u64, Refusal>,
     lesser: &[f64],
-    out: &mut [u8],
-) -> usize
-    requires { (points ≤ 16) × (orbitals ≤ 16) × (512 ≤ length out.old) }
-    ensures { Appended out.old out.new 0 result (solved_text points orbitals default_tolerance solved lesser.now) }
+    text: &mut Text,
+)
+    requires { (points ≤ 16) × (orbitals ≤ 16) × (text.old.length ≡ 0) }
+    ensures { Appended text.old.bytes text.new.bytes text.old.length text.new.length (solved_text points orbitals default_tolerance solved lesser.now) }
 {
     match solved {
-        Solved::Accepted(_) => run_text(points, orbitals, lesser, out),
-        Solved::Refused(r) => refused_line(out, 0, r.number),
+        Ok(_) => run_text(points, orbitals, lesser, text),
+        Err(r) => text.refused_line(r.number),
     }
 }
 
@@ -77,10 +76,10 @@ fn solve(
     lesser: &mut [f64],
     kernel: &mut [f64],
     lesser_advanced: &mut [f64],
-    out: &mut [u8],
-) -> usize
-    requires { (points ≤ 16) × (orbitals ≤ 16) × (512 ≤ length out.old) }
-    ensures { Appended out.old out.new 0 result (run_answer (run_of empty session 0 (shape_of points orbitals) default_tolerance times.now free.now self_energy.now lesser_self_energy.now
+    text: &mut Text,
+)
+    requires { (points ≤ 16) × (orbitals ≤ 16) × (text.old.length ≡ 0) }
+    ensures { Appended text.old.bytes text.new.bytes text.old.length text.new.length (run_answer (run_of empty session 0 (shape_of points orbitals) default_tolerance times.now free.now self_energy.now lesser_self_energy.now
         retarded.old lesser.old kernel.old lesser_advanced.old)) }
 {
     let shape = Shape {
@@ -102,8 +101,7 @@ fn solve(
         kernel,
         lesser_advanced,
     );
-    let solved = booked.answer;
-    answer_text(points, orbitals, solved, lesser, out)
+    answer_text(points, orbitals, booked.answer, lesser, text)
 }
 
 // The text of a file's run, in a session whose eight counters are opened at 0, with slices for its four bodies: times, free, retarded self-energy, Σ^<.
@@ -115,12 +113,12 @@ fn decoded(
     free: &mut [f64],
     self_energy: &mut [f64],
     lesser_self_energy: &mut [f64],
-    out: &mut [u8],
-) -> usize
+    text: &mut Text,
+)
     requires file_sizes { FileSizes points orbitals bytes.now }
     requires times_len { (length times.old ≡ points) × (length free.old ≡ length_of points orbitals) × (length self_energy.old ≡ length_of points orbitals) × (length lesser_self_energy.old ≡ length_of points orbitals)
-        × (512 ≤ length out.old) }
-    ensures { Appended out.old out.new 0 result (run_answer (file_run bytes.now)) }
+        × (text.old.length ≡ 0) }
+    ensures { Appended text.old.bytes text.new.bytes text.old.length text.new.length (run_answer (file_run bytes.now)) }
 {
     let each = body_length(points, orbitals);
     let first = 40 + 8 * points;
@@ -144,14 +142,14 @@ fn decoded(
         &mut lesser[..each],
         &mut kernel[..each],
         &mut lesser_advanced[..each],
-        out,
+        text,
     )
 }
 
 // The text of a well-formed file.
-fn run(bytes: &[u8], points: usize, orbitals: usize, out: &mut [u8]) -> usize
-    requires { FileSizes points orbitals bytes.now × (512 ≤ length out.old) }
-    ensures { Appended out.old out.new 0 result (run_answer (file_run bytes.now)) }
+fn run(bytes: &[u8], points: usize, orbitals: usize, text: &mut Text)
+    requires { FileSizes points orbitals bytes.now × (text.old.length ≡ 0) }
+    ensures { Appended text.old.bytes text.new.bytes text.old.length text.new.length (run_answer (file_run bytes.now)) }
 {
     let each = body_length(points, orbitals);
     let mut times = [0.0; 16];
@@ -166,22 +164,37 @@ fn run(bytes: &[u8], points: usize, orbitals: usize, out: &mut [u8]) -> usize
         &mut free[..each],
         &mut self_energy[..each],
         &mut lesser_self_energy[..each],
-        out,
+        text,
     )
 }
 
-// Writes what the program prints for a file over the start of `out`, and answers how many bytes it is: every text fits.
-pub fn print(bytes: &[u8], out: &mut [u8; 512]) -> usize
-    ensures { (result ≡ length (printed bytes.now)) × (out.new ≡ over out.old (printed bytes.now)) }
+// The text of a file.
+#[tactic(auto, unfolding(crate::specs::Program::file_text))]
+fn answer(bytes: &[u8], text: &mut Text)
+    requires { text.old.length ≡ 0 }
+    ensures { Appended text.old.bytes text.new.bytes text.old.length text.new.length (file_text (file_checks bytes.now) (file_run bytes.now)) }
 {
-    let verdict = check_file(bytes);
-    match verdict {
-        Verdict::Pass => run(
+    match check_file(bytes) {
+        Ok(()) => run(
             bytes,
             word(bytes, 0, 4) as usize,
             word(bytes, 4, 4) as usize,
-            out,
+            text,
         ),
-        Verdict::Refused(r) => refused_line(out, 0, r.number),
+        Err(r) => text.refused_line(r.number),
     }
+}
+
+// Writes what the program prints for a file over the start of `out`, and answers how many bytes it is: every text fits.
+#[tactic(auto, unfolding(crate::specs::Program::printed))]
+pub fn print(bytes: &[u8], out: &mut [u8; 512]) -> usize
+    ensures { (result ≡ length (printed bytes.now)) × (out.new ≡ over out.old (printed bytes.now)) }
+{
+    let mut text = Text {
+        bytes: *out,
+        length: 0,
+    };
+    answer(bytes, &mut text);
+    *out = text.bytes;
+    text.length
 }

@@ -16,7 +16,6 @@ use complex::Complex;
 use groups::is_group;
 use groups::onto::group_onto;
 use lanes::write_group;
-use refusal::Verdict;
 use terms::Factor;
 use two_time::checks::{check_sizes, has_length, holds_block};
 use two_time::sums::{Summed, Sums};
@@ -147,10 +146,7 @@ pub fn first_factor(
 {
     let holds = holds_block(orbitals, g0);
     let retarded_fits = has_length(points, orbitals, retarded);
-    let verdict = check_sizes(points, orbitals, ((t < points) & holds) & retarded_fits);
-    let Verdict::Pass = verdict else {
-        return Summed::Unfit;
-    };
+    check_sizes(points, orbitals, ((t < points) & holds) & retarded_fits)?;
     let width = 2 * orbitals;
     let i = t * (points * (width * orbitals));
     let columns = Right {
@@ -184,14 +180,11 @@ pub fn group_from(
     let holds = holds_block(orbitals, filled);
     let retarded_fits = has_length(points, orbitals, retarded);
     let lesser_advanced_fits = has_length(points, orbitals, lesser_advanced);
-    let verdict = check_sizes(
+    check_sizes(
         points,
         orbitals,
         (there & holds) & (retarded_fits & lesser_advanced_fits),
-    );
-    let Verdict::Pass = verdict else {
-        return Summed::Unfit;
-    };
+    )?;
     let width = 2 * orbitals;
     let next = points * (width * orbitals);
     let columns = Right {

@@ -1,5 +1,5 @@
 -- Row t of G from K and the rows of G before it, as they stand in a list; what a loop over groups has written of it. Assumes nothing.
-use Rattle.std.specs.Prelude.{◌≡◌, ◌||◌, ◌∷◌, ◌++◌, ◌+◌, ◌-◌, ◌*◌, ◌≤◌, ◌<◌}
+use Rattle.std.specs.Prelude.{Ok, Err, ◌≡◌, ◌||◌, ◌∷◌, ◌++◌, ◌+◌, ◌-◌, ◌*◌, ◌≤◌, ◌<◌}
 use Rattle.lists.specs.Prelude.{refl, sym, ap, ap₂, ◌∙◌, inl, inr, cond, List, [], append_assoc, ℕ}
 use Rattle.lists.specs.Prelude.{mul-le-mul_right, mul_assoc, mul_left_comm, add-mul, zero-mul, add-zero, arith, digits_lt, ltb, eqb, length, get_or, take, drop, length-append, length-drop, length-replicate}
 use Rattle.lists.specs.Prelude.{get_or-append, length-take-le, get_or-take, get_or-drop, take_at, drop_at, drop-drop, ext_get_or, Float, nan, post_of, mid_of, put_mid}
@@ -12,8 +12,8 @@ use Rattle.complex.specs.Arithmetic.{plus_zero, czero, cfinite}
 use Rattle.complex.specs.Numbers.{pair}
 use Rattle.block.specs.Block.{lay_out}
 use Rattle.block.specs.Length.{length-block}
-use Rattle.two_time.specs.declared.sums.Summed.{Summed}
-use Rattle.two_time.specs.declared.sums.Summed.TheVariants.{Finite, Overflow, Unfit}
+use Rattle.two_time.specs.Summed.{Summed}
+use Rattle.two_time.specs.declared.sums.SumError.TheVariants.{Overflow, Unfit}
 use Rattle.two_time.specs.Layout.{place, read_as, length_of}
 use Rattle.two_time.specs.Sums.{dyson_terms}
 use Rattle.two_time.specs.WeightedSum.{weighted_sum, finite_sum}
@@ -157,9 +157,9 @@ module _ (points n : ℕ) (times free kernel xs : List Float) (t u places : ℕ)
 
   left-long : (answer : Summed) → length (summed_out answer (forward_numbers points n times free kernel xs t u places) part) ≡ places * w
   unfolding summed_out
-  left-long Finite = length-join places w _ (λ p hp. length-block n (forward_entry points n times free kernel xs t (u + p)))
-  left-long Overflow = length-replicate (length part) plus_zero ∙ part-long
-  left-long Unfit = part-long
+  left-long (Ok tt) = length-join places w _ (λ p hp. length-block n (forward_entry points n times free kernel xs t (u + p)))
+  left-long (Err Overflow) = length-replicate (length part) plus_zero ∙ part-long
+  left-long (Err Unfit) = part-long
 
   pub group_within : put_mid (row_at points n t) ((t + 1) * w) (forward_group points n times free kernel xs t u places).out ys ≡ put_mid (row_at points n t) ((t + 1) * w) xs ys
   unfolding forward_group
@@ -194,9 +194,9 @@ module _ (capacity n : ℕ) (times free kernel retarded : List Float) (t old poi
 
   row-left : (answer : Summed) → length (summed_out answer (join (t + 1) (forward_block capacity n times free kernel retarded t)) (mid_of (row_at capacity n t) width retarded)) ≡ width
   unfolding summed_out
-  row-left Finite = length-forward capacity n times free kernel retarded t (t + 1)
-  row-left Overflow = length-replicate (length (mid_of (row_at capacity n t) width retarded)) plus_zero ∙ mid_long
-  row-left Unfit = mid_long
+  row-left (Ok tt) = length-forward capacity n times free kernel retarded t (t + 1)
+  row-left (Err Overflow) = length-replicate (length (mid_of (row_at capacity n t) width retarded)) plus_zero ∙ mid_long
+  row-left (Err Unfit) = mid_long
 
   pub row_hidden : cleared_new capacity n old points (forward_row capacity n times free kernel retarded t).out ≡ cleared_new capacity n old points retarded
   unfolding forward_row

@@ -2,12 +2,12 @@
 ghost use Rattle.std.specs.Prelude.{◌≡◌, ◌∷◌, ◌+◌, ◌*◌, ◌<◌};
 ghost use Rattle.lists.specs.Prelude.{true, List, [], Float, put_mid};
 ghost use Rattle.lists.specs.Indexed.{all_below, join};
-ghost use Rattle.refusal.specs.declared.Verdict.TheVariants.{Pass};
+ghost use Rattle.refusal.specs.Verdict.{pass};
 ghost use Rattle.two_time.specs.Calls.{size_checks};
 ghost use Rattle.groups.specs.Forward.{forward_finite, forward_block};
 
-use crate::group_places;
 use groups::forward_group;
+use groups::runs::group_places;
 
 // Writes G(t, u) for u from 0 to t, and answers whether all that is made for it is finite; at the first group that is not the work ends. All that it
 // writes stands at these places.
@@ -20,18 +20,20 @@ pub(crate) fn blocks(
     t: usize,
     retarded: &mut [f64],
 ) -> bool
-    requires { (t < points) × (size_checks points orbitals true (free.now ∷ kernel.now ∷ retarded.old ∷ []) ≡ Pass) }
+    requires { (t < points) × (size_checks points orbitals true (free.now ∷ kernel.now ∷ retarded.old ∷ []) ≡ pass) }
     ensures { (result ≡ all_below (t + 1) (forward_finite points orbitals times.now free.now kernel.now retarded.old t))
         × (result ≡ true → retarded.new ≡ put_mid (t * (points * (2 * (orbitals * orbitals)))) ((t + 1) * (2 * (orbitals * orbitals))) retarded.old (join (t + 1) (forward_block points orbitals times.now free.now kernel.now retarded.old t)))
         × ((ys : List Float) → put_mid (t * (points * (2 * (orbitals * orbitals)))) ((t + 1) * (2 * (orbitals * orbitals))) retarded.new ys ≡ put_mid (t * (points * (2 * (orbitals * orbitals)))) ((t + 1) * (2 * (orbitals * orbitals))) retarded.old ys) }
 {
+    // The groups read what the groups before them wrote, so the slice is no closure's, as `by_groups` has it.
     let mut u = 0;
     while u < t + 1 {
         let places = group_places(t + 1 - u, orbitals);
-        let summed = forward_group(
+        if forward_group(
             times, free, kernel, points, orbitals, t, u, places, retarded,
-        );
-        if !summed.is_finite() {
+        )
+        .is_err()
+        {
             return false;
         }
         u += places;

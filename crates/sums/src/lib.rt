@@ -7,7 +7,7 @@ ghost use Rattle.std.specs.Prelude.{◌≡◌, ◌∷◌, ◌+◌, ◌*◌, ◌<
 ghost use Rattle.lists.specs.Prelude.{true, [], length};
 ghost use Rattle.lists.specs.Indexed.{all_below, join};
 ghost use Rattle.block.specs.Block.{lay_out};
-ghost use Rattle.refusal.specs.declared.Verdict.TheVariants.{Pass};
+ghost use Rattle.refusal.specs.Verdict.{pass};
 ghost use Rattle.two_time.specs.Layout.{length_of};
 ghost use Rattle.two_time.specs.Calls.{size_checks};
 ghost use Rattle.two_time.specs.New.{cleared_new};
@@ -17,23 +17,13 @@ ghost use Rattle.groups.specs.PlaceSums.{sum_at, block_finite};
 ghost use Rattle.sums.specs.Forward.{forward_row};
 
 use columns::group;
-use refusal::Verdict;
+use groups::runs::by_groups;
 use two_time::capacity::{Shape, clear_new, first_new};
 use two_time::checks::{check_sizes, has_length};
 use two_time::layout::clear;
-use two_time::sums::{Summed, Sums};
+use two_time::sums::{SumError, Summed, Sums};
 
-// How many places the next group has where `rest` are left: at most 16 columns.
-pub(crate) fn group_places(rest: usize, orbitals: usize) -> usize
-    requires { (0 < rest) × (0 < orbitals) × (orbitals ≤ 16) }
-    ensures { (0 < result) × (result ≤ rest) × (result ≤ 16) × (result * orbitals ≤ 16) }
-{
-    let most = 16 / orbitals;
-    if rest < most { rest } else { most }
-}
-
-// Writes the sums at `count` places of row t from column `from` on, and answers whether all that is made for them is finite; at the first group that
-// is not the work ends.
+// Writes the sums at `count` places of row t from column `from` on, and answers whether all that is made for them is finite.
 fn row(
     sums: Sums,
     times: &[f64],
@@ -46,38 +36,27 @@ fn row(
     count: usize,
     out: &mut [f64],
 ) -> bool
-    requires t_lt_capacity { (t < capacity) × (from + count ≤ capacity) × (size_checks capacity orbitals true (left.now ∷ right.now ∷ []) ≡ Pass) }
+    requires t_lt_capacity { (t < capacity) × (from + count ≤ capacity) × (size_checks capacity orbitals true (left.now ∷ right.now ∷ []) ≡ pass) }
     requires out_len { length out.old ≡ count * (2 * (orbitals * orbitals)) }
     ensures { (result ≡ all_below count (λ p. block_finite sums capacity orbitals times.now left.now right.now t (from + p)))
         × (result ≡ true → out.new ≡ join count (λ p. lay_out orbitals orbitals (sum_at sums capacity orbitals times.now left.now right.now t (from + p)))) }
 {
-    let width = 2 * (orbitals * orbitals);
-    let mut p = 0;
-    while p < count {
-        let places = group_places(count - p, orbitals);
-        let start = p * width;
-        let end = start + places * width;
-        let summed = group(
-            sums,
-            times,
-            left,
-            right,
-            capacity,
-            orbitals,
-            t,
-            from + p,
-            places,
-            &mut out[start..end],
-        );
-        if !summed.is_finite() {
-            return false;
-        }
-        p += places;
-    }
-    true
+    by_groups(
+        |u, places, part| {
+            group(
+                sums, times, left, right, capacity, orbitals, t, u, places, part,
+            )
+        },
+        orbitals,
+        from,
+        count,
+        out,
+    )
 }
 
 // Writes the sums at the new places, rows first, and answers whether all are finite. Whatever it writes stands at new places.
+// Crate `lesser` has this loop over rows of its own. A function over a closure would serve both, as `by_groups` does, but would say all that a row asks of
+// its caller, and where it leaves what: more than the loop.
 fn fill(
     sums: Sums,
     times: &[f64],
@@ -87,7 +66,7 @@ fn fill(
     old: usize,
     out: &mut [f64],
 ) -> bool
-    requires le_points { (old ≤ shape.points) × (shape.points ≤ shape.capacity) × (size_checks shape.capacity shape.orbitals true (left.now ∷ right.now ∷ []) ≡ Pass) }
+    requires le_points { (old ≤ shape.points) × (shape.points ≤ shape.capacity) × (size_checks shape.capacity shape.orbitals true (left.now ∷ right.now ∷ []) ≡ pass) }
     requires out_len { length out.old ≡ length_of shape.capacity shape.orbitals }
     ensures { (result ≡ new_finite sums shape.capacity shape.orbitals old shape.points times.now left.now right.now)
         × (result ≡ true → out.new ≡ new_numbers sums shape.capacity shape.orbitals old shape.points times.now left.now right.now out.old)
@@ -138,18 +117,15 @@ pub fn forward_row(
     let kernel_fits = has_length(points, orbitals, kernel);
     let retarded_fits = has_length(points, orbitals, retarded);
     let fits = (t < points) & (free_fits & (kernel_fits & retarded_fits));
-    let verdict = check_sizes(points, orbitals, fits);
-    let Verdict::Pass = verdict else {
-        return Summed::Unfit;
-    };
+    check_sizes(points, orbitals, fits)?;
     if forward::blocks(times, free, kernel, points, orbitals, t, retarded) {
-        return Summed::Finite;
+        return Ok(());
     }
     let width = 2 * (orbitals * orbitals);
     let start = t * (points * width);
     let end = start + (t + 1) * width;
     clear(&mut retarded[start..end]);
-    Summed::Overflow
+    Err(SumError::Overflow)
 }
 
 // The sums at the new places, in the slice lent for them, where slices are laid out for the capacity: those whose larger index is at least `old` and
@@ -171,19 +147,16 @@ pub fn new_sums(
     let left_fits = has_length(capacity, orbitals, left);
     let right_fits = has_length(capacity, orbitals, right);
     let out_fits = has_length(capacity, orbitals, out);
-    let verdict = check_sizes(
+    check_sizes(
         capacity,
         orbitals,
         there & (left_fits & (right_fits & out_fits)),
-    );
-    let Verdict::Pass = verdict else {
-        return Summed::Unfit;
-    };
+    )?;
     if fill(sums, times, left, right, shape, old, out) {
-        return Summed::Finite;
+        return Ok(());
     }
     clear_new(shape, old, out);
-    Summed::Overflow
+    Err(SumError::Overflow)
 }
 
 // The sums at all places of slices laid out for the points: +0 throughout where something is not finite, and as it was where nothing is summed.

@@ -3,9 +3,7 @@ use Rattle.std.specs.Prelude.{◌≡◌, ◌≤◌, ◌<◌}
 use Rattle.lists.specs.Prelude.{ap, ◌∙◌, true, List, ℕ, Float, lt-ltb, le-ltb}
 use Rattle.complex.specs.Arithmetic.{div}
 use Rattle.block.specs.Operations.{matrix_norm_max}
-use Rattle.refusal.specs.declared.Verdict.{Verdict}
-use Rattle.refusal.specs.declared.Verdict.TheVariants.{Pass}
-use Rattle.refusal.specs.Verdict.{◌then◌}
+use Rattle.refusal.specs.Verdict.{pass, Verdict, ◌then◌}
 use Rattle.refusal.specs.Checks.{valid_tolerance, retarded_at}
 use Rattle.refusal.specs.Agreement.{then-assoc, then-pass}
 use Rattle.two_time.specs.Layout.{TwoTime}
@@ -15,7 +13,7 @@ use Rattle.two_time.specs.SizeChecks.{SizesPassed, sizes-passed}
 
 module _ (points orbitals operand : ℕ) (tolerance : Float) (x : TwoTime) (t u : ℕ) where
   -- a place up to the diagonal
-  pub not-asked : u ≤ t → retarded_place points orbitals operand tolerance x t u ≡ Pass
+  pub not-asked : u ≤ t → retarded_place points orbitals operand tolerance x t u ≡ pass
   not-asked h = rw (le-ltb t u h)
 
   -- a place past it, with the scale and the block's largest norm at hand
@@ -30,8 +28,12 @@ module _ (points orbitals : ℕ) (operands : List (List Float)) (tolerance : Flo
   before_nine = size_checks points orbitals true operands then (operand_checks 0 operands then valid_tolerance tolerance)
 
   pub nine_last : (later : Verdict) → (before_nine then later) ≡ (size_checks points orbitals true operands then operand_checks 0 operands then valid_tolerance tolerance then later)
-  nine_last later = then-assoc _ _ _ ∙ ap (λ (v : Verdict). size_checks points orbitals true operands then v) (then-assoc _ _ _)
+  nine_last later =
+      let sizes = size_checks points orbitals true operands in
+      let entries = operand_checks 0 operands in
+      let last = valid_tolerance tolerance in
+      then-assoc sizes (entries then last) later ∙ ap (λ (v : Verdict). sizes then v) (then-assoc entries last later)
 
   -- what check 9 needs of their pass
-  pub nine_sizes : before_nine ≡ Pass → SizesPassed points orbitals true operands
+  pub nine_sizes : before_nine ≡ pass → SizesPassed points orbitals true operands
   nine_sizes h = sizes-passed points orbitals true operands (then-pass _ _ h).0

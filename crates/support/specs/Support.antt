@@ -5,9 +5,7 @@ use Rattle.lists.specs.Prelude.{ℕ, true, cond, List, [], ltb, Float, binary64,
 use Rattle.complex.specs.Arithmetic.{div, larger}
 use Rattle.complex.specs.Sum.{largest_in}
 use Rattle.block.specs.Operations.{matrix_norm_max}
-use Rattle.refusal.specs.declared.Verdict.{Verdict}
-use Rattle.refusal.specs.declared.Verdict.TheVariants.{Pass}
-use Rattle.refusal.specs.Verdict.{◌then◌, ask_all}
+use Rattle.refusal.specs.Verdict.{pass, Verdict, ◌then◌, ask_all}
 use Rattle.refusal.specs.Checks.{valid_tolerance, retarded_at}
 use Rattle.two_time.specs.Layout.{TwoTime, read_as}
 use Rattle.two_time.specs.Calls.{size_checks, operand_checks, capacity_checks}
@@ -20,7 +18,7 @@ residual points orbitals x t u = div (matrix_norm_max orbitals orbitals (x t u))
 
 -- check 9 of one operand at one place, and in all
 abbrev pub retarded_place : ℕ → ℕ → ℕ → Float → TwoTime → ℕ → ℕ → Verdict
-retarded_place points orbitals operand tolerance x t u = cond (ltb t u) (retarded_at operand t u tolerance (residual points orbitals x t u)) Pass
+retarded_place points orbitals operand tolerance x t u = cond (ltb t u) (retarded_at operand t u tolerance (residual points orbitals x t u)) pass
 
 unfoldable pub retarded : ℕ → ℕ → ℕ → Float → TwoTime → Verdict
 retarded points orbitals operand tolerance x = ask_all points (λ t. ask_all points (retarded_place points orbitals operand tolerance x t))

@@ -22,12 +22,9 @@ use two_time::checks::{check_operand, check_sizes, has_length};
 pub fn check_retarded_support(xs: &[f64], points: usize, orbitals: usize, tolerance: f64) -> Verdict
     ensures { result ≡ check_support points orbitals xs.now tolerance }
 {
-    let fits = has_length(points, orbitals, xs);
-    let finite = check_operand(0, xs).then(valid_tolerance(tolerance));
-    let verdict = check_sizes(points, orbitals, fits).then(finite);
-    let Verdict::Pass = verdict else {
-        return verdict;
-    };
+    check_sizes(points, orbitals, has_length(points, orbitals, xs))?;
+    check_operand(0, xs)?;
+    valid_tolerance(tolerance)?;
     let shape = Shape {
         points,
         capacity: points,
@@ -46,15 +43,12 @@ pub fn check_retarded_inputs(
 ) -> Verdict
     ensures { result ≡ check_inputs shape.capacity shape.points shape.orbitals free.now self_energy.now tolerance }
 {
-    let free_fits = has_length(shape.capacity, shape.orbitals, free);
-    let self_energy_fits = has_length(shape.capacity, shape.orbitals, self_energy);
-    let fits = free_fits & self_energy_fits;
-    let verdict = check_capacity(shape, fits).then(valid_tolerance(tolerance));
-    let Verdict::Pass = verdict else {
-        return verdict;
-    };
-    let first = retarded(0, free, shape, tolerance);
-    first.then(retarded(1, self_energy, shape, tolerance))
+    let fits = has_length(shape.capacity, shape.orbitals, free)
+        & has_length(shape.capacity, shape.orbitals, self_energy);
+    check_capacity(shape, fits)?;
+    valid_tolerance(tolerance)?;
+    retarded(0, free, shape, tolerance)?;
+    retarded(1, self_energy, shape, tolerance)
 }
 
 // Check 9 of the operand of that number: the first place t < u, rows first, whose residual exceeds the tolerance.
@@ -62,56 +56,45 @@ fn retarded(operand: usize, xs: &[f64], shape: Shape, tolerance: f64) -> Verdict
     requires { (shape.capacity ≤ 256) × (shape.orbitals ≤ 16) × (shape.points ≤ shape.capacity) × (length_of shape.capacity shape.orbitals ≤ length xs.now) }
     ensures { result ≡ retarded shape.points shape.orbitals operand tolerance (read_as shape.capacity shape.orbitals xs.now) }
 {
-    let points = shape.points;
-    let capacity = shape.capacity;
-    let orbitals = shape.orbitals;
-    let scale = scale_of(xs, points, capacity, orbitals);
-    for t in 0..points {
-        let row = row_within(operand, xs, points, capacity, orbitals, tolerance, scale, t);
-        let Verdict::Pass = row else {
-            return row;
-        };
+    let scale = scale_of(xs, shape);
+    for t in 0..shape.points {
+        row_within(operand, xs, shape, tolerance, scale, t)?;
     }
-    Verdict::Pass
+    Ok(())
 }
 
 // Check 9 in row t.
 fn row_within(
     operand: usize,
     xs: &[f64],
-    points: usize,
-    capacity: usize,
-    orbitals: usize,
+    shape: Shape,
     tolerance: f64,
     scale: f64,
     t: usize,
 ) -> Verdict
-    requires capacity_bound { (capacity ≤ 256) × (orbitals ≤ 16) × (points ≤ capacity) × (length_of capacity orbitals ≤ length xs.now) }
-    requires t_lt_points { (t < points) × (scale ≡ scale_of points orbitals (read_as capacity orbitals xs.now)) }
-    ensures { result ≡ ask_all points (retarded_place points orbitals operand tolerance (read_as capacity orbitals xs.now) t) }
+    requires capacity_bound { (shape.capacity ≤ 256) × (shape.orbitals ≤ 16) × (shape.points ≤ shape.capacity) × (length_of shape.capacity shape.orbitals ≤ length xs.now) }
+    requires t_lt_points { (t < shape.points) × (scale ≡ scale_of shape.points shape.orbitals (read_as shape.capacity shape.orbitals xs.now)) }
+    ensures { result ≡ ask_all shape.points (retarded_place shape.points shape.orbitals operand tolerance (read_as shape.capacity shape.orbitals xs.now) t) }
 {
-    let count = orbitals * orbitals;
-    for u in t + 1..points {
-        let first = (t * capacity + u) * count;
+    let count = shape.orbitals * shape.orbitals;
+    for u in t + 1..shape.points {
+        let first = (t * shape.capacity + u) * count;
         let residual = largest_from(xs, first, count, 0.0) / scale;
-        let place = retarded_at(operand, t, u, tolerance, residual);
-        let Verdict::Pass = place else {
-            return place;
-        };
+        retarded_at(operand, t, u, tolerance, residual)?;
     }
-    Verdict::Pass
+    Ok(())
 }
 
 // The largest norm of all entries of the points, at least 2^-1022.
-fn scale_of(xs: &[f64], points: usize, capacity: usize, orbitals: usize) -> f64
-    requires { (capacity ≤ 256) × (orbitals ≤ 16) × (points ≤ capacity) × (length_of capacity orbitals ≤ length xs.now) }
-    ensures { result ≡ scale_of points orbitals (read_as capacity orbitals xs.now) }
+fn scale_of(xs: &[f64], shape: Shape) -> f64
+    requires { (shape.capacity ≤ 256) × (shape.orbitals ≤ 16) × (shape.points ≤ shape.capacity) × (length_of shape.capacity shape.orbitals ≤ length xs.now) }
+    ensures { result ≡ scale_of shape.points shape.orbitals (read_as shape.capacity shape.orbitals xs.now) }
 {
-    let block = orbitals * orbitals;
-    let width = capacity * block;
-    let count = points * block;
+    let block = shape.orbitals * shape.orbitals;
+    let width = shape.capacity * block;
+    let count = shape.points * block;
     let mut largest = 0.0;
-    for t in 0..points {
+    for t in 0..shape.points {
         largest = largest_from(xs, t * width, count, largest);
     }
     max(largest, f64::from_bits(0x0010_0000_0000_0000))
@@ -123,6 +106,7 @@ fn largest_from(xs: &[f64], first: usize, count: usize, largest: f64) -> f64
     ensures { result ≡ largest_from largest count (λ k. cnorm (entry_at xs.now (2 * (first + k)))) }
 {
     let mut most = largest;
+    // By index: std has no lemma on what `chunks_exact` gives.
     for k in 0..count {
         let i = 2 * (first + k);
         most = larger_norm_in_loop(most, xs[i], xs[i + 1]);

@@ -3,7 +3,7 @@
 #![tactic(auto)]
 
 ghost use Rattle.std.specs.Prelude.{◌≡◌, ◌+◌, ◌-◌, ◌<◌, ◌≤◌};
-ghost use Rattle.lists.specs.Prelude.{cond, min, max, ltb};
+ghost use Rattle.lists.specs.Prelude.{cond, ltb};
 ghost use Rattle.complex.specs.Arithmetic.{plus_zero};
 ghost use Rattle.two_time.specs.Sums.{interval_count};
 ghost use Rattle.terms.specs.Kinds.{factor_of, right_number, lanes_below, lanes_above, lanes_here, common_weight, end_weight, first_of, last_of};
@@ -24,6 +24,7 @@ pub enum Factor {
 
 impl Factor {
     // The right factor's number, of the one that is stored.
+    #[tactic(auto, unfolding(crate::specs::Kinds::right_number))]
     pub fn number(self, z: Complex) -> Complex
         ensures { result ≡ right_number self z }
     {
@@ -35,8 +36,8 @@ impl Factor {
 }
 
 // How a term goes to the `lanes` lanes of a group: to those below `below` and those from `above` on by the common weight, to those from
-// `before` to before `after` by the weight at the end of their interval, to no other.
-#[derive(Clone, Copy)]
+// `before` to before `after` by the weight at the end of their interval, to no other. The default goes to none.
+#[derive(Clone, Copy, Default)]
 pub struct Term {
     pub common: f64,
     pub ends: f64,
@@ -55,64 +56,52 @@ pub struct Span {
 }
 
 // The right factor of a kind of sums.
+#[tactic(auto, unfolding(crate::specs::Kinds::factor_of))]
 pub fn factor_of(sums: Sums) -> Factor
     ensures { result ≡ factor_of sums }
 {
     match sums {
         Sums::LesserAdvanced => Factor::Adjoint,
-        Sums::Full => Factor::Stored,
-        Sums::Causal => Factor::Stored,
-        Sums::Lesser => Factor::Stored,
-        Sums::AntiCausal => Factor::Stored,
+        Sums::Full | Sums::Causal | Sums::Lesser | Sums::AntiCausal => Factor::Stored,
     }
 }
 
 // Of the places before s, how many have s; and the first place after s that has it.
+#[tactic(auto, unfolding(crate::specs::Kinds::lanes_below))]
 fn below_end(sums: Sums, before: usize) -> usize
     ensures { result ≡ cond (lanes_below sums) before 0 }
 {
     match sums {
-        Sums::Full => before,
-        Sums::Causal => before,
-        Sums::LesserAdvanced => 0,
-        Sums::Lesser => before,
-        Sums::AntiCausal => 0,
+        Sums::Full | Sums::Causal | Sums::Lesser => before,
+        Sums::LesserAdvanced | Sums::AntiCausal => 0,
     }
 }
 
+#[tactic(auto, unfolding(crate::specs::Kinds::lanes_above))]
 fn above_start(sums: Sums, after: usize, places: usize) -> usize
     ensures { result ≡ cond (lanes_above sums) after places }
 {
     match sums {
-        Sums::Full => after,
         Sums::Causal => places,
-        Sums::LesserAdvanced => after,
-        Sums::Lesser => after,
-        Sums::AntiCausal => after,
+        Sums::Full | Sums::LesserAdvanced | Sums::Lesser | Sums::AntiCausal => after,
     }
 }
 
 // Whether the sum at place s has s, which row t has: not where the interval there is s alone.
+#[tactic(auto, unfolding(crate::specs::Kinds::lanes_here))]
 fn lanes_here(sums: Sums, t: usize, s: usize) -> bool
     ensures { result ≡ lanes_here sums t s }
 {
     match sums {
-        Sums::Full => true,
+        Sums::Full | Sums::Lesser => true,
         Sums::Causal => s < t,
         Sums::LesserAdvanced => 0 < s,
-        Sums::Lesser => true,
         Sums::AntiCausal => t < s,
     }
 }
 
-// Where the lanes of place s end.
-fn here_end(here: bool, before: usize, after: usize) -> usize
-    ensures { result ≡ cond here after before }
-{
-    if here { after } else { before }
-}
-
 // The weight of s at every place but s, and at place s.
+#[tactic(auto, unfolding(crate::specs::Kinds::common_weight))]
 fn common_weight(sums: Sums, times: &[f64], points: usize, t: usize, s: usize) -> f64
     requires { (s < points) × (points ≤ 256) }
     ensures { result ≡ common_weight sums times.now points t s }
@@ -120,13 +109,13 @@ fn common_weight(sums: Sums, times: &[f64], points: usize, t: usize, s: usize) -
     let next = s + 1;
     match sums {
         Sums::Full => full_weight(times, points, s),
-        Sums::Causal => interval_weight(times, s, 0, t),
+        Sums::Causal | Sums::Lesser => interval_weight(times, s, 0, t),
         Sums::LesserAdvanced => interval_weight(times, s, 0, next),
-        Sums::Lesser => interval_weight(times, s, 0, t),
         Sums::AntiCausal => interval_weight(times, s, t, next),
     }
 }
 
+#[tactic(auto, unfolding(crate::specs::Kinds::end_weight))]
 fn end_weight(sums: Sums, times: &[f64], points: usize, t: usize, s: usize) -> f64
     ensures { result ≡ end_weight sums times.now points t s }
 {
@@ -152,22 +141,14 @@ fn end_weight_of(
     ensures { result ≡ cond (ltb before after) (end_weight sums times.now points t s) plus_zero }
 {
     if before < after {
-        return end_weight(sums, times, points, t, s);
+        end_weight(sums, times, points, t, s)
+    } else {
+        0.0
     }
-    0.0
-}
-
-// How many of the places from u on lie before s.
-fn places_before(s: usize, u: usize, places: usize) -> usize
-    ensures { result ≡ min (s - u) places }
-{
-    if s < u {
-        return 0;
-    }
-    if s - u < places { s - u } else { places }
 }
 
 // How term s of row t goes to the lanes of `places` places from u on; to none where s is no point or a size is past its limit.
+#[tactic(auto, unfolding(crate::specs::Calls::term_of))]
 pub fn term_of(
     sums: Sums,
     times: &[f64],
@@ -181,42 +162,29 @@ pub fn term_of(
     ensures { result ≡ term_of sums times.now points orbitals t s u places }
 {
     if !(((s < points) & (points <= 256)) & ((orbitals <= 16) & (places <= 16))) {
-        return Term {
-            common: 0.0,
-            ends: 0.0,
-            below: 0,
-            before: 0,
-            after: 0,
-            above: 0,
-            lanes: 0,
-        };
+        return Term::default();
     }
-    let before = places_before(s, u, places);
-    let after = places_before(s + 1, u, places);
-    let common = common_weight(sums, times, points, t, s);
-    let here = lanes_here(sums, t, s);
-    let ended = here_end(here, before, after);
-    let ends = end_weight_of(sums, times, points, t, s, before, ended);
-    let below = below_end(sums, before);
-    let above = above_start(sums, after, places);
+    // How many of the places lie before s, and before s + 1.
+    let before = s.saturating_sub(u).min(places);
+    let after = (s + 1).saturating_sub(u).min(places);
+    let ended = if lanes_here(sums, t, s) {
+        after
+    } else {
+        before
+    };
     Term {
-        common,
-        ends,
-        below: below * orbitals,
+        common: common_weight(sums, times, points, t, s),
+        ends: end_weight_of(sums, times, points, t, s, before, ended),
+        below: below_end(sums, before) * orbitals,
         before: before * orbitals,
         after: ended * orbitals,
-        above: above * orbitals,
+        above: above_start(sums, after, places) * orbitals,
         lanes: places * orbitals,
     }
 }
 
-fn most(x: usize, y: usize) -> usize
-    ensures { result ≡ max x y }
-{
-    if x < y { y } else { x }
-}
-
 // How many terms the sum over the interval from 0 to `end` has.
+#[tactic(auto, unfolding(two_time::specs::Sums::interval_count))]
 fn interval_count(end: usize) -> usize
     requires { end < 256 }
     ensures { result ≡ interval_count 0 end }
@@ -225,18 +193,18 @@ fn interval_count(end: usize) -> usize
 }
 
 // The first s of the places from u on, and the s after their last.
+#[tactic(auto, unfolding(crate::specs::Kinds::first_of))]
 fn first_of(sums: Sums, t: usize, u: usize) -> usize
     ensures { result ≡ first_of sums t u }
 {
     match sums {
-        Sums::Full => 0,
+        Sums::Full | Sums::LesserAdvanced | Sums::Lesser => 0,
         Sums::Causal => u,
-        Sums::LesserAdvanced => 0,
-        Sums::Lesser => 0,
         Sums::AntiCausal => t,
     }
 }
 
+#[tactic(auto, unfolding(crate::specs::Kinds::last_of))]
 fn last_of(sums: Sums, points: usize, t: usize, u: usize, places: usize) -> usize
     requires { (t < points) × (points ≤ 256) × (u + places ≤ points) }
     ensures { result ≡ last_of sums points t u places }
@@ -246,10 +214,10 @@ fn last_of(sums: Sums, points: usize, t: usize, u: usize, places: usize) -> usiz
     let places_end = u + places;
     match sums {
         Sums::Full => points,
-        Sums::Causal => most(u, row_end),
+        Sums::Causal => u.max(row_end),
         Sums::LesserAdvanced => places_end,
         Sums::Lesser => row_count,
-        Sums::AntiCausal => most(t, places_end),
+        Sums::AntiCausal => t.max(places_end),
     }
 }
 
@@ -257,13 +225,11 @@ fn last_of(sums: Sums, points: usize, t: usize, u: usize, places: usize) -> usiz
 fn span_fits(points: usize, t: usize, u: usize, places: usize) -> bool
     ensures { result ≡ span_fits points t u places }
 {
-    if points < u {
-        return false;
-    }
-    (places <= points - u) & ((t < points) & (points <= 256))
+    u <= points && places <= points - u && t < points && points <= 256
 }
 
 // Which s the places of row t from u on have together; none where one of them is not there.
+#[tactic(auto, unfolding(crate::specs::Calls::span_of))]
 pub fn span_of(sums: Sums, points: usize, t: usize, u: usize, places: usize) -> Span
     ensures { result ≡ span_of sums points t u places }
 {

@@ -10,12 +10,13 @@ use std::io::{self, Read};
 fn read_full(input: &mut impl Read, buf: &mut [u8]) -> usize
     ensures { result ≤ length buf.new }
 {
+    // By hand: a read gives as many bytes as it likes. std's `read_exact` does not tell how many came before an end. Both programs have this, as neither is
+    // a library.
     let mut done = 0;
     while done < buf.len() {
         match input.read(&mut buf[done..]) {
-            Ok(0) => break,
+            Ok(0) | Err(_) => break,
             Ok(n) => done += n,
-            Err(_) => break,
         }
     }
     done

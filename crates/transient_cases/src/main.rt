@@ -12,12 +12,13 @@ use std::rt::Files;
 fn read_full(input: &mut impl Read, buf: &mut [u8]) -> usize
     ensures { result ≤ length buf.new }
 {
+    // By hand: a read gives as many bytes as it likes. std's `read_exact` does not tell how many came before an end. Both programs have this, as neither is
+    // a library.
     let mut done = 0;
     while done < buf.len() {
         match input.read(&mut buf[done..]) {
-            Ok(0) => break,
+            Ok(0) | Err(_) => break,
             Ok(n) => done += n,
-            Err(_) => break,
         }
     }
     done
@@ -37,6 +38,7 @@ fn open<R: Files>(files: &R, name: &[u8]) -> io::Result<R::File> {
 
 // The words of an error's text: what stands before the system's number or the zeros after the text.
 fn words(text: &[u8]) -> &[u8] {
+    // By index: what follows a place is looked at with it, and the text may end within it.
     for i in 0..text.len() {
         if text[i] == 0 || text[i..].starts_with(b" (os error ") {
             return &text[..i];

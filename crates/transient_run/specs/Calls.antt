@@ -1,10 +1,9 @@
 -- Document 01, transient: the outcome of a transient run, "The device starts empty."; document 02, L1: in slices
 -- laid out for a capacity, and of an append; L3: with the count of its products, in a session; L13: at a desk; L5: of either form.
-use Rattle.std.specs.Prelude.{◌+◌, ◌&&◌, ◌∷◌}
+use Rattle.refusal.specs.declared.Refusal.{Refusal}
+use Rattle.std.specs.Prelude.{Result, Ok, Err, ◌+◌, ◌&&◌, ◌∷◌}
 use Rattle.lists.specs.Prelude.{ℕ, suc, Bool, true, false, List, [], eqb, length, get_or, set, Float}
-use Rattle.refusal.specs.declared.Verdict.{Verdict}
-use Rattle.refusal.specs.declared.Verdict.TheVariants.{Pass, Refused}
-use Rattle.refusal.specs.Verdict.{◌then◌, zeroed, afterwards}
+use Rattle.refusal.specs.Verdict.{Verdict, ◌then◌, zeroed, afterwards}
 use Rattle.refusal.specs.Checks.{finite_work, counter_holds, desk_known}
 use Rattle.grid.specs.Calls.{grid_checks}
 use Rattle.two_time.specs.declared.capacity.Shape.{Shape}
@@ -15,9 +14,7 @@ use Rattle.two_time.specs.Sums.{new_numbers, new_finite}
 use Rattle.two_time.specs.Start.{Start, new_lesser_numbers, new_lesser_finite}
 use Rattle.two_time.specs.Calls.{all_long, point_operands}
 use Rattle.dyson.specs.Calls.{support_checks, new_kernel, new_green, solved_new_finite}
-use Rattle.transient_run.specs.declared.Solved.{Solved}
 use Rattle.transient_run.specs.declared.Session.{Session}
-use Rattle.transient_run.specs.declared.Solved.TheVariants.{Accepted, Refused as NotSolved}
 use Rattle.transient_run.specs.Products.{formed}
 use Rattle.transient_run.specs.Form.{Form, form_sizes, form_entries, start_of, start_products}
 
@@ -67,31 +64,31 @@ run_of form session desk shape tolerance times free self_energy lesser_self_ener
 
 -- the answer, and what the outputs G^R and G^< and the scratch K and X hold afterwards
 pub record Outcome : Type 0 where
-  pub answer : Solved
+  pub answer : Result ℕ Refusal
   pub retarded : List Float
   pub lesser : List Float
   pub kernel : List Float
   pub lesser_advanced : List Float
 
 -- "An accepted transient run carries the count it formed"
-unfoldable pub solved : Verdict → ℕ → Solved
-solved Pass count = Accepted count
-solved (Refused r) count = NotSolved r
+unfoldable pub solved : Verdict → ℕ → Result ℕ Refusal
+solved (Ok tt) count = Ok count
+solved (Err r) count = Err r
 
 -- accepted, with whatever count
-unfoldable pub is_accepted : Solved → Bool
-is_accepted (Accepted count) = true
-is_accepted (NotSolved r) = false
+unfoldable pub is_accepted : Result ℕ Refusal → Bool
+is_accepted (Ok count) = true
+is_accepted (Err r) = false
 
 -- the refusal's number of a run's answer; 0 where it is accepted
-unfoldable pub solved_number : Solved → ℕ
-solved_number (Accepted count) = 0
-solved_number (NotSolved r) = r.number
+unfoldable pub solved_number : Result ℕ Refusal → ℕ
+solved_number (Ok count) = 0
+solved_number (Err r) = r.number
 
 -- "a session adds it to one 64-bit counter ... A refused run adds nothing"; of L13: "A run or append names its desk; no other desk's counter changes"
-unfoldable pub booked : Session → ℕ → Solved → Session
-booked session desk (Accepted count) = record { products = set session.products desk (counter_of session desk + count) }
-booked session desk (NotSolved r) = session
+unfoldable pub booked : Session → ℕ → Result ℕ Refusal → Session
+booked session desk (Ok count) = record { products = set session.products desk (counter_of session desk + count) }
+booked session desk (Err r) = session
 
 -- A call that works out the places whose larger index is at least `old` and below `points`. Document 02, L1: "Old entries of K, G^R, X and G^< are read
 -- as the buffers hold them, whatever that is, and stay": each of the four is made of what stands in the slices before it.

@@ -1,10 +1,8 @@
 -- The checks of a call as the code makes them, what it says that they pass, and what an answer says of the verdict. Assumes nothing.
-use Rattle.std.specs.Prelude.{◌≡◌, ◌&&◌, ◌∷◌, ◌+◌, ◌≤◌, ◌<◌}
+use Rattle.std.specs.Prelude.{Ok, Err, ◌≡◌, ◌&&◌, ◌∷◌, ◌+◌, ◌≤◌, ◌<◌}
 use Rattle.lists.specs.Prelude.{refl, sym, ap, ◌∙◌, ⊎_elim, Bool, true, List, [], ℕ, suc, min, min-eq_left, min-eq_right, le_trans, le_refl, dec_lt, arith, add-one, leb-true, ltb-true, eqb, length, Float}
 use Rattle.refusal.specs.declared.Refusal.{Refusal}
-use Rattle.refusal.specs.declared.Verdict.{Verdict}
-use Rattle.refusal.specs.declared.Verdict.TheVariants.{Pass, Refused}
-use Rattle.refusal.specs.Verdict.{by, ask, ◌then◌, afterwards}
+use Rattle.refusal.specs.Verdict.{pass, Verdict, by, ask, ◌then◌, afterwards}
 use Rattle.refusal.specs.Checks.{counter_holds, desk_known}
 use Rattle.refusal.specs.Agreement.{ask_pass, then-pass, then-after, then-refused}
 use Rattle.refusal.specs.Unchanged.{Keeping, ask_keeping, then-keeping}
@@ -22,25 +20,24 @@ use Rattle.dyson.specs.Checks.{support_keeping}
 use Rattle.transient_run.specs.Products.{formed}
 use Rattle.transient_run.specs.Form.{form_sizes, form_entries, start_products, HoldsBlock}
 use Rattle.transient_run.specs.FormChecks.{Square, sizes-plain, sizes_keeping, entries_keeping, entries_hold}
-use Rattle.transient_run.specs.declared.Solved.TheVariants.{Accepted, Refused as NotSolved}
 use Rattle.transient_run.specs.Calls.{Run, Outcome, counter_of, solved, is_accepted, kernel_made, retarded_made, lesser_advanced_made, lesser_made, made_finite, checks_of, verdict_of, worked, append_point}
 
 -- the verdict of a call, by its answer
-pub accepted : (v : Verdict) (count : ℕ) → is_accepted (solved v count) ≡ true → v ≡ Pass
+pub accepted : (v : Verdict) (count : ℕ) → is_accepted (solved v count) ≡ true → v ≡ pass
 unfolding solved is_accepted
-accepted Pass count e = refl
-accepted (Refused r) count e = absurd (let z : ◌≡◌ {A = ℕ} 0 1 = cc in omega arith)
+accepted (Ok tt) count e = refl
+accepted (Err r) count e = absurd (let z : ◌≡◌ {A = ℕ} 0 1 = cc in omega arith)
 
 -- accepted with a count, which is that of the products formed
-pub accepted_with : (v : Verdict) (k count : ℕ) → solved v count ≡ Accepted k → (v ≡ Pass) × (k ≡ count)
+pub accepted_with : (v : Verdict) (k count : ℕ) → solved v count ≡ Ok k → (v ≡ pass) × (k ≡ count)
 unfolding solved
-accepted_with Pass k count e = (refl, cc)
-accepted_with (Refused r) k count e = absurd (let z : ◌≡◌ {A = ℕ} 0 1 = cc in omega arith)
+accepted_with (Ok tt) k count e = (refl, cc)
+accepted_with (Err r) k count e = absurd (let z : ◌≡◌ {A = ℕ} 0 1 = cc in omega arith)
 
-pub refused : (v : Verdict) (x : Refusal) (count : ℕ) → solved v count ≡ NotSolved x → v ≡ Refused x
+pub refused : (v : Verdict) (x : Refusal) (count : ℕ) → solved v count ≡ Err x → v ≡ Err x
 unfolding solved
-refused Pass x count e = absurd (let z : ◌≡◌ {A = ℕ} 0 1 = cc in omega arith)
-refused (Refused y) x count e = let same : y ≡ x = cc in ap Refused same
+refused (Ok tt) x count e = absurd (let z : ◌≡◌ {A = ℕ} 0 1 = cc in omega arith)
+refused (Err y) x count e = let same : y ≡ x = cc in ap Err same
 
 module _ (points : ℕ) (r : Run) where
   abbrev operands : List (List Float)
@@ -59,7 +56,7 @@ module _ (points : ℕ) (r : Run) where
   support_asked = support_checks points r.orbitals r.tolerance (read_as r.capacity r.orbitals r.free) (read_as r.capacity r.orbitals r.self_energy)
 
   -- the sizes of a call that passes them
-  pub sizes_said : sizes_asked ≡ Pass → (2 ≤ points) × (points ≤ r.capacity) × SizesPassed r.capacity r.orbitals true slices × Square r.orbitals r.form
+  pub sizes_said : sizes_asked ≡ pass → (2 ≤ points) × (points ≤ r.capacity) × SizesPassed r.capacity r.orbitals true slices × Square r.orbitals r.form
   unfolding capacity_checks
   sizes_said h =
       let p = sizes-plain r.capacity points r.orbitals r.form all_lent (then-pass (desk_known r.desk) _ h).1 in
@@ -74,29 +71,29 @@ module _ (points : ℕ) (r : Run) where
         (then-keeping (times_keeping _ r.orbitals r.times) (then-keeping (then-keeping (operands-of-points_keeping r.capacity points r.orbitals 0 operands) (entries_keeping r.form))
         (then-keeping (support_keeping points r.orbitals r.tolerance _ _) (ask_keeping _ _ refl))))
 
-    pub checks-passed : checks_of old points r ≡ Pass → (2 ≤ points) × (points ≤ r.capacity) × SizesPassed r.capacity r.orbitals true slices × Square r.orbitals r.form
+    pub checks-passed : checks_of old points r ≡ pass → (2 ≤ points) × (points ≤ r.capacity) × SizesPassed r.capacity r.orbitals true slices × Square r.orbitals r.form
     unfolding checks_of
     checks-passed h = sizes_said (then-pass sizes_asked _ h).0
 
     -- and the form's slice holds its block
-    pub block_held : checks_of old points r ≡ Pass → HoldsBlock r.orbitals r.form
+    pub block_held : checks_of old points r ≡ pass → HoldsBlock r.orbitals r.form
     unfolding checks_of
     block_held h =
         let z = checks-passed h in
         entries_hold r.orbitals z.2.orbitals-most r.form z.3 (then-pass _ _ (then-pass _ _ (then-pass _ _ (then-pass sizes_asked _ h).1).1).0).1
 
     -- refused by its desk
-    pub desk-refused : {v : Verdict} {x : Refusal} → v ≡ desk_known r.desk → v ≡ Refused x → v ≡ checks_of old points r
+    pub desk-refused : {v : Verdict} {x : Refusal} → v ≡ desk_known r.desk → v ≡ Err x → v ≡ checks_of old points r
     unfolding checks_of
     desk-refused e h = h ∙ sym (then-refused sizes_asked _ _ (then-refused (desk_known r.desk) _ _ (sym e ∙ h)))
 
     -- refused by its sizes
-    pub sizes-refused : {v : Verdict} {x : Refusal} → v ≡ sizes_asked → v ≡ Refused x → v ≡ checks_of old points r
+    pub sizes-refused : {v : Verdict} {x : Refusal} → v ≡ sizes_asked → v ≡ Err x → v ≡ checks_of old points r
     unfolding checks_of
     sizes-refused e h = h ∙ sym (then-refused sizes_asked _ _ (sym e ∙ h))
 
     -- with its sizes passed; of each operand the code asks them again, which changes nothing
-    module _ {sizes : Verdict} (asked : sizes ≡ sizes_asked) (passed : sizes ≡ Pass) {grid first second third later functions block entries support holds last rest all : Verdict} where
+    module _ {sizes : Verdict} (asked : sizes ≡ sizes_asked) (passed : sizes ≡ pass) {grid first second third later functions block entries support holds last rest all : Verdict} where
       pub checks-asked : grid ≡ grid_checks points r.times
           → first ≡ point_checks r.capacity points r.orbitals 0 r.free → second ≡ point_checks r.capacity points r.orbitals 1 r.self_energy → third ≡ point_checks r.capacity points r.orbitals 2 r.lesser_self_energy
           → support ≡ check_inputs r.capacity points r.orbitals r.free r.self_energy r.tolerance
@@ -115,11 +112,13 @@ module _ (points : ℕ) (r : Run) where
           e ∙ rw (g, er, es, ee, operands-are, f, support-is, h) (sym (then-after sizes_asked _ (sym asked ∙ passed)))
 
   -- the counter of a call that passes holds its count
-  pub counter_room : (old : ℕ) → checks_of old points r ≡ Pass → counter_of r.session r.desk + formed (start_products r.form) old points ≤ 0xffff_ffff_ffff_ffff
+  pub counter_room : (old : ℕ) → checks_of old points r ≡ pass → counter_of r.session r.desk + formed (start_products r.form) old points ≤ 0xffff_ffff_ffff_ffff
   unfolding checks_of counter_holds
-  counter_room old h = leb-true _ _ (ask_pass _ (by 17) (then-pass _ _ (then-pass _ _ (then-pass _ _ (then-pass sizes_asked _ h).1).1).1).1)
+  counter_room old h =
+      let entries : Verdict = point_operands r.capacity points r.orbitals 0 operands then form_entries r.form in
+      leb-true _ _ (ask_pass _ (by 17) (then-pass support_asked _ (then-pass entries _ (then-pass (grid_checks points r.times) _ (then-pass sizes_asked _ h).1).1).1).1)
 
   -- and its desk is one of the eight
-  pub desk-below : (old : ℕ) → checks_of old points r ≡ Pass → r.desk < 8
+  pub desk-below : (old : ℕ) → checks_of old points r ≡ pass → r.desk < 8
   unfolding checks_of desk_known
   desk-below old h = ltb-true _ _ (ask_pass _ (by 22) (then-pass _ _ (then-pass sizes_asked _ h).0).0)

@@ -1,9 +1,9 @@
 -- G^R(t,0) is finite at every point once the work on K and G^R is: what G^< starts from reads nothing else of it. Assumes nothing.
+use Rattle.refusal.specs.Verdict.{pass}
 use Rattle.std.specs.Prelude.{◌≡◌, ◌&&◌, ◌+◌, ◌*◌, ◌≤◌, ◌<◌}
 use Rattle.lists.specs.Prelude.{refl, sym, ap, ap₂, ◌∙◌, true, List, ℕ, mul-le-mul_right, one-mul, digits_lt, dec_lt, arith, get_or, Float, nan}
 use Rattle.lists.specs.Agreement.{both}
 use Rattle.complex.specs.Arithmetic.{finite, cfinite}
-use Rattle.refusal.specs.declared.Verdict.TheVariants.{Pass}
 use Rattle.refusal.specs.Agreement.{ask_pass}
 use Rattle.refusal.specs.Checks.{finite_at}
 use Rattle.two_time.specs.Layout.{TwoTime, place, read_as}
@@ -22,7 +22,7 @@ use Rattle.transient_run.specs.FormChecks.{asked-each}
 use Rattle.transient_run.specs.Calls.{Run, kernel_made, retarded_made}
 
 -- the first block of an operand that passes check 7
-pub first_block : (capacity points n operand : ℕ) (xs : List Float) → 0 < points → point_entries capacity points n operand xs ≡ Pass → FiniteBlock n (read_as capacity n xs 0 0)
+pub first_block : (capacity points n operand : ℕ) (xs : List Float) → 0 < points → point_entries capacity points n operand xs ≡ pass → FiniteBlock n (read_as capacity n xs 0 0)
 unfolding point_entries cfinite
 first_block capacity points n operand xs some h a b ha hb = ap₂ ◌&&◌ (number (place capacity n 0 0 a b) inside) (number (place capacity n 0 0 a b + 1) inside')
   where

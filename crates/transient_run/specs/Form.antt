@@ -3,9 +3,7 @@
 -- of its block, what G^< starts from, and how many products that takes.
 use Rattle.std.specs.Prelude.{◌≡◌, ◌≤◌, ◌&&◌}
 use Rattle.lists.specs.Prelude.{ℕ, Bool, true, List, eqb, Float}
-use Rattle.refusal.specs.declared.Verdict.{Verdict}
-use Rattle.refusal.specs.declared.Verdict.TheVariants.{Pass}
-use Rattle.refusal.specs.Verdict.{◌then◌}
+use Rattle.refusal.specs.Verdict.{pass, Verdict, ◌then◌}
 use Rattle.refusal.specs.Checks.{large_enough, within_limits, fitting, within_capacity, finite_entries}
 use Rattle.block.specs.Block.{Entries, entries_in}
 use Rattle.block.specs.Operations.{zeros}
@@ -36,7 +34,7 @@ form_sizes (occupied g0) capacity points n fits = block_sizes capacity points n 
 
 -- check 7 of operand 3
 unfoldable pub form_entries : Form → Verdict
-form_entries empty = Pass
+form_entries empty = pass
 form_entries (occupied g0) = finite_entries 3 g0.values (count_of g0)
 
 -- "G^<(t,t') then starts from (G^R(t,0)·g0)·G^A(0,t') instead of zero", of G^R in a slice laid out for the capacity

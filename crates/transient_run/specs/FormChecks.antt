@@ -3,9 +3,7 @@ use Rattle.std.specs.Prelude.{◌≡◌, ◌&&◌, ◌+◌, ◌*◌, ◌≤◌, 
 use Rattle.lists.specs.Prelude.{refl, sym, ap, ap₂, ◌∙◌, ⊎_elim, Bool, true, false, List, ℕ, zero, suc, le_refl, le_trans, le_of_eq, le_of_suc-le-suc, eq-or-lt_of_le, dec_lt, arith, leb, le-leb, leb-true, eqb, eqb-true, length, get_or, get_or-eq_default, Float, nan}
 use Rattle.lists.specs.Agreement.{both, never}
 use Rattle.complex.specs.Arithmetic.{finite}
-use Rattle.refusal.specs.declared.Verdict.{Verdict}
-use Rattle.refusal.specs.declared.Verdict.TheVariants.{Pass, Refused}
-use Rattle.refusal.specs.Verdict.{by, ask, ◌then◌, ask_all}
+use Rattle.refusal.specs.Verdict.{pass, Verdict, by, ask, ◌then◌, ask_all}
 use Rattle.refusal.specs.Checks.{large_enough, not_empty, within_limits, within_block, fitting, within_capacity, finite_at, finite_entries}
 use Rattle.refusal.specs.Agreement.{ask_pass, then-pass, then-agree, then-after}
 use Rattle.refusal.specs.Unchanged.{Keeping, passed, ask_keeping, then-keeping, all_keeping}
@@ -25,7 +23,7 @@ Square n empty = Unit {0}
 Square n (occupied g0) = (g0.rows ≡ n) × (g0.columns ≡ n)
 
 -- every question that passes
-pub asked-each : (n : ℕ) (f : ℕ → Verdict) → ask_all n f ≡ Pass → (k : ℕ) → k < n → f k ≡ Pass
+pub asked-each : (n : ℕ) (f : ℕ → Verdict) → ask_all n f ≡ pass → (k : ℕ) → k < n → f k ≡ pass
 unfolding ask_all
 asked-each zero f e k l = absurd (omega arith)
 asked-each (suc n) f e k l =
@@ -33,7 +31,7 @@ asked-each (suc n) f e k l =
     ⊎_elim (λ same. ap f same ∙ t.1) (λ less. asked-each n f t.0 k less) (eq-or-lt_of_le (le_of_suc-le-suc l))
 
 -- a slice whose first numbers are finite has so many
-pub finite-long : (operand count : ℕ) (xs : List Float) → finite_entries operand xs count ≡ Pass → count ≤ length xs
+pub finite-long : (operand count : ℕ) (xs : List Float) → finite_entries operand xs count ≡ pass → count ≤ length xs
 unfolding finite_entries finite
 finite-long operand count xs e =
     elim (dec_lt (length xs) count) [
@@ -52,7 +50,7 @@ module _ (capacity points n : ℕ) where
   plain fits = large_enough points n then within_limits capacity n then fitting fits then within_capacity points capacity
 
   -- checks 1, 2, 3 and 16 of the functions pass too, and the block is n by n
-  pub sizes-plain : (form : Form) (fits : Bool) → form_sizes form capacity points n fits ≡ Pass → (plain fits ≡ Pass) × Square n form
+  pub sizes-plain : (form : Form) (fits : Bool) → form_sizes form capacity points n fits ≡ pass → (plain fits ≡ pass) × Square n form
   unfolding form_sizes fitting
   sizes-plain empty fits e = (e, tt)
   sizes-plain (occupied g0) fits e =
@@ -67,11 +65,11 @@ module _ (capacity points n : ℕ) where
       )
 
   -- what lies beside the slices has its length, and other slices that have theirs pass too
-  pub sizes-there : (form : Form) (there : Bool) (slices : List (List Float)) → form_sizes form capacity points n (there && all_long (length_of capacity n) slices) ≡ Pass → there ≡ true
+  pub sizes-there : (form : Form) (there : Bool) (slices : List (List Float)) → form_sizes form capacity points n (there && all_long (length_of capacity n) slices) ≡ pass → there ≡ true
   unfolding fitting
   sizes-there form there slices e = (both there _ (ask_pass _ (by 3) (then-pass _ _ (then-pass _ _ (then-pass _ _ (sizes-plain form _ e).0).1).1).0)).0
 
-  pub sizes-again : (form : Form) (fits fits' : Bool) → form_sizes form capacity points n fits ≡ Pass → fits' ≡ true → form_sizes form capacity points n fits' ≡ Pass
+  pub sizes-again : (form : Form) (fits fits' : Bool) → form_sizes form capacity points n fits ≡ pass → fits' ≡ true → form_sizes form capacity points n fits' ≡ pass
   unfolding fitting
   sizes-again form fits fits' e h =
       ap (form_sizes form capacity points n) (h ∙ sym (ask_pass fits (by 3) (then-pass _ _ (then-pass _ _ (then-pass _ _ (sizes-plain form fits e).0).1).1).0)) ∙ e
@@ -81,9 +79,22 @@ module _ (capacity points n : ℕ) where
       → v ≡ form_sizes form capacity points n (there && all_long (length_of capacity n) slices)
   unfolding form_sizes all_fit
   sizes-by empty slices there all h e =
-      e ∙ rw h (then-agree _ _ _ _ refl (λ l. then-agree _ _ _ _ refl (λ m. let most = limited capacity n m in rw (le-leb _ _ most.0, le-leb _ _ most.1))))
+      let limits = within_limits capacity n in
+      let room = within_capacity points capacity in
+      let asked : Verdict = fitting (there && all_fit capacity n slices) then room in
+      let told : Verdict = fitting (there && all_long (length_of capacity n) slices) then room in
+      e ∙ rw h (then-agree (large_enough points n) _ (limits then asked) (limits then told) refl
+      (λ l. then-agree limits _ asked told refl (λ m. let most = limited capacity n m in rw (le-leb _ _ most.0, le-leb _ _ most.1))))
   sizes-by (occupied g0) slices there all h e =
-      e ∙ rw h (then-agree _ _ _ _ refl (λ l. then-agree _ _ _ _ refl (λ m. let most = limited capacity n (then-pass _ _ m).0 in rw (le-leb _ _ most.0, le-leb _ _ most.1))))
+      let some : Verdict = large_enough points n then not_empty g0.rows g0.columns in
+      let limits : Verdict = within_limits capacity n then within_block g0.rows g0.columns in
+      let room = within_capacity points capacity in
+      let square = eqb g0.rows n && eqb g0.columns n in
+      let asked : Verdict = fitting ((there && all_fit capacity n slices) && square) then room in
+      let told : Verdict = fitting ((there && all_long (length_of capacity n) slices) && square) then room in
+      e ∙ rw h (then-agree some _ (limits then asked) (limits then told) refl
+      (λ l. then-agree limits _ asked told refl
+      (λ m. let most = limited capacity n (then-pass (within_limits capacity n) (within_block g0.rows g0.columns) m).0 in rw (le-leb _ _ most.0, le-leb _ _ most.1))))
 
   pub sizes_keeping : (form : Form) (fits : Bool) → Keeping (form_sizes form capacity points n fits)
   unfolding form_sizes large_enough not_empty within_limits within_block fitting within_capacity
@@ -93,7 +104,7 @@ module _ (capacity points n : ℕ) where
       (then-keeping (then-keeping (ask_keeping _ _ refl) (ask_keeping _ _ refl)) (then-keeping (ask_keeping _ _ refl) (ask_keeping _ _ refl)))
 
   -- then the points are at most 256, and the block is small
-  pub sizes-small : (form : Form) (fits : Bool) → form_sizes form capacity points n fits ≡ Pass → (points ≤ 256) × Small form
+  pub sizes-small : (form : Form) (fits : Bool) → form_sizes form capacity points n fits ≡ pass → (points ≤ 256) × Small form
   unfolding within_capacity
   sizes-small form fits e =
       let p = sizes-plain form fits e in
@@ -108,7 +119,7 @@ entries_keeping empty = passed
 entries_keeping (occupied g0) = all_keeping _ _ (λ i. ask_keeping _ _ refl)
 
 -- where check 7 passes the slice holds the block
-pub entries_hold : (n : ℕ) → n ≤ 16 → (form : Form) → Square n form → form_entries form ≡ Pass → HoldsBlock n form
+pub entries_hold : (n : ℕ) → n ≤ 16 → (form : Form) → Square n form → form_entries form ≡ pass → HoldsBlock n form
 unfolding form_entries holds_block
 entries_hold n most empty s e = tt
 entries_hold n most (occupied g0) s e =

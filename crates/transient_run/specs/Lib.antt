@@ -3,6 +3,7 @@
 pub mod Products
 pub mod Form
 pub mod Calls
+pub mod Inputs
 -- Closed cases: P12 made stage by stage, and what others compute with; those are in crate `run_cases`.
 pub mod P12
 pub mod Computation

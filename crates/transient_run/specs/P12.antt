@@ -1,8 +1,7 @@
 -- P12 of document 01, made stage by stage: each stage is computed from what the stage before it left. Assumes nothing.
-use Rattle.std.specs.Prelude.{◌≡◌, ◌&&◌, ◌∷◌}
+use Rattle.std.specs.Prelude.{Err, ◌≡◌, ◌&&◌, ◌∷◌}
 use Rattle.lists.specs.Prelude.{refl, ap, ◌∙◌, true, List, [], ℕ, eqb, length, replicate, Float}
-use Rattle.refusal.specs.declared.Verdict.TheVariants.{Pass, Refused}
-use Rattle.refusal.specs.Verdict.{by, ask, ◌then◌, afterwards}
+use Rattle.refusal.specs.Verdict.{pass, by, ask, ◌then◌, afterwards}
 use Rattle.refusal.specs.Checks.{finite_work, within_capacity, counter_holds, desk_known}
 use Rattle.grid.specs.Calls.{grid_checks}
 use Rattle.two_time.specs.declared.sums.Sums.TheVariants.{Causal, LesserAdvanced, Lesser}
@@ -20,7 +19,6 @@ use Rattle.dyson.specs.Retarded.{solve, retarded_onward, retarded_numbers, retar
 use Rattle.dyson.specs.Calls.{support_checks, new_green, solved_finite}
 use Rattle.dyson.specs.NewSolved.{finite-all, green-all}
 use Rattle.transient_run.specs.declared.Session.{Session}
-use Rattle.transient_run.specs.declared.Solved.TheVariants.{Accepted, Refused as NotSolved}
 use Rattle.transient_run.specs.Products.{total, over_new, formed}
 use Rattle.transient_run.specs.Form.{form_sizes, form_entries, start_of, start_products}
 use Rattle.transient_run.specs.Form.Form.{empty}
@@ -112,20 +110,20 @@ abbrev pub run : Float → List Float → Run
 run = run_in opened 0
 
 sizes : (before : List Float) → length before ≡ 18
-    → form_sizes empty 3 3 1 (eqb (length times) 3 && all_long (length_of 3 1) (lower ∷ lower ∷ imaginary ∷ before ∷ before ∷ before ∷ before ∷ [])) ≡ Pass
+    → form_sizes empty 3 3 1 (eqb (length times) 3 && all_long (length_of 3 1) (lower ∷ lower ∷ imaginary ∷ before ∷ before ∷ before ∷ before ∷ [])) ≡ pass
 unfolding computation form_sizes within_capacity
 sizes before h = rw h
 
-inputs : (grid_checks 3 times ≡ Pass) × (point_operands 3 3 1 0 (lower ∷ lower ∷ imaginary ∷ []) ≡ Pass)
+inputs : (grid_checks 3 times ≡ pass) × (point_operands 3 3 1 0 (lower ∷ lower ∷ imaginary ∷ []) ≡ pass)
 unfolding computation point_operands point_entries
 inputs = (refl, refl)
 
 -- "N(N+1)(2N+1)/6 + N·N·(N+1) − 3N" at three points, which a counter at 0 holds; desk 0 is a desk
-pub counted : (formed 0 0 3 ≡ 41) × (counter_holds 0 (formed 0 0 3) ≡ Pass) × (desk_known 0 ≡ Pass)
+pub counted : (formed 0 0 3 ≡ 41) × (counter_holds 0 (formed 0 0 3) ≡ pass) × (desk_known 0 ≡ pass)
 unfolding computation counter_holds desk_known formed over_new total is_new
 counted = (refl, refl, refl)
 
-module _ (tolerance : Float) (before : List Float) (long : length before ≡ 18) (passed : support_checks 3 1 tolerance (read_as 3 1 lower) (read_as 3 1 lower) ≡ Pass) where
+module _ (tolerance : Float) (before : List Float) (long : length before ≡ 18) (passed : support_checks 3 1 tolerance (read_as 3 1 lower) (read_as 3 1 lower) ≡ pass) where
   -- all places of slices laid out for the points
   pub kernel_made_lem : new_numbers Causal 3 1 0 3 times lower lower before ≡ floats kernel_bits
   kernel_made_lem = all-numbers Causal 3 1 times lower lower before ∙ kernel_stage
@@ -145,12 +143,12 @@ module _ (tolerance : Float) (before : List Float) (long : length before ≡ 18)
       rw (retarded_made_lem, lesser_advanced_made_lem, finite-all 3 1 times lower lower before before, all_finite_lem LesserAdvanced 3 1 times imaginary (floats retarded_bits) before)
       (rw (empty-finite 3 1 0 3 times (floats retarded_bits) (floats lesser_advanced_bits), all_finite_lem Lesser 3 1 times (floats retarded_bits) (floats lesser_advanced_bits) before, kernel-finite, kernel_stage, retarded_finite_lem, lesser_advanced-finite, lesser_finite_lem))
 
-  pub verdict_in : (session : Session) (desk : ℕ) → desk_known desk ≡ Pass → counter_holds (counter_of session desk) (formed 0 0 3) ≡ Pass → verdict_of 0 3 (run_in session desk tolerance before) ≡ Pass
-  unfolding verdict_of checks_of ◌then◌ finite_work ask form_sizes form_entries start_products
+  pub verdict_in : (session : Session) (desk : ℕ) → desk_known desk ≡ pass → counter_holds (counter_of session desk) (formed 0 0 3) ≡ pass → verdict_of 0 3 (run_in session desk tolerance before) ≡ pass
+  unfolding verdict_of checks_of finite_work ask form_sizes form_entries start_products
   verdict_in session desk known room = simp (finite session desk, known, sizes before long, inputs.0, inputs.1, passed, room) refl
 
   -- and 17 where it has none: every slice is as it was
-  pub full : (session : Session) (desk : ℕ) → desk_known desk ≡ Pass → counter_holds (counter_of session desk) (formed 0 0 3) ≡ Refused (by 17) → transient_run (run_in session desk tolerance before)
-      ≡ record { answer = NotSolved (by 17); retarded = before; lesser = before; kernel = before; lesser_advanced = before }
-  unfolding transient_run worked verdict_of checks_of ◌then◌ afterwards solved start_products form_entries
+  pub full : (session : Session) (desk : ℕ) → desk_known desk ≡ pass → counter_holds (counter_of session desk) (formed 0 0 3) ≡ Err (by 17) → transient_run (run_in session desk tolerance before)
+      ≡ record { answer = Err (by 17); retarded = before; lesser = before; kernel = before; lesser_advanced = before }
+  unfolding transient_run worked verdict_of checks_of afterwards solved start_products form_entries
   full session desk known none = rw (known, sizes before long, inputs.0, inputs.1, passed, none)

@@ -1,15 +1,12 @@
 -- Points past every capacity: an append is refused before its work, and by the same number however many there are. Assumes nothing.
-use Rattle.std.specs.Prelude.{◌≡◌, ◌+◌, ◌≤◌, ◌<◌}
-use Rattle.lists.specs.Prelude.{refl, sym, ap, ◌∙◌, Bool, true, false, List, ℕ, suc, min, min-eq_left, min-eq_right, dec_lt, arith, add-one, leb, leb-true, le-leb, Float}
+use Rattle.std.specs.Prelude.{Ok, Err, ◌≡◌, ◌&&◌, ◌+◌, ◌≤◌, ◌<◌}
+use Rattle.lists.specs.Prelude.{refl, sym, ap, ◌∙◌, Bool, true, false, List, ℕ, suc, min, min-eq_left, min-eq_right, dec_lt, arith, add-one, leb, leb-true, le-leb, eqb, Float}
 use Rattle.refusal.specs.declared.Refusal.{Refusal}
-use Rattle.refusal.specs.declared.Verdict.{Verdict}
-use Rattle.refusal.specs.declared.Verdict.TheVariants.{Pass, Refused}
-use Rattle.refusal.specs.Verdict.{by, ask, ◌then◌}
-use Rattle.refusal.specs.Checks.{large_enough, within_limits, fitting, within_capacity, desk_known}
+use Rattle.refusal.specs.Verdict.{Verdict, by, ask, ◌then◌}
+use Rattle.refusal.specs.Checks.{large_enough, not_empty, within_limits, within_block, fitting, within_capacity, desk_known}
 use Rattle.refusal.specs.Agreement.{ask_pass, then-pass, then-agree, then-refused}
 use Rattle.two_time.specs.New.{cleared_new}
 use Rattle.two_time.specs.SizeChecks.{limited}
-use Rattle.transient_run.specs.declared.Solved.TheVariants.{Refused as NotSolved}
 use Rattle.transient_run.specs.Form.{Form, form_sizes}
 use Rattle.transient_run.specs.Form.Form.{empty, occupied}
 use Rattle.transient_run.specs.Calls.{Run, Outcome, solved, made_finite, checks_of, verdict_of, worked, append_point}
@@ -17,7 +14,7 @@ use Rattle.transient_run.specs.Checks.{all_lent, sizes_asked, sizes_said}
 use Rattle.transient_run.specs.Ends.{checks-end}
 
 -- 16 of points past the capacity
-past : (points capacity : ℕ) → capacity < points → within_capacity points capacity ≡ Refused (by 16)
+past : (points capacity : ℕ) → capacity < points → within_capacity points capacity ≡ Err (by 16)
 unfolding within_capacity ask
 past points capacity h = rw (no (leb points capacity) (λ e. let l = leb-true points capacity e in omega arith))
   where
@@ -29,15 +26,25 @@ past points capacity h = rw (no (leb points capacity) (λ e. let l = leb-true po
 sizes_alike : (form : Form) (capacity p q n : ℕ) (fits : Bool) → 256 < p → 256 < q → form_sizes form capacity p n fits ≡ form_sizes form capacity q n fits
 unfolding form_sizes large_enough
 sizes_alike empty capacity p q n fits hp hq =
+    let few = ask (true && leb 1 n) (by 1) in
+    let limits = within_limits capacity n in
+    let asked : ℕ → Verdict = λ points. fitting fits then within_capacity points capacity in
     rw (le-leb 2 p (omega arith), le-leb 2 q (omega arith))
-    (then-agree _ _ _ _ refl (λ a. then-agree _ _ _ _ refl (λ b. let most = (limited capacity n b).0 in then-agree _ _ _ _ refl (λ c. past p capacity (omega arith) ∙ sym (past q capacity (omega arith))))))
+    (then-agree few _ (limits then asked p) (limits then asked q) refl (λ a. then-agree limits _ (asked p) (asked q) refl
+    (λ b. let most = (limited capacity n b).0 in then-agree (fitting fits) _ _ _ refl (λ c. past p capacity (omega arith) ∙ sym (past q capacity (omega arith))))))
 sizes_alike (occupied g0) capacity p q n fits hp hq =
+    let few : Verdict = ask (true && leb 1 n) (by 1) then not_empty g0.rows g0.columns in
+    let limits : Verdict = within_limits capacity n then within_block g0.rows g0.columns in
+    let all = fits && (eqb g0.rows n && eqb g0.columns n) in
+    let asked : ℕ → Verdict = λ points. fitting all then within_capacity points capacity in
     rw (le-leb 2 p (omega arith), le-leb 2 q (omega arith))
-    (then-agree _ _ _ _ refl (λ a. then-agree _ _ _ _ refl (λ b. let most = (limited capacity n (then-pass _ _ b).0).0 in then-agree _ _ _ _ refl (λ c. past p capacity (omega arith) ∙ sym (past q capacity (omega arith))))))
+    (then-agree few _ (limits then asked p) (limits then asked q) refl (λ a. then-agree limits _ (asked p) (asked q) refl
+    (λ b. let most = (limited capacity n (then-pass (within_limits capacity n) (within_block g0.rows g0.columns) b).0).0 in
+    then-agree (fitting all) _ _ _ refl (λ c. past p capacity (omega arith) ∙ sym (past q capacity (omega arith))))))
 
 -- a call that is refused by its sizes answers the refusal and leaves every slice
-module _ (old points : ℕ) (r : Run) (clear : List Float → List Float) (x : Refusal) (refused : sizes_asked points r ≡ Refused x) where
-  sizes-worked : worked old points r clear ≡ record { answer = NotSolved x; retarded = r.retarded; lesser = r.lesser; kernel = r.kernel; lesser_advanced = r.lesser_advanced }
+module _ (old points : ℕ) (r : Run) (clear : List Float → List Float) (x : Refusal) (refused : sizes_asked points r ≡ Err x) where
+  sizes-worked : worked old points r clear ≡ record { answer = Err x; retarded = r.retarded; lesser = r.lesser; kernel = r.kernel; lesser_advanced = r.lesser_advanced }
   unfolding checks_of
   sizes-worked = checks-end old points r clear x (then-refused (sizes_asked points r) _ x refused)
 
@@ -77,8 +84,8 @@ module _ (r : Run) where
   past_alike p q hp hq old old' = by-sizes (sizes_asked p r) refl
     where
       by-sizes : (v : Verdict) → sizes_asked p r ≡ v → append_to old p ≡ append_to old' q
-      by-sizes Pass e = let z = sizes_said p r e in absurd (let within = z.1 in let most = z.2.points-most in omega arith)
-      by-sizes (Refused x) e =
+      by-sizes (Ok tt) e = let z = sizes_said p r e in absurd (let within = z.1 in let most = z.2.points-most in omega arith)
+      by-sizes (Err x) e =
           sizes-worked old p r _ x e ∙ sym (sizes-worked old' q r _ x (ap (λ v. desk_known r.desk then v) (sym (sizes_alike r.form r.capacity p q r.orbitals (all_lent p r) hp hq)) ∙ e))
 
   pub append-cut : (k : ℕ) → k ≡ min r.points 256 → worked k (k + 1) (with_points r (k + 1)) (cleared_new r.capacity r.orbitals k (k + 1)) ≡ append_point r

@@ -1,18 +1,18 @@
 -- What the answers of a call's steps say: K and G^R, then X, then G^<. Each says whether all that is made is finite, and what it wrote is gone once the
 -- new places are cleared. Assumes nothing.
-use Rattle.std.specs.Prelude.{◌≡◌, ◌&&◌, ◌∷◌}
+use Rattle.refusal.specs.Verdict.{pass}
+use Rattle.std.specs.Prelude.{is_ok, ◌≡◌, ◌&&◌, ◌∷◌}
 use Rattle.lists.specs.Prelude.{sym, ap, ◌∙◌, Bool, true, false, cond, and-true, List, [], ℕ, leb, Float}
 use Rattle.block.specs.Operations.{zeros}
-use Rattle.refusal.specs.declared.Verdict.TheVariants.{Pass}
 use Rattle.two_time.specs.declared.sums.Sums.{Sums}
-use Rattle.two_time.specs.declared.sums.Summed.{Summed}
+use Rattle.two_time.specs.Summed.{Summed}
 use Rattle.two_time.specs.declared.sums.Sums.TheVariants.{LesserAdvanced, Lesser}
 use Rattle.two_time.specs.Layout.{TwoTime}
 use Rattle.two_time.specs.New.{written, cleared_new}
 use Rattle.two_time.specs.Sums.{new_numbers, new_finite}
 use Rattle.two_time.proofs.Cleared.{cleared-written}
 use Rattle.two_time.specs.Calls.{size_checks}
-use Rattle.two_time.specs.Outcome.{SumsOutcome, all_summed, new_sums, new_sums_said, flagged}
+use Rattle.two_time.specs.Outcome.{SumsOutcome, new_sums, new_sums_said, flagged}
 use Rattle.two_time.specs.Start.{Start, new_lesser_numbers, new_lesser_finite, new_lesser_from, holds_block}
 use Rattle.two_time.specs.Started.{empty-numbers, empty-finite, new-lesser_said}
 use Rattle.dyson.specs.Retarded.{new_retarded}
@@ -28,9 +28,9 @@ lesser_outcome (occupied g0) capacity n old points times retarded lesser_advance
 
 -- what its answer says of slices that have their length, where the form's slice holds its block
 module _ (capacity n old points : ℕ) (times retarded lesser_advanced out : List Float)
-    (passed : size_checks capacity n (leb old points && leb points capacity) (retarded ∷ lesser_advanced ∷ out ∷ []) ≡ Pass) where
+    (passed : size_checks capacity n (leb old points && leb points capacity) (retarded ∷ lesser_advanced ∷ out ∷ []) ≡ pass) where
   pub lesser_said : (form : Form) → HoldsBlock n form → {answer : Summed} {after : List Float}
-      → (let made = lesser_outcome form capacity n old points times retarded lesser_advanced out in (answer ≡ made.answer) × (after ≡ made.out)) → (ok : Bool) → ok ≡ all_summed answer
+      → (let made = lesser_outcome form capacity n old points times retarded lesser_advanced out in (answer ≡ made.answer) × (after ≡ made.out)) → (ok : Bool) → ok ≡ is_ok answer
       → (new_lesser_finite (start_of form capacity n retarded) capacity n old points times retarded lesser_advanced ≡ ok)
       × (after ≡ cond ok (new_lesser_numbers (start_of form capacity n retarded) capacity n old points times retarded lesser_advanced out) (cleared_new capacity n old points out))
   unfolding lesser_outcome start_of

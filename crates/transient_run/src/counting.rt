@@ -1,13 +1,11 @@
 // The counters of a session, and how many products a call forms (document 02, L3, L13 and L5).
-ghost use Rattle.std.specs.Prelude.{◌≡◌, ◌+◌, ◌<◌, ◌≤◌};
+ghost use Rattle.std.specs.Prelude.{Ok, ◌≡◌, ◌+◌, ◌<◌, ◌≤◌};
 ghost use Rattle.lists.specs.Prelude.{ℕ, min, List, Float};
-ghost use Rattle.transient_run.specs.declared.Solved.TheVariants.{Accepted};
 ghost use Rattle.transient_run.specs.Products.{formed, count_of};
 ghost use Rattle.transient_run.specs.Form.{form_by, start_products};
 ghost use Rattle.transient_run.specs.Calls.{counter_of, booked};
 
 use crate::{Kind, Session};
-use refusal::checks::least;
 
 // The counter of a desk.
 pub(crate) fn counter_of(session: Session, desk: usize) -> u64
@@ -20,7 +18,7 @@ pub(crate) fn counter_of(session: Session, desk: usize) -> u64
 // The session after an accepted call of that count.
 pub(crate) fn with_count(session: Session, desk: usize, count: u64) -> Session
     requires { (desk < 8) × (counter_of session desk + count ≤ 0xffff_ffff_ffff_ffff) }
-    ensures { result ≡ booked session desk (Accepted count) }
+    ensures { result ≡ booked session desk (Ok count) }
 {
     let mut products = session.products;
     products[desk] += count;
@@ -43,7 +41,7 @@ fn count_of(start: u64, points: usize) -> u64
     requires { start ≤ 2 }
     ensures { result ≡ count_of start (min points 256) }
 {
-    let n = least(points, 256) as u64;
+    let n = points.min(256) as u64;
     n * (n + 1) * (2 * n + 1) / 6 + n * n * (n + 1) - 3 * n + start * (n * n)
 }
 

@@ -4,8 +4,7 @@ use Rattle.std.specs.Prelude.{◌≡◌, ◌-◌, ◌≤◌, ◌<◌}
 use Rattle.lists.specs.Prelude.{refl, sym, ap, subst, ◌∙◌, true, ℕ, dec_lt, arith, ltb}
 use Rattle.complex.specs.Arithmetic.{czero, cfinite}
 use Rattle.complex.specs.Zeros.{Zeros, zero-zeros, zeros-finite}
-use Rattle.refusal.specs.declared.Verdict.TheVariants.{Pass}
-use Rattle.refusal.specs.Verdict.{zeroed}
+use Rattle.refusal.specs.Verdict.{pass, zeroed}
 use Rattle.two_time.specs.Layout.{TwoTime}
 use Rattle.two_time.specs.Relation.{Related}
 use Rattle.two_time.specs.WeightedSum.{partial_sum, weighted_sum}
@@ -30,7 +29,7 @@ use Rattle.two_dots.specs.Starts.{starts-related}
 
 -- ---- an accepted run is finite
 
-module _ (r : Run) (v : verdict_of 0 r.points r ≡ Pass) where
+module _ (r : Run) (v : verdict_of 0 r.points r ≡ pass) where
   abbrev green : TwoTime
   green = call_retarded 0 r.points r
 
@@ -90,7 +89,7 @@ module _ (first : Split) (r r₀ : Run) where
   abbrev last : ℕ
   last = r.points - 1
 
-  module _ (v : verdict_of 0 r.points r ≡ Pass) (v' : verdict_of 0 r'.points r' ≡ Pass) (split : Uncoupled first r) (split' : Uncoupled first r') (same : SameGiven first r r') where
+  module _ (v : verdict_of 0 r.points r ≡ pass) (v' : verdict_of 0 r'.points r' ≡ pass) (split : Uncoupled first r) (split' : Uncoupled first r') (same : SameGiven first r r') where
     inside : last < r.points
     inside = let s = (sizes 0 r.points r v).0 in omega arith
 
@@ -235,7 +234,7 @@ itself first r =
 -- what an accepted run makes of dots that do not couple does not couple them
 pub uncoupled-left : (first : Split) (r : Run) → is_accepted (transient_run r).answer ≡ true → Uncoupled first r → StaysUncoupled first r (transient_run r)
 uncoupled-left first r acc split =
-    let v : verdict_of 0 r.points r ≡ Pass = unfold transient_run worked in accepted (verdict_of 0 r.points r) _ acc in
+    let v : verdict_of 0 r.points r ≡ pass = unfold transient_run worked in accepted (verdict_of 0 r.points r) _ acc in
     stays-uncoupled first r r v v split split (itself first r)
 
 -- for every split and both forms of the run

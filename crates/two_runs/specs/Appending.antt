@@ -1,9 +1,8 @@
 -- A run over the first points, then one append after another at the same desk of the session, all lent the same operands; the first refusal ends it
 -- (document 02, L1, L3 and L13).
-use Rattle.std.specs.Prelude.{◌≡◌, ◌+◌, ◌-◌}
+use Rattle.std.specs.Prelude.{Result, Ok, Err, ◌≡◌, ◌+◌, ◌-◌}
 use Rattle.lists.specs.Prelude.{ℕ, zero, suc, min}
-use Rattle.transient_run.specs.declared.Solved.{Solved}
-use Rattle.transient_run.specs.declared.Solved.TheVariants.{Accepted, Refused as NotSolved}
+use Rattle.refusal.specs.declared.Refusal.{Refusal}
 use Rattle.transient_run.specs.Products.{count_of}
 use Rattle.transient_run.specs.Form.{start_products}
 use Rattle.transient_run.specs.Calls.{Run, run_of, booked, transient_run, append_point}
@@ -27,9 +26,9 @@ abbrev pub append_step : Run → ℕ → Step → Step
 append_step r p s = step_of s.session r.desk (append_point (onto r p s))
 
 -- another call is made only where those before were accepted: what they left, or what it leaves
-unfoldable pub next : Solved → Step → Step → Step
-next (Accepted count) before after = after
-next (NotSolved refusal) before after = before
+unfoldable pub next : Result ℕ Refusal → Step → Step → Step
+next (Ok count) before after = after
+next (Err refusal) before after = before
 
 -- k appends, from p points on, after calls that ended in s
 unfoldable pub appends : Run → ℕ → Step → ℕ → Step
@@ -45,5 +44,5 @@ run_then_append first r = let start = min first r.points in appends r start (run
 -- count, and "no other desk's counter changes"
 pub record AllPoints (r : Run) (s : Step) : Type 0 where
   pub left : transient_run r ≡ together (count_of (start_products r.form) r.points) s.outcome
-  pub session : s.session ≡ booked r.session r.desk (Accepted (count_of (start_products r.form) r.points))
+  pub session : s.session ≡ booked r.session r.desk (Ok (count_of (start_products r.form) r.points))
   pub room : Room r.session r.desk (count_of (start_products r.form) r.points)

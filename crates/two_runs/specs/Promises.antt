@@ -1,23 +1,36 @@
 -- What a run with its observables answers, and demand 3 of two such calls.
-use Rattle.std.specs.Prelude.{◌≡◌, ◌≤◌}
+use Rattle.std.specs.Prelude.{Option, Some, None, ◌≡◌, ◌≤◌}
 use Rattle.lists.specs.Prelude.{true, List, ℕ, Float}
-use Rattle.refusal.specs.declared.Verdict.{Verdict}
+use Rattle.refusal.specs.Verdict.{Verdict}
 use Rattle.matrix.specs.declared.DenseMatrix.{DenseMatrix}
 use Rattle.dyson.specs.Calls.{Solved as DysonSolved}
 use Rattle.transient_run.specs.declared.Session.{Session}
 use Rattle.transient_run.specs.declared.Booked.{Booked}
-use Rattle.transient_run.specs.Form.{Form, form_by}
-use Rattle.transient_run.specs.Calls.{Run, Outcome, is_accepted, booked, transient_run}
+use Rattle.transient_run.specs.Form.{Form}
+use Rattle.transient_run.specs.Form.Form.{empty, occupied}
+use Rattle.transient_run.specs.Calls.{Run, run_of, Outcome, is_accepted, booked, transient_run}
 use Rattle.observables.specs.declared.Observed.{Observed}
 use Rattle.observables.specs.Calls.{particle_number, one_body_expectation, bond_flow_into}
+use Rattle.causality.specs.Dyson.{call_of}
 use Rattle.causality.specs.Statement.{SameBlock, Comparable, Demanded}
 use Rattle.two_runs.specs.declared.Question.{Question}
 use Rattle.two_runs.specs.declared.Answers.{Answers}
-use Rattle.two_runs.specs.declared.Start.{Start}
+use Rattle.two_runs.specs.declared.Given.{Given}
+use Rattle.two_runs.specs.declared.DysonGiven.{DysonGiven}
 
--- the form of a run
-abbrev pub form_with : Start → Form
-form_with x = form_by x.kind x.g0.rows x.g0.columns x.g0.values
+-- the form of a run: from the block g0, where the device is occupied
+abbrev pub form_from : Option DenseMatrix → Form
+form_from None = empty
+form_from (Some g0) = occupied g0
+
+-- the run that is given x, whose outputs and scratch hold these slices: G^R, G^<, K and X
+abbrev pub run_with : Given → List Float → List Float → List Float → List Float → Run
+run_with x retarded lesser kernel lesser_advanced =
+    run_of (form_from x.g0) x.session x.desk x.shape x.tolerance x.times.now x.free.now x.self_energy.now x.lesser_self_energy.now retarded lesser kernel lesser_advanced
+
+-- and the Dyson call that is given x, as a run: G and K
+abbrev pub call_with : DysonGiven → List Float → List Float → Run
+call_with x retarded kernel = call_of x.points x.orbitals x.tolerance x.times.now x.free.now x.self_energy.now retarded kernel
 
 -- what a call answers and leaves, and the session after it
 pub record Step : Type 0 where

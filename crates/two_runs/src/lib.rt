@@ -4,10 +4,10 @@
 
 ghost use Rattle.std.specs.Prelude.{◌≡◌};
 ghost use Rattle.lists.specs.Prelude.{true};
-ghost use Rattle.transient_run.specs.Calls.{run_of, booked, transient_run, append_point, is_accepted};
+ghost use Rattle.transient_run.specs.Calls.{append_point, is_accepted};
 ghost use Rattle.causality.specs.Statement.{DysonDemanded};
-ghost use Rattle.causality.specs.Dyson.{call_of, dyson_of};
-ghost use Rattle.two_runs.specs.Promises.{form_with, step_in, run_answers, answers_in, solved_in, Blind};
+ghost use Rattle.causality.specs.Dyson.{dyson_of};
+ghost use Rattle.two_runs.specs.Promises.{run_with, call_with, step_of, run_step, step_in, run_answers, answers_in, solved_in, Blind};
 ghost use Rattle.two_runs.specs.Appending.{run_then_append, AllPoints};
 
 use complex::Complex;
@@ -15,10 +15,8 @@ use dyson::retarded_dyson_with_tolerance;
 use matrix::DenseMatrix;
 use observables::{Observed, bond_flow_into, one_body_expectation, particle_number};
 use refusal::Verdict;
-use refusal::checks::least;
 use transient_run::{
-    Booked, Kind, Session, Solved, append_point, append_point_occupied, transient_run,
-    transient_run_occupied,
+    Booked, Session, append_point, append_point_occupied, transient_run, transient_run_occupied,
 };
 use two_time::capacity::Shape;
 
@@ -42,79 +40,68 @@ pub struct Answers {
     pub flow: Observed,
 }
 
-// What each of two runs answers.
+// What a run or an append is given beside the slices that it writes.
 #[derive(Clone, Copy)]
-pub struct BothRuns {
-    pub first: Answers,
-    pub second: Answers,
+pub struct Given<'a> {
+    // The block g0 that an occupied device starts from; another starts empty.
+    pub g0: Option<DenseMatrix>,
+    pub session: Session,
+    pub desk: usize,
+    pub times: &'a [f64],
+    pub free: &'a [f64],
+    pub self_energy: &'a [f64],
+    pub lesser_self_energy: &'a [f64],
+    pub shape: Shape,
+    pub tolerance: f64,
 }
 
-// What each of two Dyson calls answers.
+// What a Dyson call is given beside the slices that it writes.
 #[derive(Clone, Copy)]
-pub struct BothVerdicts {
-    pub first: Verdict,
-    pub second: Verdict,
+pub struct DysonGiven<'a> {
+    pub times: &'a [f64],
+    pub free: &'a [f64],
+    pub self_energy: &'a [f64],
+    pub points: usize,
+    pub orbitals: usize,
+    pub tolerance: f64,
 }
 
-// The form of a run: what the device starts from, where it is occupied the block g0.
-#[derive(Clone, Copy)]
-pub struct Start {
-    pub kind: Kind,
-    pub g0: DenseMatrix,
-}
-
-// The run of that form.
+// The run of that form. The slices that it writes stay parameters: of a struct of them it would also have to say that each field is the reference that it was,
+// and as long.
 pub fn run_by(
-    start: Start,
-    session: Session,
-    desk: usize,
-    times: &[f64],
-    free: &[f64],
-    self_energy: &[f64],
-    lesser_self_energy: &[f64],
-    shape: Shape,
-    tolerance: f64,
+    given: Given<'_>,
     retarded: &mut [f64],
     lesser: &mut [f64],
     kernel: &mut [f64],
     lesser_advanced: &mut [f64],
 ) -> Booked
-    ensures { let made = transient_run (run_of (form_with start) session desk shape tolerance times.now free.now self_energy.now lesser_self_energy.now
-        retarded.old lesser.old kernel.old lesser_advanced.old) in
-        (result.answer ≡ made.answer)
-        × (result.session ≡ booked session desk made.answer)
-        × (retarded.new ≡ made.retarded)
-        × (lesser.new ≡ made.lesser)
-        × (kernel.new ≡ made.kernel)
-        × (lesser_advanced.new ≡ made.lesser_advanced) }
+    ensures { step_in result retarded.new lesser.new kernel.new lesser_advanced.new ≡ run_step (run_with given.entry retarded.old lesser.old kernel.old lesser_advanced.old) }
 {
-    let kind = start.kind;
-    let g0 = start.g0;
-    match kind {
-        Kind::Empty => transient_run(
-            session,
-            desk,
-            times,
-            free,
-            self_energy,
-            lesser_self_energy,
-            shape,
-            tolerance,
+    match given.g0 {
+        None => transient_run(
+            given.session,
+            given.desk,
+            given.times,
+            given.free,
+            given.self_energy,
+            given.lesser_self_energy,
+            given.shape,
+            given.tolerance,
             retarded,
             lesser,
             kernel,
             lesser_advanced,
         ),
-        Kind::Occupied => transient_run_occupied(
-            session,
-            desk,
-            times,
-            free,
-            self_energy,
-            lesser_self_energy,
+        Some(g0) => transient_run_occupied(
+            given.session,
+            given.desk,
+            given.times,
+            given.free,
+            given.self_energy,
+            given.lesser_self_energy,
             g0,
-            shape,
-            tolerance,
+            given.shape,
+            given.tolerance,
             retarded,
             lesser,
             kernel,
@@ -123,58 +110,42 @@ pub fn run_by(
     }
 }
 
-// The append of that form.
+// The append of that form. It stands beside `run_by`: one function for both would choose among four calls, and its contract between two.
 fn append_by(
-    start: Start,
-    session: Session,
-    desk: usize,
-    times: &[f64],
-    free: &[f64],
-    self_energy: &[f64],
-    lesser_self_energy: &[f64],
-    shape: Shape,
-    tolerance: f64,
+    given: Given<'_>,
     retarded: &mut [f64],
     lesser: &mut [f64],
     kernel: &mut [f64],
     lesser_advanced: &mut [f64],
 ) -> Booked
-    ensures { let made = append_point (run_of (form_with start) session desk shape tolerance times.now free.now self_energy.now lesser_self_energy.now
-        retarded.old lesser.old kernel.old lesser_advanced.old) in
-        (result.answer ≡ made.answer)
-        × (result.session ≡ booked session desk made.answer)
-        × (retarded.new ≡ made.retarded)
-        × (lesser.new ≡ made.lesser)
-        × (kernel.new ≡ made.kernel)
-        × (lesser_advanced.new ≡ made.lesser_advanced) }
+    ensures { step_in result retarded.new lesser.new kernel.new lesser_advanced.new
+        ≡ step_of given.entry.session given.entry.desk (append_point (run_with given.entry retarded.old lesser.old kernel.old lesser_advanced.old)) }
 {
-    let kind = start.kind;
-    let g0 = start.g0;
-    match kind {
-        Kind::Empty => append_point(
-            session,
-            desk,
-            times,
-            free,
-            self_energy,
-            lesser_self_energy,
-            shape,
-            tolerance,
+    match given.g0 {
+        None => append_point(
+            given.session,
+            given.desk,
+            given.times,
+            given.free,
+            given.self_energy,
+            given.lesser_self_energy,
+            given.shape,
+            given.tolerance,
             retarded,
             lesser,
             kernel,
             lesser_advanced,
         ),
-        Kind::Occupied => append_point_occupied(
-            session,
-            desk,
-            times,
-            free,
-            self_energy,
-            lesser_self_energy,
+        Some(g0) => append_point_occupied(
+            given.session,
+            given.desk,
+            given.times,
+            given.free,
+            given.self_energy,
+            given.lesser_self_energy,
             g0,
-            shape,
-            tolerance,
+            given.shape,
+            given.tolerance,
             retarded,
             lesser,
             kernel,
@@ -185,15 +156,7 @@ fn append_by(
 
 // A run, and each observable asked of it.
 pub fn run_and_ask(
-    start: Start,
-    session: Session,
-    desk: usize,
-    times: &[f64],
-    free: &[f64],
-    self_energy: &[f64],
-    lesser_self_energy: &[f64],
-    shape: Shape,
-    tolerance: f64,
+    given: Given<'_>,
     retarded: &mut [f64],
     lesser: &mut [f64],
     kernel: &mut [f64],
@@ -202,37 +165,20 @@ pub fn run_and_ask(
     block: DenseMatrix,
 ) -> Answers
     ensures { answers_in result retarded.new lesser.new kernel.new lesser_advanced.new
-        ≡ run_answers (run_of (form_with start) session desk shape tolerance times.now free.now self_energy.now lesser_self_energy.now retarded.old lesser.old kernel.old lesser_advanced.old) question block }
+        ≡ run_answers (run_with given.entry retarded.old lesser.old kernel.old lesser_advanced.old) question block }
 {
-    let run = run_by(
-        start,
-        session,
-        desk,
-        times,
-        free,
-        self_energy,
-        lesser_self_energy,
-        shape,
-        tolerance,
-        retarded,
-        lesser,
-        kernel,
-        lesser_advanced,
-    );
-    let time = question.time;
-    let real = question.tolerance;
-    let hopping = question.hopping;
-    let number = particle_number(lesser, shape, time, real);
-    let expectation = one_body_expectation(lesser, shape, time, block, real);
-    let flow = bond_flow_into(
-        lesser,
-        shape,
+    let run = run_by(given, retarded, lesser, kernel, lesser_advanced);
+    let Question {
         time,
-        question.a,
-        question.b,
+        tolerance,
+        a,
+        b,
         hopping,
-        question.charge,
-    );
+        charge,
+    } = question;
+    let number = particle_number(lesser, given.shape, time, tolerance);
+    let expectation = one_body_expectation(lesser, given.shape, time, block, tolerance);
+    let flow = bond_flow_into(lesser, given.shape, time, a, b, hopping, charge);
     Answers {
         run,
         number,
@@ -241,55 +187,31 @@ pub fn run_and_ask(
     }
 }
 
-// Two runs, each with its own form, session, desk, times, operands, sizes and tolerance, and the same question asked of each; the second run's names end in 2.
-// Where both are accepted and agree up to k, they leave the same rows to k, and at a time up to k the observables answer the same.
+// Two runs, each given its own, and the same question asked of each; the second run's names end in 2. Where both are accepted and agree up to k, they leave
+// the same rows to k, and at a time up to k the observables answer the same.
 pub fn two_runs(
-    start: Start,
-    session: Session,
-    desk: usize,
-    times: &[f64],
-    free: &[f64],
-    self_energy: &[f64],
-    lesser_self_energy: &[f64],
-    shape: Shape,
-    tolerance: f64,
+    given: Given<'_>,
     retarded: &mut [f64],
     lesser: &mut [f64],
     kernel: &mut [f64],
     lesser_advanced: &mut [f64],
     block: DenseMatrix,
-    start2: Start,
-    session2: Session,
-    desk2: usize,
-    times2: &[f64],
-    free2: &[f64],
-    self_energy2: &[f64],
-    lesser_self_energy2: &[f64],
-    shape2: Shape,
-    tolerance2: f64,
+    given2: Given<'_>,
     retarded2: &mut [f64],
     lesser2: &mut [f64],
     kernel2: &mut [f64],
     lesser_advanced2: &mut [f64],
     block2: DenseMatrix,
     question: Question,
-) -> BothRuns
-    ensures { let a = run_of (form_with start) session desk shape tolerance times.now free.now self_energy.now lesser_self_energy.now retarded.old lesser.old kernel.old lesser_advanced.old in
-        let b = run_of (form_with start2) session2 desk2 shape2 tolerance2 times2.now free2.now self_energy2.now lesser_self_energy2.now retarded2.old lesser2.old kernel2.old lesser_advanced2.old in
-        let x = answers_in result.first retarded.new lesser.new kernel.new lesser_advanced.new in
-        let y = answers_in result.second retarded2.new lesser2.new kernel2.new lesser_advanced2.new in
+) -> (Answers, Answers)
+    ensures { let a = run_with given.entry retarded.old lesser.old kernel.old lesser_advanced.old in
+        let b = run_with given2.entry retarded2.old lesser2.old kernel2.old lesser_advanced2.old in
+        let x = answers_in result.0 retarded.new lesser.new kernel.new lesser_advanced.new in
+        let y = answers_in result.1 retarded2.new lesser2.new kernel2.new lesser_advanced2.new in
         (x ≡ run_answers a question block) × (y ≡ run_answers b question block2) × Blind a b question block block2 x y }
 {
     let first = run_and_ask(
-        start,
-        session,
-        desk,
-        times,
-        free,
-        self_energy,
-        lesser_self_energy,
-        shape,
-        tolerance,
+        given,
         retarded,
         lesser,
         kernel,
@@ -298,15 +220,7 @@ pub fn two_runs(
         block,
     );
     let second = run_and_ask(
-        start2,
-        session2,
-        desk2,
-        times2,
-        free2,
-        self_energy2,
-        lesser_self_energy2,
-        shape2,
-        tolerance2,
+        given2,
         retarded2,
         lesser2,
         kernel2,
@@ -314,125 +228,90 @@ pub fn two_runs(
         question,
         block2,
     );
-    BothRuns { first, second }
+    (first, second)
 }
 
 // A run over the first points, or over all where there are no more, then one append after another up to all points, at one desk, each of one form and lent the
 // same operands; the first refusal ends it and is the answer. Where every call is accepted, the slices hold what the run over all points leaves, the desk's
 // counter has moved by its count, and the other desks' counters are as they were.
 pub fn run_then_append(
-    start: Start,
-    session: Session,
-    desk: usize,
-    times: &[f64],
-    free: &[f64],
-    self_energy: &[f64],
-    lesser_self_energy: &[f64],
-    shape: Shape,
+    given: Given<'_>,
     first: usize,
-    tolerance: f64,
     retarded: &mut [f64],
     lesser: &mut [f64],
     kernel: &mut [f64],
     lesser_advanced: &mut [f64],
 ) -> Booked
-    ensures { let run = run_of (form_with start) session desk shape tolerance times.now free.now self_energy.now lesser_self_energy.now retarded.old lesser.old kernel.old lesser_advanced.old in
+    ensures { let run = run_with given.entry retarded.old lesser.old kernel.old lesser_advanced.old in
         let made = step_in result retarded.new lesser.new kernel.new lesser_advanced.new in
         (made ≡ run_then_append first run) × (is_accepted result.answer ≡ true → AllPoints run made) }
 {
-    let mut points = least(first, shape.points);
+    let shape = given.shape;
+    let start = first.min(shape.points);
     let mut booked = run_by(
-        start,
-        session,
-        desk,
-        times,
-        free,
-        self_energy,
-        lesser_self_energy,
-        Shape {
-            points,
-            capacity: shape.capacity,
-            orbitals: shape.orbitals,
+        Given {
+            shape: Shape {
+                points: start,
+                ..shape
+            },
+            ..given
         },
-        tolerance,
         retarded,
         lesser,
         kernel,
         lesser_advanced,
     );
-    while points < shape.points {
-        let answer = booked.answer;
-        let Solved::Accepted(_) = answer else {
-            return booked;
+    for points in start..shape.points {
+        let Ok(_) = booked.answer else {
+            break;
         };
         booked = append_by(
-            start,
-            booked.session,
-            desk,
-            times,
-            free,
-            self_energy,
-            lesser_self_energy,
-            Shape {
-                points,
-                capacity: shape.capacity,
-                orbitals: shape.orbitals,
+            Given {
+                session: booked.session,
+                shape: Shape { points, ..shape },
+                ..given
             },
-            tolerance,
             retarded,
             lesser,
             kernel,
             lesser_advanced,
         );
-        points += 1;
     }
     booked
 }
 
-// Two Dyson calls; the second call's names end in 2. Where both are accepted and agree up to k, they leave the same rows to k.
-pub fn two_dysons(
-    times: &[f64],
-    free: &[f64],
-    self_energy: &[f64],
-    points: usize,
-    orbitals: usize,
-    tolerance: f64,
-    retarded: &mut [f64],
-    kernel: &mut [f64],
-    times2: &[f64],
-    free2: &[f64],
-    self_energy2: &[f64],
-    points2: usize,
-    orbitals2: usize,
-    tolerance2: f64,
-    retarded2: &mut [f64],
-    kernel2: &mut [f64],
-) -> BothVerdicts
-    ensures { let a = call_of points orbitals tolerance times.now free.now self_energy.now retarded.old kernel.old in
-        let b = call_of points2 orbitals2 tolerance2 times2.now free2.now self_energy2.now retarded2.old kernel2.old in
-        let x = solved_in result.first retarded.new kernel.new in
-        let y = solved_in result.second retarded2.new kernel2.new in
-        (x ≡ dyson_of a) × (y ≡ dyson_of b) × DysonDemanded a b x y }
+// One Dyson call.
+fn dyson_by(given: DysonGiven<'_>, retarded: &mut [f64], kernel: &mut [f64]) -> Verdict
+    ensures { solved_in result retarded.new kernel.new ≡ dyson_of (call_with given.entry retarded.old kernel.old) }
 {
-    let first = retarded_dyson_with_tolerance(
-        times,
-        free,
-        self_energy,
-        points,
-        orbitals,
-        tolerance,
+    retarded_dyson_with_tolerance(
+        given.times,
+        given.free,
+        given.self_energy,
+        given.points,
+        given.orbitals,
+        given.tolerance,
         retarded,
         kernel,
-    );
-    let second = retarded_dyson_with_tolerance(
-        times2,
-        free2,
-        self_energy2,
-        points2,
-        orbitals2,
-        tolerance2,
-        retarded2,
-        kernel2,
-    );
-    BothVerdicts { first, second }
+    )
+}
+
+// Two Dyson calls, each given its own; the second call's names end in 2. Where both are accepted and agree up to k, they leave the same rows to k.
+pub fn two_dysons(
+    given: DysonGiven<'_>,
+    retarded: &mut [f64],
+    kernel: &mut [f64],
+    given2: DysonGiven<'_>,
+    retarded2: &mut [f64],
+    kernel2: &mut [f64],
+) -> (Verdict, Verdict)
+    ensures { let a = call_with given.entry retarded.old kernel.old in
+        let b = call_with given2.entry retarded2.old kernel2.old in
+        let x = solved_in result.0 retarded.new kernel.new in
+        let y = solved_in result.1 retarded2.new kernel2.new in
+        (x ≡ dyson_of a) × (y ≡ dyson_of b) × DysonDemanded a b x y }
+{
+    let first = dyson_by(given, retarded, kernel);
+    let second = dyson_by(given2, retarded2, kernel2);
+    (first, second)
 }

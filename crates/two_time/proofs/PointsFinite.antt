@@ -1,9 +1,9 @@
 -- A slice whose entries at the points are finite passes check 7. Assumes nothing.
+use Rattle.refusal.specs.Verdict.{pass}
 use Rattle.std.specs.Prelude.{◌≡◌, ◌+◌, ◌*◌, ◌/◌, ◌%◌, ◌<◌}
 use Rattle.lists.specs.Prelude.{sym, ap, ◌∙◌, true, List, ℕ, div-add-mod', mod-lt, div-lt_iff_lt-mul, mul-pos, dec_lt, arith, get_or, Float, nan}
 use Rattle.lists.specs.Agreement.{both}
 use Rattle.complex.specs.Arithmetic.{finite, cfinite}
-use Rattle.refusal.specs.declared.Verdict.TheVariants.{Pass}
 use Rattle.refusal.specs.Agreement.{ask_yes, all_asked}
 use Rattle.two_time.specs.Layout.{place, read_as}
 use Rattle.two_time.specs.Calls.{point_entries}
@@ -35,6 +35,6 @@ module _ (capacity points n : ℕ) (xs : List Float) (some : 0 < n)
       at : {k m : ℕ} → k ≡ m → finite (get_or xs k nan) ≡ finite (get_or xs m nan)
       at l = ap (λ (m : ℕ). finite (get_or xs m nan)) l
 
-  pub points-finite : (operand : ℕ) → point_entries capacity points n operand xs ≡ Pass
+  pub points-finite : (operand : ℕ) → point_entries capacity points n operand xs ≡ pass
   unfolding point_entries
   points-finite operand = all_asked points _ (λ t ht. all_asked (points * (2 * (n * n))) _ (λ i hi. ask_yes _ _ (number_finite_lem t i ht hi)))

@@ -1,9 +1,7 @@
 -- Document 01: checks 1 to 7 as every call on two-time functions asks them; document 02, L1: the same in slices laid out for a capacity.
 use Rattle.std.specs.Prelude.{◌+◌, ◌*◌, ◌&&◌, ◌∷◌, ◌++◌}
 use Rattle.lists.specs.Prelude.{ℕ, suc, Bool, true, List, [], eqb, leb, length, Float}
-use Rattle.refusal.specs.declared.Verdict.{Verdict}
-use Rattle.refusal.specs.declared.Verdict.TheVariants.{Pass}
-use Rattle.refusal.specs.Verdict.{◌then◌, ask_all}
+use Rattle.refusal.specs.Verdict.{pass, Verdict, ◌then◌, ask_all}
 use Rattle.refusal.specs.Checks.{large_enough, not_empty, within_limits, within_block, fitting, finite_at, finite_entries, within_capacity}
 use Rattle.grid.specs.Calls.{grid_checks}
 use Rattle.two_time.specs.Layout.{length_of}
@@ -24,7 +22,7 @@ size_checks points orbitals fits slices =
 
 -- check 7: the operands from number k on
 unfoldable pub operand_checks : ℕ → List (List Float) → Verdict
-operand_checks k [] = Pass
+operand_checks k [] = pass
 operand_checks k (xs ∷ rest) = finite_entries k xs (length xs) then operand_checks (suc k) rest
 
 -- checks 1 to 7 of a call on a grid: check 3 asks outputs and scratch too
@@ -51,7 +49,7 @@ point_entries capacity points orbitals operand xs =
 
 -- the operands from number k on
 unfoldable pub point_operands : ℕ → ℕ → ℕ → ℕ → List (List Float) → Verdict
-point_operands capacity points orbitals k [] = Pass
+point_operands capacity points orbitals k [] = pass
 point_operands capacity points orbitals k (xs ∷ rest) = point_entries capacity points orbitals k xs then point_operands capacity points orbitals (suc k) rest
 
 -- checks 1, 2, 3, 16 and 7 of one function

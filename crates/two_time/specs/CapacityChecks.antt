@@ -1,12 +1,10 @@
 -- Checks 1, 2, 3, 16 and 7 as the code asks them, and what it says that they pass. Assumes nothing.
 use Rattle.std.specs.Prelude.{◌≡◌, ◌&&◌, ◌∷◌, ◌≤◌}
-use Rattle.lists.specs.Prelude.{refl, sym, ap, ◌∙◌, Bool, true, List, [], ℕ, suc, le_refl, le_trans, leb, length, Float, leb-true, le-leb}
+use Rattle.lists.specs.Prelude.{refl, sym, ◌∙◌, Bool, true, List, [], ℕ, suc, le_refl, le_trans, Float, leb-true, le-leb}
 use Rattle.lists.specs.Agreement.{both}
-use Rattle.refusal.specs.declared.Verdict.{Verdict}
-use Rattle.refusal.specs.declared.Verdict.TheVariants.{Pass}
-use Rattle.refusal.specs.Verdict.{by, ask, ◌then◌}
+use Rattle.refusal.specs.Verdict.{pass, Verdict, by, ask, ◌then◌}
 use Rattle.refusal.specs.Checks.{large_enough, within_limits, fitting, within_capacity}
-use Rattle.refusal.specs.Agreement.{ask_pass, ask_yes, then-pass, then-agree, then-after, then-assoc, then-end}
+use Rattle.refusal.specs.Agreement.{ask_pass, ask_yes, then-pass, then-agree, then-after, then-end}
 use Rattle.refusal.specs.Unchanged.{Keeping, passed, ask_keeping, then-keeping, all_keeping}
 use Rattle.two_time.specs.Layout.{length_of}
 use Rattle.two_time.specs.Calls.{all_long, all_fit, size_checks, capacity_checks, point_entries, point_operands, point_checks}
@@ -21,9 +19,14 @@ module _ (capacity points orbitals : ℕ) (fits : Bool) (slices : List (List Flo
       → v ≡ (large_enough points orbitals then within_limits capacity orbitals then fitting (fits && all) then within_capacity points capacity) → v ≡ capacity_checks capacity points orbitals fits slices
   unfolding capacity_checks all_fit
   capacity-asked all v h e =
-      e ∙ rw h (then-agree _ _ _ _ refl (λ l. then-agree _ _ _ _ refl (λ m. let most = limited capacity orbitals m in rw (le-leb _ _ most.0, le-leb _ _ most.1))))
+      let limits = within_limits capacity orbitals in
+      let room = within_capacity points capacity in
+      let asked : Verdict = fitting (fits && all_fit capacity orbitals slices) then room in
+      let told : Verdict = fitting (fits && all_long (length_of capacity orbitals) slices) then room in
+      e ∙ rw h (then-agree (large_enough points orbitals) _ (limits then asked) (limits then told) refl
+      (λ l. then-agree limits _ asked told refl (λ m. let most = limited capacity orbitals m in rw (le-leb _ _ most.0, le-leb _ _ most.1))))
 
-  pub capacity-passed : capacity_checks capacity points orbitals fits slices ≡ Pass → (2 ≤ points) × (points ≤ capacity) × SizesPassed capacity orbitals fits slices
+  pub capacity-passed : capacity_checks capacity points orbitals fits slices ≡ pass → (2 ≤ points) × (points ≤ capacity) × SizesPassed capacity orbitals fits slices
   unfolding capacity_checks fitting within_capacity
   capacity-passed e =
       let a = then-pass _ _ e in
@@ -51,8 +54,8 @@ module _ (capacity points orbitals : ℕ) (fits : Bool) (slices : List (List Flo
 
 -- back: points within the capacity, and slices of its length, pass
 pub capacity_pass : {capacity points orbitals : ℕ} {slices : List (List Float)} → 2 ≤ points → points ≤ capacity → SizesPassed capacity orbitals true slices
-    → capacity_checks capacity points orbitals true slices ≡ Pass
-unfolding capacity_checks large_enough within_limits fitting within_capacity ask ◌then◌
+    → capacity_checks capacity points orbitals true slices ≡ pass
+unfolding capacity_checks large_enough within_limits fitting within_capacity ask
 capacity_pass least within z =
     rw (le-leb _ _ least, le-leb _ _ z.orbitals-least, le-leb _ _ z.points-most, le-leb _ _ z.orbitals-most, z.long, le-leb _ _ within)
 

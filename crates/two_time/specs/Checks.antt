@@ -1,10 +1,8 @@
 -- Checks 1 to 7 as the code asks them: they never refuse by 10, and what it says that they pass. Assumes nothing.
 use Rattle.std.specs.Prelude.{◌≡◌, ◌∷◌, ◌++◌}
-use Rattle.lists.specs.Prelude.{refl, sym, ap, ◌∙◌, Bool, true, false, List, [], ℕ, suc, eqb, length, replicate, Float}
+use Rattle.lists.specs.Prelude.{refl, sym, ap, ◌∙◌, Bool, List, [], ℕ, suc, eqb, length, replicate, Float}
 use Rattle.complex.specs.Arithmetic.{plus_zero}
-use Rattle.refusal.specs.declared.Verdict.{Verdict}
-use Rattle.refusal.specs.declared.Verdict.TheVariants.{Pass}
-use Rattle.refusal.specs.Verdict.{◌then◌}
+use Rattle.refusal.specs.Verdict.{pass, Verdict, ◌then◌}
 use Rattle.refusal.specs.Checks.{large_enough, within_limits, fitting, finite_times, rising_times, finite_weights, finite_entries}
 use Rattle.refusal.specs.Agreement.{then-pass, then-end}
 use Rattle.refusal.specs.Unchanged.{Keeping, passed, ask_keeping, then-keeping, all_keeping}
@@ -38,7 +36,7 @@ module _ (points orbitals : ℕ) where
     inputs_keeping = then-keeping (sizes_keeping _ _) (then-keeping (times_keeping times) (operands_keeping 0 operands))
 
     -- what it says that they pass of the sizes
-    pub inputs-sizes : input_checks points orbitals times operands lent ≡ Pass → SizesPassed points orbitals (eqb (length times) points) (operands ++ lent)
+    pub inputs-sizes : input_checks points orbitals times operands lent ≡ pass → SizesPassed points orbitals (eqb (length times) points) (operands ++ lent)
     unfolding input_checks
     inputs-sizes h = sizes-passed points orbitals _ _ (then-pass _ _ h).0
 

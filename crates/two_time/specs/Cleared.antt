@@ -1,13 +1,12 @@
 -- What is written at new places is gone once they are cleared: a slice cleared afterwards is the slice cleared before. Assumes nothing.
 use Rattle.std.specs.Prelude.{◌≡◌, ◌⊎◌, ◌&&◌, ◌++◌, ◌+◌, ◌-◌, ◌*◌, ◌≤◌, ◌<◌}
-use Rattle.lists.specs.Prelude.{refl, sym, ap, ◌∙◌, inl, inr, ⊎_elim, Bool, true, false, true≢false, cond, and-false, List, ℕ, max, add-mul, mul_assoc, mul_left_comm, mul-le-mul_right, dec_lt, arith, digits_lt}
-use Rattle.lists.specs.Prelude.{length, get_or, take, drop, length-take-le, length-drop, get_or-append, get_or-append-add, get_or-take, get_or-drop, leb, ltb, le-leb, eq-eqb, Float, nan, put_mid, post_of}
+use Rattle.lists.specs.Prelude.{refl, ap, ◌∙◌, ⊎_elim, Bool, true, false, cond, List, ℕ, add-mul, mul_assoc, mul_left_comm, arith}
+use Rattle.lists.specs.Prelude.{length, get_or, take, drop, length-take-le, get_or-append, get_or-append-add, get_or-take, get_or-drop, leb, le-leb, eq-eqb, Float, put_mid, post_of}
 use Rattle.block.specs.Operations.{zeros}
-use Rattle.two_time.specs.Layout.{TwoTime, place, read_as, length_of}
+use Rattle.two_time.specs.Layout.{place, read_as, length_of}
 use Rattle.two_time.specs.Calls.{all_fit, all_long}
 use Rattle.two_time.specs.New.{is_new, written, cleared_new, fits_new}
-use Rattle.two_time.specs.Parts.{part-within, whole_length}
-use Rattle.two_time.specs.Written.{laid_agree, first_new, first-most, from_first, up_to, written_to}
+use Rattle.two_time.specs.Written.{laid_agree}
 
 -- ---- a list with its middle part replaced, elsewhere
 

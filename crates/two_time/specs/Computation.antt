@@ -5,7 +5,7 @@ use Rattle.lists.specs.Indexed.{fold, join, all_below}
 use Rattle.complex.specs.Arithmetic.{finite, size, larger, cadd, cmul, conj, cfinite}
 use Rattle.complex.specs.Sum.{sum_from, largest_from, largest_in}
 use Rattle.norm.specs.Norm.{norm}
-use Rattle.refusal.specs.Verdict.{ask, ◌then◌, ask_all, number_of, afterwards}
+use Rattle.refusal.specs.Verdict.{ask, ask_all, number_of, afterwards}
 use Rattle.refusal.specs.Checks.{large_enough, within_limits, fitting, finite_times, rising_times, finite_weights, finite_entries, valid_tolerance, retarded_at, finite_work}
 use Rattle.refusal.specs.Checks.{time_below, real_within}
 use Rattle.block.specs.Block.{lay_out}
@@ -24,7 +24,7 @@ arithmetic = tt
 
 -- the checks of document 01 in their order
 unfoldable pub checks : Unit {0}
-unfolding arithmetic ask ◌then◌ ask_all number_of afterwards large_enough within_limits fitting finite_times rising_times finite_weights finite_entries valid_tolerance retarded_at finite_work time_below real_within grid_checks all_long size_checks operand_checks input_checks
+unfolding arithmetic ask ask_all number_of afterwards large_enough within_limits fitting finite_times rising_times finite_weights finite_entries valid_tolerance retarded_at finite_work time_below real_within grid_checks all_long size_checks operand_checks input_checks
 checks = tt
 
 -- the sums at all places, and all of the above

@@ -1,10 +1,10 @@
 -- The factors of a product that is finite are finite, and so are those of each term of a sum over times that is finite on the way. Assumes nothing.
-use Rattle.std.specs.Prelude.{◌≡◌, ◌&&◌, ◌||◌, ◌+◌, ◌-◌, ◌≤◌, ◌<◌}
-use Rattle.lists.specs.Prelude.{sym, ap, ◌∙◌, Bool, true, false, ℕ, zero, suc, zero-add, ⊎_elim, eq-or-lt_of_le, arith, eqb, ne_eqb}
-use Rattle.lists.specs.Indexed.{fold, all_below}
+use Rattle.std.specs.Prelude.{◌≡◌, ◌&&◌, ◌+◌, ◌-◌, ◌≤◌, ◌<◌}
+use Rattle.lists.specs.Prelude.{sym, ap, ◌∙◌, true, ℕ, zero, suc, zero-add, ⊎_elim, eq-or-lt_of_le, arith, eqb, ne_eqb}
+use Rattle.lists.specs.Indexed.{fold}
 use Rattle.lists.specs.Agreement.{both, other, all-each}
 use Rattle.complex.specs.declared.Complex.{Complex}
-use Rattle.complex.specs.Arithmetic.{czero, cadd, cmul, cfinite}
+use Rattle.complex.specs.Arithmetic.{czero, cmul, cfinite}
 use Rattle.complex.specs.Sum.{sum_from}
 use Rattle.complex.specs.Finite.{cadd-finite, cmul-finite}
 use Rattle.block.specs.Block.{Entries}

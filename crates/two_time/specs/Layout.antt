@@ -1,12 +1,11 @@
 -- Document 01, "Kept, renewed, left behind": "A two-time function is a lent slice of binary64 numbers: block (t, t') row by row, in a block
 -- entry (a, b) row by row, real part before imaginary."
-use Rattle.std.specs.Prelude.{◌+◌, ◌*◌, ◌&&◌}
+use Rattle.std.specs.Prelude.{Option, Some, None, ◌+◌, ◌*◌, ◌&&◌}
 use Rattle.lists.specs.Prelude.{ℕ, Bool, cond, List, leb, ltb, length, Float}
 use Rattle.lists.specs.Indexed.{join, all_below}
+use Rattle.complex.specs.declared.Complex.{Complex}
 use Rattle.complex.specs.Numbers.{entry_at}
 use Rattle.block.specs.Block.{Entries, lay_out}
-use Rattle.two_time.specs.declared.layout.Stored.{Stored}
-use Rattle.two_time.specs.declared.layout.Stored.TheVariants.{Entry, Outside}
 
 -- the block at times t and u
 abbrev pub TwoTime : Type 0
@@ -29,9 +28,9 @@ abbrev pub length_of : ℕ → ℕ → ℕ
 length_of points orbitals = 2 * points * points * orbitals * orbitals
 
 -- an entry of a list that holds a function, where there is one
-unfoldable pub stored_at : ℕ → ℕ → List Float → ℕ → ℕ → ℕ → ℕ → Stored
+unfoldable pub stored_at : ℕ → ℕ → List Float → ℕ → ℕ → ℕ → ℕ → Option Complex
 stored_at stride orbitals xs t u a b =
-    cond (is_place stride orbitals t u a b && leb (length_of stride orbitals) (length xs)) (Entry (read_as stride orbitals xs t u a b)) Outside
+    cond (is_place stride orbitals t u a b && leb (length_of stride orbitals) (length xs)) (Some (read_as stride orbitals xs t u a b)) None
 
 -- a two-time function laid out as such a list
 unfoldable pub lay_out_all : ℕ → ℕ → TwoTime → List Float

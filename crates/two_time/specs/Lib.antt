@@ -6,6 +6,7 @@ pub mod Calls
 pub mod New
 pub mod WeightedSum
 pub mod Sums
+pub mod Summed
 pub mod Outcome
 pub mod Start
 pub mod Example

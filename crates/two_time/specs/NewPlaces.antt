@@ -1,12 +1,10 @@
 -- A test of the new places is a test of each. Assumes nothing.
 use Rattle.std.specs.Prelude.{◌≡◌, ◌≤◌, ◌<◌}
-use Rattle.lists.specs.Prelude.{sym, ◌∙◌, Bool, true, List, ℕ, max, dec_lt, arith, Float}
+use Rattle.lists.specs.Prelude.{Bool, true, ℕ, max, dec_lt, arith}
 use Rattle.lists.specs.Indexed.{all_in}
 use Rattle.lists.specs.Agreement.{all-each, each_all}
-use Rattle.block.specs.Agreement.{Agree}
-use Rattle.two_time.specs.Layout.{TwoTime, read_as}
-use Rattle.two_time.specs.New.{written, every_new}
-use Rattle.two_time.specs.Written.{laid_read, laid_agree, length-written, new_is, old-is, past_is}
+use Rattle.two_time.specs.New.{every_new}
+use Rattle.two_time.specs.Written.{new_is, old-is}
 
 module _ (n old points : ℕ) (p : ℕ → ℕ → ℕ → ℕ → Bool) where
   abbrev EachNew : Type 0

@@ -1,10 +1,9 @@
 -- Where entries stand, within the limits of N and n: every place lies in its function, every number on the way to it fits, and whether an entry is
 -- there is asked by numbers that fit, N and n cut where they are past their limits anyway. Assumes nothing.
-use Rattle.std.specs.Prelude.{◌≡◌, ◌+◌, ◌-◌, ◌*◌, ◌≤◌, ◌<◌, ◌&&◌}
-use Rattle.lists.specs.Prelude.{refl, ap, ℕ, min, min-eq_left, le_trans, add-zero, add-mul, suc-mul, mul-le-mul_left, mul-le-mul_right}
+use Rattle.std.specs.Prelude.{Some, ◌≡◌, ◌+◌, ◌*◌, ◌≤◌, ◌<◌, ◌&&◌}
+use Rattle.lists.specs.Prelude.{refl, ℕ, min, min-eq_left, le_trans, mul-le-mul_left, mul-le-mul_right}
 use Rattle.lists.specs.Prelude.{mul_assoc, arith, digits_lt, leb, ltb, Bool, true, false, List, length, Float, leb-true, ltb-true, le-leb, lt-ltb}
 use Rattle.lists.specs.Agreement.{both}
-use Rattle.two_time.specs.declared.layout.Stored.TheVariants.{Entry}
 use Rattle.two_time.specs.Layout.{place, is_place, length_of, read_as, stored_at}
 
 -- (t, u) is a place of a function with that stride, (a, b) an entry of its blocks, and both are within the limits of check 2
@@ -106,6 +105,6 @@ pub within-asked : (stride n : ℕ) (xs : List Float) (t u a b : ℕ)
 within-asked stride n xs t u a b = and_agree _ _ _ (λ h. let p : Placed stride n t u a b = is-placed stride n t u a b h in rw (cut-length p))
 
 -- an entry that is there
-pub read-placed : {stride n t u a b : ℕ} (xs : List Float) → Placed stride n t u a b → length_of stride n ≤ length xs → stored_at stride n xs t u a b ≡ Entry (read_as stride n xs t u a b)
+pub read-placed : {stride n t u a b : ℕ} (xs : List Float) → Placed stride n t u a b → length_of stride n ≤ length xs → stored_at stride n xs t u a b ≡ Some (read_as stride n xs t u a b)
 unfolding stored_at
 read-placed xs p l = rw (placed-is p, le-leb _ _ l)

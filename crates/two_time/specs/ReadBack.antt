@@ -1,13 +1,13 @@
 -- A two-time function that is laid out is read back number by number, and has the document's length. Assumes nothing.
 use Rattle.std.specs.Prelude.{◌≡◌, ◌+◌, ◌*◌, ◌<◌}
-use Rattle.lists.specs.Prelude.{refl, sym, ap, ◌∙◌, List, ℕ, add-mul, mul_assoc, mul_comm, mul_left_comm, add-zero, arith, lit<, digits_lt, length}
+use Rattle.lists.specs.Prelude.{refl, ap, ◌∙◌, List, ℕ, add-mul, mul_assoc, mul_comm, mul_left_comm, arith, digits_lt, length}
 use Rattle.lists.specs.Prelude.{get_or, Float, nan}
 use Rattle.lists.specs.Indexed.{join}
 use Rattle.lists.specs.Reading.{length-join, get_or-join}
 use Rattle.complex.specs.Numbers.{pair}
 use Rattle.block.specs.Block.{Entries, lay_out}
 use Rattle.block.specs.Length.{length-rows}
-use Rattle.two_time.specs.Layout.{TwoTime, place, read_as, length_of, lay_out_all}
+use Rattle.two_time.specs.Layout.{TwoTime, place, length_of, lay_out_all}
 
 module _ (n : ℕ) where
   length_digits : (f : Entries) → length (lay_out n n f) ≡ n * (n * 2)

@@ -2,9 +2,7 @@
 use Rattle.std.specs.Prelude.{◌≡◌, ◌&&◌, ◌∷◌, ◌≤◌}
 use Rattle.lists.specs.Prelude.{refl, sym, ◌∙◌, Bool, true, false, List, [], ℕ, min, min-eq_left, leb, eqb, length, Float, leb-true, eqb-true, le-leb, eq-eqb}
 use Rattle.lists.specs.Agreement.{both}
-use Rattle.refusal.specs.declared.Verdict.{Verdict}
-use Rattle.refusal.specs.declared.Verdict.TheVariants.{Pass}
-use Rattle.refusal.specs.Verdict.{by, ask, ◌then◌}
+use Rattle.refusal.specs.Verdict.{pass, Verdict, by, ask, ◌then◌}
 use Rattle.refusal.specs.Checks.{large_enough, within_limits, fitting}
 use Rattle.refusal.specs.Agreement.{ask_pass, then-pass, then-agree}
 use Rattle.two_time.specs.Layout.{length_of}
@@ -16,11 +14,11 @@ orders : (a b c d : ℕ) → leb a b && leb c d ≡ true → (a ≤ b) × (c ≤
 orders a b c d e = let tests = both (leb a b) (leb c d) e in (leb-true a b tests.0, leb-true c d tests.1)
 
 module _ (points orbitals : ℕ) where
-  pub large : large_enough points orbitals ≡ Pass → (2 ≤ points) × (1 ≤ orbitals)
+  pub large : large_enough points orbitals ≡ pass → (2 ≤ points) × (1 ≤ orbitals)
   unfolding large_enough
   large e = orders 2 points 1 orbitals (ask_pass (leb 2 points && leb 1 orbitals) (by 1) e)
 
-  pub limited : within_limits points orbitals ≡ Pass → (points ≤ 256) × (orbitals ≤ 16)
+  pub limited : within_limits points orbitals ≡ pass → (points ≤ 256) × (orbitals ≤ 16)
   unfolding within_limits
   limited e = orders points 256 orbitals 16 (ask_pass (leb points 256 && leb orbitals 16) (by 2) e)
 
@@ -38,9 +36,13 @@ module _ (points orbitals : ℕ) (fits : Bool) (slices : List (List Float)) wher
   pub sizes-checks : (large_enough points orbitals then within_limits points orbitals then fitting (fits && all_fit points orbitals slices)) ≡ size_checks points orbitals fits slices
   unfolding size_checks all_fit
   sizes-checks =
-      then-agree _ _ _ _ refl (λ l. then-agree _ _ _ _ refl (λ e. let most = limited points orbitals e in rw (le-leb _ _ most.0, le-leb _ _ most.1)))
+      let limits = within_limits points orbitals in
+      let asked = fitting (fits && all_fit points orbitals slices) in
+      let told = fitting (fits && all_long (length_of points orbitals) slices) in
+      then-agree (large_enough points orbitals) _ (limits then asked) (limits then told) refl
+      (λ l. then-agree limits _ asked told refl (λ e. let most = limited points orbitals e in rw (le-leb _ _ most.0, le-leb _ _ most.1)))
 
-  pub sizes-passed : size_checks points orbitals fits slices ≡ Pass → SizesPassed points orbitals fits slices
+  pub sizes-passed : size_checks points orbitals fits slices ≡ pass → SizesPassed points orbitals fits slices
   unfolding size_checks fitting
   sizes-passed e =
       let first = then-pass _ _ e in
@@ -114,6 +116,6 @@ unfolding all_long
 long-none count = refl
 
 pub sizes_pass : {points orbitals : ℕ} {fits : Bool} {others : List (List Float)} (slices : List (List Float))
-    → SizesPassed points orbitals fits others → all_long (length_of points orbitals) slices ≡ true → size_checks points orbitals true slices ≡ Pass
-unfolding size_checks large_enough within_limits fitting ask ◌then◌
+    → SizesPassed points orbitals fits others → all_long (length_of points orbitals) slices ≡ true → size_checks points orbitals true slices ≡ pass
+unfolding size_checks large_enough within_limits fitting ask
 sizes_pass slices z long = rw (le-leb _ _ z.points-least, le-leb _ _ z.orbitals-least, le-leb _ _ z.points-most, le-leb _ _ z.orbitals-most, long)

@@ -1,25 +1,25 @@
 -- G^< by its start: the empty form is the sum of document 01, starts that agree make the same, and with g0 at +0 the start is +0 where G^R(·,0) is finite.
 -- Assumes nothing.
-use Rattle.std.specs.Prelude.{◌≡◌, ◌&&◌, ◌||◌, ◌∷◌, ◌<◌}
-use Rattle.lists.specs.Prelude.{refl, sym, ap, ap₂, ◌∙◌, Bool, and-true, true, false, not, cond, List, [], ℕ, max, arith, leb, ltb, ltb-true, Float}
+use Rattle.refusal.specs.Verdict.{pass}
+use Rattle.std.specs.Prelude.{is_ok, ◌≡◌, ◌&&◌, ◌||◌, ◌∷◌, ◌<◌}
+use Rattle.lists.specs.Prelude.{refl, ap₂, ◌∙◌, Bool, and-true, true, false, not, cond, List, [], ℕ, max, arith, leb, ltb, ltb-true, Float}
 use Rattle.std.specs.Float.Ieee as Ieee
 use Rattle.lists.specs.Indexed.{all_in}
 use Rattle.lists.specs.Agreement.{both, all_agree}
 use Rattle.complex.specs.declared.Complex.{Complex}
 use Rattle.complex.specs.Arithmetic.{finite, cfinite}
-use Rattle.refusal.specs.declared.Verdict.TheVariants.{Pass}
 use Rattle.block.specs.Block.{Entries, entries_in}
 use Rattle.block.specs.Operations.{adjoint, zeros}
 use Rattle.block.specs.Agreement.{Agree, product_agree, adjoint_agree}
 use Rattle.two_time.specs.declared.sums.Sums.TheVariants.{Lesser}
-use Rattle.two_time.specs.declared.sums.Summed.{Summed}
+use Rattle.two_time.specs.Summed.{Summed}
 use Rattle.two_time.specs.Layout.{TwoTime, read_as}
 use Rattle.two_time.specs.Calls.{size_checks}
 use Rattle.two_time.specs.New.{is_new, written, every_new, cleared_new}
-use Rattle.two_time.specs.WeightedSum.{Terms, weighted_sum, finite_sum}
+use Rattle.two_time.specs.WeightedSum.{Terms}
 use Rattle.two_time.specs.Sums.{terms_at, sums_of, new_numbers, new_finite}
 use Rattle.two_time.specs.Start.{Start, empty, occupied_first, occupied_block, occupied, started_at, lesser_at, new_lesser_numbers, new_lesser_finite, occupied_by, holds_block, new_lesser_from}
-use Rattle.two_time.specs.Outcome.{new_sums, all_summed, new_flag}
+use Rattle.two_time.specs.Outcome.{new_sums, new_flag}
 use Rattle.two_time.specs.Agreement.{AgreeTerms, weighted_agree}
 use Rattle.two_time.specs.FiniteAgreement.{finite_agree}
 use Rattle.two_time.specs.Factors.{FiniteBlock}
@@ -138,8 +138,8 @@ module _ (capacity n old points : ℕ) (times retarded lesser_advanced g0 : List
 -- ---- what `new_lesser_from` answers once checks 1 to 3 pass
 
 pub new-lesser_said : (capacity n old points : ℕ) (times retarded lesser_advanced g0 out : List Float)
-    → size_checks capacity n ((leb old points && leb points capacity) && holds_block n g0) (retarded ∷ lesser_advanced ∷ out ∷ []) ≡ Pass → {answer : Summed} {after : List Float}
-    → (let made = new_lesser_from capacity n old points times retarded lesser_advanced g0 out in (answer ≡ made.answer) × (after ≡ made.out)) → (ok : Bool) → ok ≡ all_summed answer
+    → size_checks capacity n ((leb old points && leb points capacity) && holds_block n g0) (retarded ∷ lesser_advanced ∷ out ∷ []) ≡ pass → {answer : Summed} {after : List Float}
+    → (let made = new_lesser_from capacity n old points times retarded lesser_advanced g0 out in (answer ≡ made.answer) × (after ≡ made.out)) → (ok : Bool) → ok ≡ is_ok answer
     → (new_lesser_finite (occupied_by capacity n g0 retarded) capacity n old points times retarded lesser_advanced ≡ ok)
     × (after ≡ cond ok (new_lesser_numbers (occupied_by capacity n g0 retarded) capacity n old points times retarded lesser_advanced out) (cleared_new capacity n old points out))
 unfolding new_lesser_from

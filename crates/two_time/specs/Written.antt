@@ -1,9 +1,9 @@
 -- Slices laid out for a capacity: any is laid out of what is read from it, new places are read back, and neighbouring blocks are written in their
 -- place. Assumes nothing.
 use Rattle.std.specs.Prelude.{◌≡◌, ◌⊎◌, ◌&&◌, ◌||◌, ◌∷◌, ◌++◌, ◌+◌, ◌-◌, ◌*◌, ◌/◌, ◌%◌, ◌≤◌, ◌<◌}
-use Rattle.lists.specs.Prelude.{refl, sym, ap, ap₂, ◌∙◌, inl, inr, ⊎_elim, Bool, and-false, true, false, not, cond, List, [], append_assoc, append-nil, ℕ, suc, max}
-use Rattle.lists.specs.Prelude.{div-add-mod', mul_comm, mul_assoc, mul_left_comm, add-zero, add-mul, mul-le-mul_right, dec_lt, arith, length, get_or, length-append, take, drop, take_at, drop_at, ext_get_or, leb, ltb, ltb-true, ltb-false, lt-ltb, le-ltb, le-leb, lt-leb, Float, nan, put_mid}
-use Rattle.lists.specs.Indexed.{join, all_below, all_in}
+use Rattle.lists.specs.Prelude.{refl, sym, ap, ap₂, ◌∙◌, inl, inr, ⊎_elim, Bool, and-false, true, false, not, cond, List, [], append_assoc, ℕ, max}
+use Rattle.lists.specs.Prelude.{div-add-mod', mul_comm, mul_assoc, add-zero, add-mul, mul-le-mul_right, dec_lt, arith, length, get_or, length-append, take_at, drop_at, ext_get_or, leb, ltb, ltb-true, ltb-false, lt-ltb, le-ltb, le-leb, lt-leb, Float, nan, put_mid}
+use Rattle.lists.specs.Indexed.{join, all_below}
 use Rattle.lists.specs.Agreement.{join_agree, all_agree, each_all}
 use Rattle.lists.specs.Reading.{length-join, get_or-join}
 use Rattle.lists.specs.Steps.{join-add, join_flat, all-add}
@@ -12,7 +12,7 @@ use Rattle.complex.specs.Numbers.{pair, entry_at}
 use Rattle.block.specs.Block.{Entries, lay_out}
 use Rattle.block.specs.Length.{length-block}
 use Rattle.block.specs.Agreement.{Agree}
-use Rattle.two_time.specs.Layout.{TwoTime, place, read_as, length_of, lay_out_all, everywhere}
+use Rattle.two_time.specs.Layout.{TwoTime, read_as, length_of, lay_out_all, everywhere}
 use Rattle.two_time.specs.New.{is_new, written, every_new}
 use Rattle.two_time.specs.ReadBack.{length-all}
 use Rattle.two_time.specs.Places.{product-most, sized}

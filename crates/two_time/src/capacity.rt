@@ -40,6 +40,7 @@ fn clear_rows(shape: Shape, old: usize, xs: &mut [f64])
     let orbitals = shape.orbitals;
     let block = 2 * (orbitals * orbitals);
     let width = capacity * block;
+    // By index: once `chunks_mut` is over a proof does not know what it wrote.
     for t in 0..points {
         let from = first_new(old, t);
         let start = t * width + from * block;
@@ -63,19 +64,22 @@ pub fn clear_new(shape: Shape, old: usize, xs: &mut [f64])
 pub fn check_capacity(shape: Shape, fits: bool) -> Verdict
     ensures { result ≡ (large_enough shape.points shape.orbitals then within_limits shape.capacity shape.orbitals then fitting fits then within_capacity shape.points shape.capacity) }
 {
-    let room = fitting(fits).then(within_capacity(shape.points, shape.capacity));
-    let limits = within_limits(shape.capacity, shape.orbitals).then(room);
-    large_enough(shape.points, shape.orbitals).then(limits)
+    large_enough(shape.points, shape.orbitals)?;
+    within_limits(shape.capacity, shape.orbitals)?;
+    fitting(fits)?;
+    within_capacity(shape.points, shape.capacity)
 }
 
 // The same with a block beside the slices, each of the functions before the block: `fits` says whether the block is n by n too.
 pub fn check_block_sizes(shape: Shape, rows: usize, columns: usize, fits: bool) -> Verdict
     ensures { result ≡ block_sizes shape.capacity shape.points shape.orbitals rows columns fits }
 {
-    let some = large_enough(shape.points, shape.orbitals).then(not_empty(rows, columns));
-    let most = within_limits(shape.capacity, shape.orbitals).then(within_block(rows, columns));
-    let room = fitting(fits).then(within_capacity(shape.points, shape.capacity));
-    some.then(most.then(room))
+    large_enough(shape.points, shape.orbitals)?;
+    not_empty(rows, columns)?;
+    within_limits(shape.capacity, shape.orbitals)?;
+    within_block(rows, columns)?;
+    fitting(fits)?;
+    within_capacity(shape.points, shape.capacity)
 }
 
 // 7 of the entries with both indices below the points, row by row.
@@ -89,12 +93,9 @@ fn finite_points(operand: usize, xs: &[f64], shape: Shape) -> Verdict
     let block = 2 * (orbitals * orbitals);
     let width = capacity * block;
     for t in 0..points {
-        let row = entries_from(operand, xs, t * width, points * block);
-        let Verdict::Pass = row else {
-            return row;
-        };
+        entries_from(operand, xs, t * width, points * block)?;
     }
-    Verdict::Pass
+    Ok(())
 }
 
 // 1, 2, 3, 16 and 7 of the operand of that number.
@@ -102,9 +103,6 @@ pub fn check_points(operand: usize, xs: &[f64], shape: Shape) -> Verdict
     ensures { result ≡ point_checks shape.capacity shape.points shape.orbitals operand xs.now }
 {
     let fits = has_length(shape.capacity, shape.orbitals, xs);
-    let verdict = check_capacity(shape, fits);
-    let Verdict::Pass = verdict else {
-        return verdict;
-    };
+    check_capacity(shape, fits)?;
     finite_points(operand, xs, shape)
 }

@@ -14,18 +14,15 @@ use refusal::checks::{finite_entries, fitting, large_enough, within_limits};
 pub fn has_length(points: usize, orbitals: usize, xs: &[f64]) -> bool
     ensures { result ≡ all_fit points orbitals (xs.now ∷ []) }
 {
-    let limits = (points <= 256) & (orbitals <= 16);
-    limits & (xs.len() == function_length(points, orbitals))
+    ((points <= 256) & (orbitals <= 16)) & (xs.len() == function_length(points, orbitals))
 }
 
 // Whether n is within its limit and a slice holds an n by n block, and perhaps more.
+#[tactic(auto, unfolding(crate::specs::Start::holds_block))]
 pub fn holds_block(orbitals: usize, xs: &[f64]) -> bool
     ensures { result ≡ holds_block orbitals xs.now }
 {
-    if 16 < orbitals {
-        return false;
-    }
-    2 * (orbitals * orbitals) <= xs.len()
+    orbitals <= 16 && 2 * (orbitals * orbitals) <= xs.len()
 }
 
 // The first of these of four slices.
@@ -39,19 +36,18 @@ pub fn all_fit(
 ) -> bool
     ensures { result ≡ all_fit points orbitals (first.now ∷ second.now ∷ third.now ∷ fourth.now ∷ []) }
 {
-    let first_fits = has_length(points, orbitals, first);
-    let second_fits = has_length(points, orbitals, second);
-    let third_fits = has_length(points, orbitals, third);
-    let fourth_fits = has_length(points, orbitals, fourth);
-    first_fits & (second_fits & (third_fits & fourth_fits))
+    has_length(points, orbitals, first)
+        & (has_length(points, orbitals, second)
+            & (has_length(points, orbitals, third) & has_length(points, orbitals, fourth)))
 }
 
 // 1, 2 and 3: `fits` says whether each lent slice has its length.
 pub fn check_sizes(points: usize, orbitals: usize, fits: bool) -> Verdict
     ensures { result ≡ (large_enough points orbitals then within_limits points orbitals then fitting fits) }
 {
-    let limits = within_limits(points, orbitals);
-    large_enough(points, orbitals).then(limits.then(fitting(fits)))
+    large_enough(points, orbitals)?;
+    within_limits(points, orbitals)?;
+    fitting(fits)
 }
 
 // 7, of the operand of that number.

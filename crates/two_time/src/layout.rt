@@ -7,26 +7,18 @@ ghost use Rattle.two_time.specs.Layout.{place, is_place, read_as, stored_at, len
 ghost use Rattle.two_time.specs.Places.{Placed};
 
 use complex::Complex;
-use refusal::checks::least;
-
-// What a slice holds at a place of a function.
-#[derive(Clone, Copy)]
-pub enum Stored {
-    Entry(Complex),
-    // The indices, N, n or the slice do not reach.
-    Outside,
-}
 
 // How many numbers a function has, 2·N·N·n·n. N and n are cut to their limits, so that the product fits.
 pub fn function_length(points: usize, orbitals: usize) -> usize
     ensures { result ≡ length_of (min points 256) (min orbitals 16) }
 {
-    let most_points = least(points, 256);
-    let most_orbitals = least(orbitals, 16);
+    let most_points = points.min(256);
+    let most_orbitals = orbitals.min(16);
     2 * most_points * most_points * most_orbitals * most_orbitals
 }
 
 // Where the real part of entry (a, b) of block (t, u) stands.
+#[tactic(auto, using(crate::specs::Places::within))]
 fn place(stride: usize, orbitals: usize, t: usize, u: usize, a: usize, b: usize) -> usize
     requires { Placed stride orbitals t u a b }
     ensures { (result ≡ place stride orbitals t u a b) × (result + 1 < length_of stride orbitals) }
@@ -53,6 +45,7 @@ fn entry(
 }
 
 // Whether (t, u) is a place and (a, b) an entry there, within the limits of N and n.
+#[tactic(auto, unfolding(crate::specs::Layout::is_place))]
 fn is_place(stride: usize, orbitals: usize, t: usize, u: usize, a: usize, b: usize) -> bool
     ensures { result ≡ is_place stride orbitals t u a b }
 {
@@ -60,7 +53,7 @@ fn is_place(stride: usize, orbitals: usize, t: usize, u: usize, a: usize, b: usi
     limits & (((t < stride) & (u < stride)) & ((a < orbitals) & (b < orbitals)))
 }
 
-// Entry (a, b) of block (t, u), where there is one.
+// Entry (a, b) of block (t, u), where the indices, N, n and the slice reach.
 pub fn read(
     xs: &[f64],
     stride: usize,
@@ -69,21 +62,19 @@ pub fn read(
     u: usize,
     a: usize,
     b: usize,
-) -> Stored
+) -> Option<Complex>
     ensures { result ≡ stored_at stride orbitals xs.now t u a b }
 {
     let room = function_length(stride, orbitals) <= xs.len();
     if is_place(stride, orbitals, t, u, a, b) & room {
-        return Stored::Entry(entry(xs, stride, orbitals, t, u, a, b));
+        return Some(entry(xs, stride, orbitals, t, u, a, b));
     }
-    Stored::Outside
+    None
 }
 
 // Leaves +0 throughout.
 pub fn clear(xs: &mut [f64])
     ensures { xs.new ≡ replicate (length xs.old) plus_zero }
 {
-    for i in 0..xs.len() {
-        xs[i] = 0.0;
-    }
+    xs.fill(0.0);
 }

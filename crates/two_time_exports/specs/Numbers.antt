@@ -1,34 +1,30 @@
 -- An observable and a report in numbers.
-use Rattle.std.specs.Prelude.{◌∷◌}
-use Rattle.lists.specs.Prelude.{ℕ, List, [], eqb, length, get_or, replicate, Float, nan}
+use Rattle.refusal.specs.declared.Refusal.{Refusal}
+use Rattle.std.specs.Prelude.{Result, Ok, Err, ◌∷◌}
+use Rattle.lists.specs.Prelude.{ℕ, Bool, List, [], eqb, length, get_or, replicate, Float, nan}
 use Rattle.complex.specs.Arithmetic.{plus_zero}
-use Rattle.refusal.specs.declared.Verdict.{Verdict}
-use Rattle.refusal.specs.declared.Verdict.TheVariants.{Pass, Refused}
-use Rattle.refusal.specs.declared.Decision.{Decision}
-use Rattle.refusal.specs.declared.Decision.TheVariants.{Refused as Undecided}
+use Rattle.refusal.specs.Verdict.{pass, Verdict}
 use Rattle.refusal.specs.Checks.{fitting}
 use Rattle.observables.specs.declared.Observed.{Observed}
 use Rattle.observables.specs.declared.Observed.TheVariants.{Number, NotReal, Refused as NotObserved}
 use Rattle.report.specs.declared.ConsistencyReport.{ConsistencyReport}
 use Rattle.report.specs.Calls.{is_consistent}
-use Rattle.report.specs.declared.Reported.{Reported}
-use Rattle.report.specs.declared.Reported.TheVariants.{Of, Refused as NotReported}
 use Rattle.answers.specs.declared.numbers.Numbers.{Numbers}
 use Rattle.answers.specs.Answer.{numbered}
 
 -- an observable's number; 14 carries the imaginary part
 abbrev pub observed_numbers : Observed → Numbers
-observed_numbers (Number x) = numbered Pass (x ∷ [])
-observed_numbers (NotReal part) = numbered (Refused (record { number = 14; operand = 0; first = 0; second = 0; part = part })) (replicate 1 plus_zero)
-observed_numbers (NotObserved r) = numbered (Refused r) (replicate 1 plus_zero)
+observed_numbers (Number x) = numbered pass (x ∷ [])
+observed_numbers (NotReal part) = numbered (Err (record { number = 14; operand = 0; first = 0; second = 0; part = part })) (replicate 1 plus_zero)
+observed_numbers (NotObserved r) = numbered (Err r) (replicate 1 plus_zero)
 
 -- a report's seven residuals
-abbrev pub report_numbers : Reported → Numbers
-report_numbers (Of x) =
-    numbered Pass
+abbrev pub report_numbers : Result ConsistencyReport Refusal → Numbers
+report_numbers (Ok x) =
+    numbered pass
     (x.retarded_causality ∷ x.advanced_causality ∷ x.advanced_adjoint
     ∷ x.lesser_antihermiticity ∷ x.greater_antihermiticity ∷ x.spectral_identity ∷ x.equal_time ∷ [])
-report_numbers (NotReported r) = numbered (Refused r) (replicate 7 plus_zero)
+report_numbers (Err r) = numbered (Err r) (replicate 7 plus_zero)
 
 -- the report of these residuals, in that order
 abbrev pub report_from : List Float → ConsistencyReport
@@ -44,10 +40,10 @@ report_from residuals =
     }
 
 -- a decision past a check
-unfoldable pub decided_past : Verdict → Decision → Decision
-decided_past Pass d = d
-decided_past (Refused r) d = Undecided r
+unfoldable pub decided_past : Verdict → Result Bool Refusal → Result Bool Refusal
+decided_past (Ok tt) d = d
+decided_past (Err r) d = Err r
 
 -- the consistency question over a slice of seven; another length is 3
-unfoldable pub decision_over : List Float → Float → Decision
+unfoldable pub decision_over : List Float → Float → Result Bool Refusal
 decision_over residuals tolerance = decided_past (fitting (eqb (length residuals) 7)) (is_consistent (report_from residuals) tolerance)

@@ -8,33 +8,21 @@ ghost use Rattle.two_time_exports.specs.Numbers.{report_numbers, decision_over};
 use answers::decision::write_decision;
 use answers::numbers::{Numbers, write_numbers};
 use answers::write_answer;
-use refusal::checks::fitting;
-use refusal::{Decision, Verdict};
-use report::{ConsistencyReport, Reported};
+use refusal::Refusal;
+use report::ConsistencyReport;
 
 // A report's seven residuals.
-fn numbers_of(reported: Reported) -> Numbers
+fn numbers_of(reported: Result<ConsistencyReport, Refusal>) -> Numbers
     ensures { result ≡ report_numbers reported }
 {
-    match reported {
-        Reported::Of(x) => Numbers {
-            verdict: Verdict::Pass,
-            count: 7,
-            values: [
-                x.retarded_causality,
-                x.advanced_causality,
-                x.advanced_adjoint,
-                x.lesser_antihermiticity,
-                x.greater_antihermiticity,
-                x.spectral_identity,
-                x.equal_time,
-            ],
-        },
-        Reported::Refused(r) => Numbers {
-            verdict: Verdict::Refused(r),
-            count: 7,
-            values: [0.0; 7],
-        },
+    let values = match reported {
+        Ok(report) => report.residuals(),
+        Err(_) => [0.0; 7],
+    };
+    Numbers {
+        verdict: reported.and(Ok(())),
+        count: 7,
+        values,
     }
 }
 
@@ -61,21 +49,30 @@ pub extern "C" fn leechgrommet_consistency_report(
 }
 
 // The decision over seven residuals in the report's order; 3 for a slice of another length.
-fn decision_over(residuals: &[f64], tolerance: f64) -> Decision
+#[tactic(auto, unfolding(crate::specs::Numbers::decision_over, crate::specs::Numbers::decided_past, refusal::specs::Checks::fitting, refusal::specs::Verdict::ask))]
+fn decision_over(residuals: &[f64], tolerance: f64) -> Result<bool, Refusal>
     ensures { result ≡ decision_over residuals.now tolerance }
 {
-    let verdict = fitting(residuals.len() == 7);
-    if let Verdict::Refused(r) = verdict {
-        return Decision::Refused(r);
-    }
+    let &[
+        retarded_causality,
+        advanced_causality,
+        advanced_adjoint,
+        lesser_antihermiticity,
+        greater_antihermiticity,
+        spectral_identity,
+        equal_time,
+    ] = residuals
+    else {
+        return Err(Refusal::by(3));
+    };
     let report = ConsistencyReport {
-        retarded_causality: residuals[0],
-        advanced_causality: residuals[1],
-        advanced_adjoint: residuals[2],
-        lesser_antihermiticity: residuals[3],
-        greater_antihermiticity: residuals[4],
-        spectral_identity: residuals[5],
-        equal_time: residuals[6],
+        retarded_causality,
+        advanced_causality,
+        advanced_adjoint,
+        lesser_antihermiticity,
+        greater_antihermiticity,
+        spectral_identity,
+        equal_time,
     };
     report.is_consistent(tolerance)
 }

@@ -10,39 +10,23 @@ use answers::numbers::{Numbers, write_numbers};
 use answers::write_answer;
 use complex::Complex;
 use observables::Observed;
-use refusal::{Refusal, Verdict};
+use refusal::Refusal;
 use two_time::capacity::Shape;
 
 // An observable's number; 14 carries the imaginary part.
+// By hand, the other way than `Observed::from`: an `impl From` of it would belong to neither crate of its types.
 fn numbers_of(observed: Observed) -> Numbers
     ensures { result ≡ observed_numbers observed }
 {
-    match observed {
-        Observed::Number(x) => Numbers {
-            verdict: Verdict::Pass,
-            count: 1,
-            values: [x, 0.0, 0.0, 0.0, 0.0, 0.0, 0.0],
-        },
-        Observed::NotReal(imaginary) => {
-            let refusal = Refusal {
-                number: 14,
-                operand: 0,
-                first: 0,
-                second: 0,
-                part: imaginary,
-            };
-            Numbers {
-                verdict: Verdict::Refused(refusal),
-                count: 1,
-                values: [0.0; 7],
-            }
-        }
-        Observed::Refused(r) => Numbers {
-            verdict: Verdict::Refused(r),
-            count: 1,
-            values: [0.0; 7],
-        },
-    }
+    let measured = match observed {
+        Observed::Number(x) => Ok(x),
+        Observed::NotReal(part) => Err(Refusal {
+            part,
+            ..Refusal::by(14)
+        }),
+        Observed::Refused(r) => Err(r),
+    };
+    Numbers::measured(measured)
 }
 
 // The density matrix at a time.

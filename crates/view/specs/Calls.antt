@@ -1,9 +1,10 @@
 -- Document 01, "a view of one two-time function: the lent numbers, N and n": what reading an entry answers. Its capacity is N.
+use Rattle.complex.specs.declared.Complex.{Complex}
+use Rattle.refusal.specs.declared.Refusal.{Refusal}
+use Rattle.std.specs.Prelude.{Result}
 use Rattle.lists.specs.Prelude.{ℕ, List, Float}
-use Rattle.refusal.specs.declared.Verdict.{Verdict}
-use Rattle.refusal.specs.Verdict.{◌then◌}
+use Rattle.refusal.specs.Verdict.{Verdict, ◌then◌}
 use Rattle.refusal.specs.Checks.{time_below, orbital_below}
-use Rattle.matrix.specs.declared.Value.{Value}
 use Rattle.matrix.specs.Calls.{valued}
 use Rattle.two_time.specs.Layout.{read_as}
 use Rattle.observables.specs.Calls.{lesser_checks}
@@ -14,5 +15,5 @@ module _ (points orbitals : ℕ) (numbers : List Float) (t u a b : ℕ) where
   entry_checks = lesser_checks points points orbitals numbers then (time_below t points then time_below u points) then (orbital_below a orbitals then orbital_below b orbitals)
 
   -- entry (a, b) of block (t, u)
-  unfoldable pub stored_entry : Value
+  unfoldable pub stored_entry : Result Complex Refusal
   stored_entry = valued entry_checks (read_as points orbitals numbers t u a b)

@@ -1,11 +1,10 @@
 -- Closed cases of reading an entry: what stands there, and each refusal.
-use Rattle.std.specs.Prelude.{◌≡◌, ◌∷◌}
+use Rattle.std.specs.Prelude.{Ok, Err, ◌≡◌, ◌∷◌}
 use Rattle.lists.specs.Prelude.{refl, List, [], replicate, Float, nan}
 use Rattle.std.specs.Float.Ieee as Ieee
 use Rattle.complex.specs.Arithmetic.{plus_zero, one, finite}
 use Rattle.refusal.specs.Verdict.{by, ask, ◌then◌, ask_all}
 use Rattle.refusal.specs.Checks.{large_enough, within_limits, fitting, within_capacity, time_below, orbital_below}
-use Rattle.matrix.specs.declared.Value.TheVariants.{Of, Refused}
 use Rattle.matrix.specs.Calls.{valued}
 use Rattle.two_time.specs.Calls.{all_long, capacity_checks, point_entries, point_checks}
 use Rattle.observables.specs.Calls.{lesser_checks}
@@ -19,8 +18,8 @@ numbers = plus_zero ∷ plus_zero ∷ plus_zero ∷ plus_zero ∷ one ∷ plus_z
 entries : stored_entry 2 1 numbers 1 0 0 0 ∷ stored_entry 2 1 numbers 0 1 0 0
     ∷ stored_entry 2 1 numbers 2 0 0 0 ∷ stored_entry 2 1 numbers 0 2 0 0 ∷ stored_entry 2 1 numbers 0 0 1 0 ∷ stored_entry 2 1 numbers 0 0 0 1 ∷ stored_entry 2 1 numbers 0 2 1 0
     ∷ stored_entry 1 1 [] 1 0 0 0 ∷ stored_entry 257 1 [] 257 0 0 0 ∷ stored_entry 2 1 (one ∷ []) 2 0 0 0 ∷ stored_entry 2 1 (one ∷ one ∷ one ∷ nan ∷ replicate 4 one) 2 0 0 0 ∷ []
-    ≡ Of (record { re = one; im = plus_zero }) ∷ Of (record { re = plus_zero; im = plus_zero })
-    ∷ Refused (by 11) ∷ Refused (by 11) ∷ Refused (by 12) ∷ Refused (by 12) ∷ Refused (by 11)
-    ∷ Refused (by 1) ∷ Refused (by 2) ∷ Refused (by 3) ∷ Refused (record { number = 7; operand = 0; first = 3; second = 0; part = plus_zero }) ∷ []
-unfolding stored_entry entry_checks valued lesser_checks point_checks capacity_checks all_long large_enough within_limits fitting within_capacity point_entries time_below orbital_below ask ask_all ◌then◌ finite Ieee.of_bits
+    ≡ Ok (record { re = one; im = plus_zero }) ∷ Ok (record { re = plus_zero; im = plus_zero })
+    ∷ Err (by 11) ∷ Err (by 11) ∷ Err (by 12) ∷ Err (by 12) ∷ Err (by 11)
+    ∷ Err (by 1) ∷ Err (by 2) ∷ Err (by 3) ∷ Err (record { number = 7; operand = 0; first = 3; second = 0; part = plus_zero }) ∷ []
+unfolding stored_entry entry_checks valued lesser_checks point_checks capacity_checks all_long large_enough within_limits fitting within_capacity point_entries time_below orbital_below ask ask_all finite Ieee.of_bits
 entries = refl

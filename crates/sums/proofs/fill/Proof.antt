@@ -1,6 +1,6 @@
 -- `sums::fill` meets its contract: before step t the new places of the first t rows are finite and written. Assumes nothing.
 use Rattle.std.specs.Prelude.{◌≡◌, ◌&&◌, ◌||◌, ◌∷◌, ◌+◌, ◌-◌, ◌*◌, ◌≤◌, ◌<◌}
-use Rattle.lists.specs.Prelude.{refl, sym, ap, ap₂, ◌∙◌, Bool, true, false, not, List, [], ℕ, le_antisymm, arith, length}
+use Rattle.lists.specs.Prelude.{refl, sym, ap, ap₂, ◌∙◌, Bool, true, not, List, [], ℕ, le_antisymm, arith, length}
 use Rattle.lists.specs.Prelude.{length-take, length-drop, Float, rules, not-true, not-false, mid_of}
 use Rattle.lists.specs.Indexed.{all_below}
 use Rattle.lists.specs.Agreement.{never}

@@ -7,7 +7,8 @@ use Rattle.complex.specs.Arithmetic.{czero, real, cadd, cmul}
 use Rattle.complex.specs.Numbers.{entry_at}
 use Rattle.rows.specs.Numbers.{number_at, Mapped, mapped_next, mapped_end}
 use Rattle.terms.specs.Kinds.{right_number}
-use Rattle.groups.specs.InPlace.{lane_beside, in_place}
+use Rattle.groups.specs.Right.{right_beside}
+use Rattle.groups.specs.InPlace.{in_place}
 use Rattle.rows.specs.Ranges.{only_from, from-none, from_on}
 use Rattle.groups.proofs.adding.add_lanes.Statement.{statement}
 use Rattle.groups.proofs.adding.add_lanes.Tie as tie
@@ -26,9 +27,9 @@ abbrev start : tie.At-loop-c invariant-loop decreases-loop → tie.Start invaria
 start l = l.before.before.before
 
 -- the place of this step
-inside : (c : tie.After-lane_beside-beside invariant-loop decreases-loop) → let l = c.before.before in let x = (start l).args in
-    x.j + l.loop-c.c * c.lane_beside-beside.result + 1 < length x.right.now
-inside c = let l = c.before.before in rw c.lane_beside-beside.ensures ((start l).requires.1 l.loop-c.c c.before.loop-c-test.true)
+inside : (c : tie.After-right_beside-beside invariant-loop decreases-loop) → let l = c.before.before in let x = (start l).args in
+    x.j + l.loop-c.c * c.right_beside-beside.result + 1 < length x.right.now
+inside c = let l = c.before.before in rw c.right_beside-beside.ensures ((start l).requires.1 l.loop-c.c c.before.loop-c-test.true)
 
 -- its lane
 lane : (t : tie.In-loop-c invariant-loop decreases-loop) → (t.before.loop-c.c < 16) × (length t.before.loop-c.totals ≡ 32)
@@ -46,9 +47,9 @@ loop-again c =
     let y = times.before in let d = y.before in let t = d.before in let l = t.before in let s = start l in let x = s.args in
     let k = l.loop-c.c in
     let f = made x.factor x.x x.weight x.right.now x.stride x.j in
-    let read : y.right_number-y.result ≡ right_number x.factor (entry_at x.right.now (x.j + k * lane_beside x.factor x.stride)) =
-    y.right_number-y.ensures ∙ ap (λ (m : ℕ). right_number x.factor (entry_at x.right.now (x.j + k * m))) d.lane_beside-beside.ensures in
-    let p : plus.plus-p.result ≡ cadd czero (cmul x.x (right_number x.factor (entry_at x.right.now (x.j + k * lane_beside x.factor x.stride)))) =
+    let read : y.right_number-y.result ≡ right_number x.factor (entry_at x.right.now (x.j + k * right_beside x.factor x.stride)) =
+    y.right_number-y.ensures ∙ ap (λ (m : ℕ). right_number x.factor (entry_at x.right.now (x.j + k * m))) d.right_beside-beside.ensures in
+    let p : plus.plus-p.result ≡ cadd czero (cmul x.x (right_number x.factor (entry_at x.right.now (x.j + k * right_beside x.factor x.stride)))) =
     plus.plus-p.ensures ∙ ap (cadd czero) (times.times.ensures ∙ ap (cmul x.x) read) in
     let made : c.plus-sum.result ≡ f k (number_at l.loop-c.totals k) =
     c.plus-sum.ensures ∙ ap₂ cadd new.new-z.ensures (times2.times-in-loop-c.ensures ∙ ap₂ cmul p w.real.ensures) in (
@@ -63,7 +64,7 @@ pub add_lanes_spec : {M : Type 1} → statement M
 add_lanes_spec =
     tie.close (tie.spec invariant-loop decreases-loop
     (λ c. (omega arith, omega arith, from-none _ _ _))  -- loop-c-init
-    (λ c κs. search rules)  -- lane_beside-beside-requires
+    (λ c κs. search rules)  -- right_beside-beside-requires
     (λ c. let h = inside c in omega arith) (λ c. let h = inside c in omega arith)  -- overflow_mul-c, overflow_add-j
     (λ c κs. inside c)  -- right_number-y-requires
     (λ c κs. search rules) (λ c κs. search rules)  -- times-requires, plus-p-requires

@@ -42,7 +42,7 @@ pub pack_block_row_spec : {M : Type 1} → statement M
 pack_block_row_spec =
     tie.close (tie.spec invariant-loop decreases-loop
     (λ c. (omega arith, packed_none _ _ _ c.before.before.requires.0.1))  -- loop-b-init
-    (λ c κs. search rules)  -- right_beside-beside-requires
+    (λ c κs. let n = (start c.before).requires in omega arith)  -- right_beside-beside-requires
     (λ c. let h = inside c in omega arith) (λ c. let h = inside c in omega arith)  -- overflow_mul-b, overflow_add-j
     (λ c κs. inside c)  -- right_number-y-requires
     (λ c. let h = lane c in omega arith) (λ c. let h = lane c in omega arith) (λ c. let h = lane c in omega arith)  -- overflow_add-c, offset_bounds-row-c, bounds-row-c

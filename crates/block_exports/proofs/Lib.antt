@@ -1,0 +1,2 @@
+-- The law that the measured chain's proof cites.
+pub mod Steps

@@ -1,0 +1,27 @@
+-- Unfit, both made, or not finite with the new places of both slices cleared.
+use Rattle.std.proofs.Common.{not}
+use Rattle.lists.specs.Prelude.{ap, ◌∙◌}
+use Rattle.dyson.proofs.Solving.{unfit, no-kernel, forward-asks, both-made, no-green}
+use Rattle.dyson.proofs.solve_new.Goals as goal
+
+pub returns-in_default : goal.returns-in_default
+returns-in_default c = unfit _ _ _ _ _ _ _ _ _ c.all_fit-fits.ensures c.check_sizes.ensures c.in_default.is
+
+pub returns-then-is_err : goal.returns-then-is_err
+returns-then-is_err c =
+    no-kernel _ _ _ _ _ _ _ _ _ c.all_fit-fits.ensures c.check_sizes.ensures c.in-Ok.is c.new_sums.ensures
+    (c.is_err.ensures.negation ∙ ap not c.if-is_err.true) c.clear_new.ensures
+
+pub forward-requires : goal.forward-requires
+forward-requires c = forward-asks _ _ _ _ _ _ _ _ _ c.all_fit-fits.ensures c.check_sizes.ensures c.in-Ok.is c.new_sums.ensures c.new_sums.auto.out
+
+pub returns-then-is_err-2 : goal.returns-then-is_err-2
+returns-then-is_err-2 c =
+    no-green _ _ _ _ _ _ _ _ _ c.all_fit-fits.ensures c.check_sizes.ensures c.in-Ok.is c.new_sums.ensures c.new_sums.auto.out
+    (c.is_err.ensures.negation ∙ ap not c.if-is_err.false) c.forward.ensures (c.is_err-2.ensures.negation ∙ ap not c.if-is_err-2.true)
+    c.forward.auto.retarded c.clear_new-then-is_err-2.ensures c.clear_new-then-is_err-2-2.ensures
+
+pub returns : goal.returns
+returns c =
+    both-made _ _ _ _ _ _ _ _ _ c.all_fit-fits.ensures c.check_sizes.ensures c.in-Ok.is c.new_sums.ensures c.new_sums.auto.out
+    (c.is_err.ensures.negation ∙ ap not c.if-is_err.false) c.forward.ensures (c.is_err-2.ensures.negation ∙ ap not c.if-is_err-2.false)

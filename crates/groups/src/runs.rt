@@ -1,0 +1,52 @@
+// The places of a run in a row, group by group.
+ghost use Rattle.std.specs.Prelude.{◌≡◌, ◌+◌, ◌*◌, ◌<◌, ◌≤◌};
+ghost use Rattle.lists.specs.Prelude.{ℕ, Bool, List, Float, length};
+ghost use Rattle.lanes.specs.Filled.{Answered};
+ghost use Rattle.groups.specs.Runs.{FitsRun, Writes, group_places};
+
+use two_time::sums::Summed;
+
+// How many places the next group has where `rest` are left: at most 16 columns, and none where there is no orbital.
+#[tactic(auto, unfolding(crate::specs::Runs::group_places))]
+pub fn group_places(rest: usize, orbitals: usize) -> usize
+    ensures { result ≡ group_places rest orbitals }
+{
+    if orbitals == 0 {
+        return 0;
+    }
+    rest.min(16 / orbitals)
+}
+
+// Writes the blocks at `count` places from column `from` on, where `group` writes those of a group, and answers whether all that is made for them is finite;
+// at the first group that is not the work ends. Places and a slice that don't fit one another are not written.
+pub fn by_groups<G: Fn(usize, usize, &mut [f64]) -> Summed>(
+    group: G,
+    orbitals: usize,
+    from: usize,
+    count: usize,
+    out: &mut [f64],
+) -> bool
+    requires callable { G.IsAlwaysCallable group }
+    ensures { (finite : ℕ → Bool) (made : ℕ → List Float) → FitsRun orbitals from count (length out.old) → Writes orbitals from (from + count) finite made (λ u places x r y. G.post group u places x r y)
+        → Answered count (λ p. finite (from + p)) (λ p. made (from + p)) result out.new }
+{
+    if orbitals == 0 || orbitals > 16 || from > 256 || count > 256 - from {
+        return false;
+    }
+    let width = 2 * (orbitals * orbitals);
+    if out.len() != count * width {
+        return false;
+    }
+    // By hand: a step is as many places as the group has, which no range gives.
+    let mut p = 0;
+    while p < count {
+        let places = group_places(count - p, orbitals);
+        let start = p * width;
+        let end = start + places * width;
+        if group(from + p, places, &mut out[start..end]).is_err() {
+            return false;
+        }
+        p += places;
+    }
+    true
+}

@@ -1,0 +1,2 @@
+-- The checks as the code asks them.
+mod Lent

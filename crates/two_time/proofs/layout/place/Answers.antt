@@ -1,0 +1,10 @@
+-- Every number on the way fits.
+use Rattle.std.proofs.Common.{refl, arith}
+use Rattle.two_time.specs.Places.{within}
+use Rattle.two_time.proofs.layout.place.Goals as goal
+
+pub overflow_mul-result-4 : goal.overflow_mul-result-4
+overflow_mul-result-4 c = let w = within c.requires in omega arith
+
+pub returns : goal.returns
+returns c = (refl, (within c.requires).inside)
