@@ -33,9 +33,7 @@ pub fn solve_new(
     let orbitals = shape.orbitals;
     let there = (old <= shape.points) & (shape.points <= capacity);
     let fits = all_fit(free, self_energy, retarded, kernel, capacity, orbitals);
-    let Ok(()) = check_sizes(capacity, orbitals, there & fits) else {
-        return Err(SumError::Unfit);
-    };
+    check_sizes(capacity, orbitals, there & fits)?;
     if new_sums(Sums::Causal, times, free, self_energy, shape, old, kernel).is_err() {
         clear_new(shape, old, retarded);
         return Err(SumError::Overflow);

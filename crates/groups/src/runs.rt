@@ -1,6 +1,6 @@
 // The places of a run in a row, group by group.
 ghost use Rattle.std.specs.Prelude.{◌≡◌, ◌+◌, ◌*◌, ◌<◌, ◌≤◌};
-ghost use Rattle.lists.specs.Prelude.{ℕ, Bool, List, Float, length};
+ghost use Rattle.lists.specs.Prelude.{ℕ, Bool, false, List, Float, length};
 ghost use Rattle.lanes.specs.Filled.{Answered};
 ghost use Rattle.groups.specs.Runs.{FitsRun, Writes, group_places};
 
@@ -18,7 +18,7 @@ pub fn group_places(rest: usize, orbitals: usize) -> usize
 }
 
 // Writes the blocks at `count` places from column `from` on, where `group` writes those of a group, and answers whether all that is made for them is finite;
-// at the first group that is not the work ends. Places and a slice that don't fit one another are not written.
+// at the first group that is not the work ends. Where places and slice don't fit one another it answers no and writes nothing.
 pub fn by_groups<G: Fn(usize, usize, &mut [f64]) -> Summed>(
     group: G,
     orbitals: usize,
@@ -27,7 +27,8 @@ pub fn by_groups<G: Fn(usize, usize, &mut [f64]) -> Summed>(
     out: &mut [f64],
 ) -> bool
     requires callable { G.IsAlwaysCallable group }
-    ensures { (finite : ℕ → Bool) (made : ℕ → List Float) → FitsRun orbitals from count (length out.old) → Writes orbitals from (from + count) finite made (λ u places x r y. G.post group u places x r y)
+    ensures unfit { (FitsRun orbitals from count (length out.old) → ⊥) → (result ≡ false) × (out.new ≡ out.old) }
+    ensures fit { (finite : ℕ → Bool) (made : ℕ → List Float) → FitsRun orbitals from count (length out.old) → Writes orbitals from (from + count) finite made (λ u places x r y. G.post group u places x r y)
         → Answered count (λ p. finite (from + p)) (λ p. made (from + p)) result out.new }
 {
     if orbitals == 0 || orbitals > 16 || from > 256 || count > 256 - from {

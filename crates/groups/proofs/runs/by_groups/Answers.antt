@@ -68,8 +68,11 @@ loop-p-smaller g c =
     let z = left x.orbitals x.from x.count c.loop-p.p c.group_places-places.result (length x.out.now) s c.loop-p-test.true c.group_places-places.ensures in
     omega (arith, z.0.inside, z.1)
 
-pub returns-then-is_err : goal.returns-then-is_err
-returns-then-is_err g c = λ finite made f w.
+pub returns-then-is_err-clause-unfit : goal.returns-then-is_err-clause-unfit
+returns-then-is_err-clause-unfit g c = λ h. absurd (h (sized c.args.orbitals c.args.from c.args.count _ c.if-orbitals-eq0.false c.if-orbitals-gt16.false c.if-from-gt256.false c.if-count-from.false c.if-out-count.false))
+
+pub returns-then-is_err-clause-fit : goal.returns-then-is_err-clause-fit
+returns-then-is_err-clause-fit g c = λ finite made f w.
     let x = c.args in let s = sized x.orbitals x.from x.count _ c.if-orbitals-eq0.false c.if-orbitals-gt16.false c.if-from-gt256.false c.if-count-from.false c.if-out-count.false in let m = c.group_places-places.result in let places = places_fit (x.count - c.loop-p.p) x.orbitals m (omega (arith, c.loop-p-test.true)) s.some s.few c.group_places-places.ensures in let p = c.loop-p.p in
     let z = next x.orbitals x.from x.count p m (length c.loop-p.out) s.few s.inside (c.loop-p.invariant.long ∙ s.whole) c.loop-p-test.true places.1 in
     let told = w.said (x.from + p) m _ _ c.group.result c.group.ensures (omega arith) (omega (arith, z.inside)) places.0 places.2 places.3 (part_long x.orbitals p m c.loop-p.out z.room) in
@@ -94,6 +97,9 @@ loop-p-preserved g c =
           (told.1 c.if-is_err.ensures.negation ∙ join_agree m _ _ (λ k h. ap made (add_assoc x.from p k))) (omega arith) same;
     }
 
-pub returns : goal.returns
-returns g c = λ finite made f w.
+pub returns-clause-unfit : goal.returns-clause-unfit
+returns-clause-unfit g c = λ h. absurd (h (sized c.args.orbitals c.args.from c.args.count _ c.if-orbitals-eq0.false c.if-orbitals-gt16.false c.if-from-gt256.false c.if-count-from.false c.if-out-count.false))
+
+pub returns-clause-fit : goal.returns-clause-fit
+returns-clause-fit g c = λ finite made f w.
     filled-all c.args.count _ _ (2 * (c.args.orbitals * c.args.orbitals)) (λ k. w.wide (c.args.from + k)) c.args.out.now c.loop-p.p _ (c.loop-p.invariant.filled finite made w) c.loop-p-test.false f.whole
