@@ -5,3 +5,5 @@ pub mod Calls
 pub mod Cases
 -- Laws: the checks as the code asks them, and what it says that they pass.
 pub mod Asked
+-- The queries that are held by the slices lent for them.
+pub mod Held

@@ -6,8 +6,9 @@ ghost use Rattle.lists.specs.Prelude.{eqb, length};
 ghost use Rattle.lists.specs.Singles.{singles};
 ghost use Rattle.observables.specs.Calls.{observed_number};
 ghost use Rattle.observables.specs.Measured.{outcome};
-ghost use Rattle.flows.specs.Calls.{Queries, count, flow_of, list_checks, bond_flows_into};
+ghost use Rattle.flows.specs.Calls.{count, flow_of, list_checks, bond_flows_into};
 ghost use Rattle.flows.specs.Asked.{Fit, asked_of};
+ghost use Rattle.flows.specs.Held.{held};
 
 use complex::Complex;
 use observables::flow::flow_of;
@@ -15,6 +16,16 @@ use refusal::checks::within_list;
 use refusal::{Refusal, Verdict};
 use two_time::capacity::{Shape, check_capacity, check_points};
 use two_time::checks::has_length;
+
+// The queries, slice by slice, as they are lent: the hoppings have two numbers each.
+#[derive(Clone, Copy)]
+struct Queries<'a> {
+    times: &'a [usize],
+    a: &'a [usize],
+    b: &'a [usize],
+    hoppings: &'a [f64],
+    factors: &'a [f64],
+}
 
 // Whether a slice has two numbers for each query. A product that wraps is no length.
 fn is_twice(long: usize, queries: usize) -> bool
@@ -45,43 +56,32 @@ fn number(answer: Result<f64, Refusal>) -> u8
 }
 
 // The answer to query k.
-fn answer_to(
-    lesser: &[f64],
-    shape: Shape,
-    times: &[usize],
-    a: &[usize],
-    b: &[usize],
-    hoppings: &[f64],
-    factors: &[f64],
-    k: usize,
-) -> Result<f64, Refusal>
-    requires { Fit (record { times = times.now; a = a.now; b = b.now; hoppings = hoppings.now; factors = factors.now }) × (k < length times.now) }
-    ensures { outcome result ≡ asked_of shape.capacity shape.points shape.orbitals lesser.now (record { times = times.entry.now; a = a.now; b = b.now; hoppings = hoppings.now; factors = factors.now }) k }
+fn answer_to(lesser: &[f64], shape: Shape, q: Queries, k: usize) -> Result<f64, Refusal>
+    requires { Fit (held q) × (k < count (held q)) }
+    ensures { outcome result ≡ asked_of shape.capacity shape.points shape.orbitals lesser.now (held q.entry) k }
 {
-    let hopping = Complex::new(hoppings[2 * k], hoppings[2 * k + 1]);
-    flow_of(lesser, shape, times[k], a[k], b[k], hopping, factors[k])
+    let hopping = Complex::new(q.hoppings[2 * k], q.hoppings[2 * k + 1]);
+    flow_of(
+        lesser,
+        shape,
+        q.times[k],
+        q.a[k],
+        q.b[k],
+        hopping,
+        q.factors[k],
+    )
 }
 
 // Writes the answers in list order. The loop counts, as two slices are written at k: of mutable iterators in a zip a proof knows nothing.
-fn fill(
-    lesser: &[f64],
-    shape: Shape,
-    times: &[usize],
-    a: &[usize],
-    b: &[usize],
-    hoppings: &[f64],
-    factors: &[f64],
-    flows: &mut [f64],
-    numbers: &mut [u8],
-)
-    requires fit { Fit (record { times = times.now; a = a.now; b = b.now; hoppings = hoppings.now; factors = factors.now }) }
-    requires flows_len { (length flows.old ≡ length times.now) × (length numbers.old ≡ length times.now) }
-    ensures { let asked = asked_of shape.capacity shape.points shape.orbitals lesser.now (record { times = times.entry.now; a = a.now; b = b.now; hoppings = hoppings.now; factors = factors.now }) in
-        (flows.new ≡ singles (length times.entry.now) (λ k. flow_of (asked k)))
-        × (numbers.new ≡ singles (length times.entry.now) (λ k. observed_number (asked k))) }
+fn fill(lesser: &[f64], shape: Shape, q: Queries, flows: &mut [f64], numbers: &mut [u8])
+    requires fit { Fit (held q) }
+    requires flows_len { (length flows.old ≡ count (held q)) × (length numbers.old ≡ count (held q)) }
+    ensures { let asked = asked_of shape.capacity shape.points shape.orbitals lesser.now (held q.entry) in
+        (flows.new ≡ singles (count (held q.entry)) (λ k. flow_of (asked k)))
+        × (numbers.new ≡ singles (count (held q.entry)) (λ k. observed_number (asked k))) }
 {
-    for k in 0..times.len() {
-        let answer = answer_to(lesser, shape, times, a, b, hoppings, factors, k);
+    for k in 0..q.times.len() {
+        let answer = answer_to(lesser, shape, q, k);
         flows[k] = answer.unwrap_or(0.0);
         numbers[k] = number(answer);
     }
@@ -107,8 +107,13 @@ pub fn bond_flows_into(
     let couplings = is_twice(hoppings.len(), queries) & (factors.len() == queries);
     let outputs = (flows.len() == queries) & (numbers.len() == queries);
     check_list(lesser, shape, queries, bonds & (couplings & outputs))?;
-    fill(
-        lesser, shape, times, a, b, hoppings, factors, flows, numbers,
-    );
+    let asked = Queries {
+        times,
+        a,
+        b,
+        hoppings,
+        factors,
+    };
+    fill(lesser, shape, asked, flows, numbers);
     Ok(())
 }

@@ -7,7 +7,7 @@ use Rattle.lists.specs.Indexed.{fold, all_below}
 use Rattle.complex.specs.Arithmetic.{plus_zero, one, finite, larger, csub, cmul, conj, cfinite}
 use Rattle.complex.specs.Sum.{largest_from, largest_in}
 use Rattle.norm.specs.Norm.{norm}
-use Rattle.refusal.specs.Verdict.{by, ask, ◌then◌, ask_all, decide}
+use Rattle.refusal.specs.Verdict.{by, ask, ask_all, decide}
 use Rattle.refusal.specs.Checks.{large_enough, within_limits, fitting, finite_entries, valid_tolerance, finite_work}
 use Rattle.block.specs.Operations.{adjoint, identity, scaled, subtracted, matrix_norm_max}
 use Rattle.two_time.specs.Layout.{everywhere}

@@ -5,9 +5,10 @@ ghost use Rattle.complex.specs.Arithmetic.{minus_i};
 ghost use Rattle.block.specs.Operations.{identity, scaled, subtracted};
 ghost use Rattle.two_time.specs.Layout.{read_as, length_of};
 ghost use Rattle.two_time.specs.Places.{Placed};
-ghost use Rattle.report.specs.Residuals.{minus_mirror, deviation_of, counted};
-ghost use Rattle.report.specs.Passed.{Passed};
+ghost use Rattle.report.specs.Residuals.{minus_mirror, counted};
+ghost use Rattle.report.specs.Components.{passed_by, left_by};
 
+use crate::components::Components;
 use complex::Complex;
 
 // An identity of the components, by its residual in the report.
@@ -93,23 +94,27 @@ fn minus_i_identity(a: usize, b: usize) -> Complex
 }
 
 // Entry (a, b) of what the identity leaves at (t, u).
+#[tactic(auto, unfolding(crate::specs::Residuals::deviation_of, block::specs::Operations::subtracted, block::specs::Operations::adjoint))]
 pub(crate) fn deviation(
     identity: Identity,
-    retarded: &[f64],
-    advanced: &[f64],
-    lesser: &[f64],
-    greater: &[f64],
-    points: usize,
-    orbitals: usize,
+    components: Components,
     t: usize,
     u: usize,
     a: usize,
     b: usize,
 ) -> Complex
-    requires placed { Placed points orbitals t u a b }
-    requires passed { Passed points orbitals retarded.now advanced.now lesser.now greater.now }
-    ensures { result ≡ deviation_of points orbitals retarded.now advanced.now lesser.now greater.now identity t u a b }
+    requires placed { Placed components.points components.orbitals t u a b }
+    requires passed { passed_by components }
+    ensures { result ≡ left_by components.entry identity t u a b }
 {
+    let Components {
+        retarded,
+        advanced,
+        lesser,
+        greater,
+        points,
+        orbitals,
+    } = components;
     match identity {
         Identity::RetardedCausality => entry(retarded, points, orbitals, t, u, a, b),
         Identity::AdvancedCausality => entry(advanced, points, orbitals, t, u, a, b),

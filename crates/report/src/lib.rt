@@ -2,6 +2,7 @@
 #![tactic(auto)]
 
 mod checks;
+mod components;
 mod identities;
 mod residuals;
 
@@ -9,6 +10,7 @@ ghost use Rattle.std.specs.Prelude.{◌≡◌};
 ghost use Rattle.report.specs.Calls.{residuals_of, consistency_report, is_consistent};
 
 use checks::{check_inputs, difference_finite};
+use components::Components;
 use refusal::Refusal;
 use refusal::checks::{finite_work, valid_tolerance};
 use residuals::residuals;
@@ -74,8 +76,16 @@ pub fn consistency_report(
 ) -> Result<ConsistencyReport, Refusal>
     ensures { result ≡ consistency_report points orbitals retarded.now advanced.now lesser.now greater.now }
 {
-    check_inputs(retarded, advanced, lesser, greater, points, orbitals)?;
+    let components = Components {
+        retarded,
+        advanced,
+        lesser,
+        greater,
+        points,
+        orbitals,
+    };
+    check_inputs(components)?;
     let causal = difference_finite(retarded, advanced);
     finite_work(causal & difference_finite(greater, lesser))?;
-    Ok(residuals(retarded, advanced, lesser, greater, points, orbitals))
+    Ok(residuals(components))
 }

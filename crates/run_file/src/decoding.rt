@@ -30,6 +30,7 @@ pub(crate) fn body_length(points: usize, orbitals: usize) -> usize
 }
 
 // Whether the bodies adjoin in table order from byte 40, the counts match and the length is exact.
+#[tactic(auto, using(crate::specs::Table::table_rows))]
 fn table_fits(bytes: &[u8], points: usize, orbitals: usize) -> bool
     requires { Sized points orbitals }
     ensures { result ≡ table_fits bytes.now 0 40 (points ∷ length_of points orbitals ∷ length_of points orbitals ∷ length_of points orbitals ∷ []) }

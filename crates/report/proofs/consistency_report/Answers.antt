@@ -1,5 +1,5 @@
 -- Refused by its checks or by 10, or reported.
-use Rattle.std.proofs.Common.{rules, ◌≡◌, ◌&&◌}
+use Rattle.std.proofs.Common.{rules, ◌&&◌}
 use Rattle.lists.specs.Prelude.{sym, ap₂, ◌∙◌, arith}
 use Rattle.report.specs.Passed.{passed}
 use Rattle.report.specs.Answers.{checks-refused, work-refused, report-made}
