@@ -1,6 +1,9 @@
 -- Refused, accepted, or 10 with the new places of all four slices cleared.
 use Rattle.std.proofs.Common.{rules, ◌≡◌, ℕ, not}
 use Rattle.lists.specs.Prelude.{sym, ap, ◌∙◌}
+use Rattle.std.specs.Prelude.{Result}
+use Rattle.std.specs.Result.{result_unwrap_or}
+use Rattle.refusal.specs.declared.Refusal.{Refusal}
 use Rattle.transient_run.specs.Products.{formed}
 use Rattle.transient_run.specs.Inputs.{given}
 use Rattle.transient_run.proofs.Solving.{refused_end, work-asks, points-most, count-room, finite_end, overflow_end}
@@ -40,5 +43,5 @@ returns c =
     record {
       made = finite_end c.args.old (given c.args.inputs c.args.session c.args.desk c.args.retarded.now c.args.lesser.now c.args.kernel.now c.args.lesser_advanced.now) c.requires v c.in_ok-checks.was
           (c.work.ensures c.args.session c.args.desk) (c.is_err.ensures.negation ∙ ap not c.if-is_err.false) count;
-      room = λ n e. count-room c.args.old (given c.args.inputs c.args.session c.args.desk c.args.retarded.now c.args.lesser.now c.args.kernel.now c.args.lesser_advanced.now) c.requires v c.in_ok-checks.was ((let same : n ≡ c.formed.result = cc in same) ∙ count);
+      room = λ n e. count-room c.args.old (given c.args.inputs c.args.session c.args.desk c.args.retarded.now c.args.lesser.now c.args.kernel.now c.args.lesser_advanced.now) c.requires v c.in_ok-checks.was (sym (ap (λ (a : Result ℕ Refusal). result_unwrap_or a 0) e) ∙ count);
     }
