@@ -7,10 +7,10 @@ use crate::words::{slice, word};
 use std::io::Read;
 use two_time::capacity::Shape;
 
-// What every call begins with: the function, how its slices stand in the list, points, orbitals and the tolerance.
+// What every call begins with: the function, if it is one, how its slices stand in the list, points, orbitals and the tolerance.
 #[derive(Clone, Copy)]
 pub(crate) struct Head {
-    pub(crate) function: Function,
+    pub(crate) function: Option<Function>,
     // Whether its slices are made of a seed.
     pub(crate) made: bool,
     // Whether it has a capacity of its own, the next word after its slices, and its outputs hold slices of the list before.
@@ -51,18 +51,20 @@ impl<'a> Lent<'a> {
     }
 
     // What output k holds before a call in a capacity: after the operands, which in a call that starts occupied have a block.
-    fn before(&self, function: Function, k: usize) -> &'a [f64]
+    fn before(&self, function: Option<Function>, k: usize) -> &'a [f64]
         requires { k < 4 }
     {
         match function {
-            Function::Solve(Solve::Run(Run::OccupiedRun | Run::OccupiedAppend)) => self.part(5 + k),
+            Some(Function::Solve(Solve::Run(Run::OccupiedRun | Run::OccupiedAppend))) => {
+                self.part(5 + k)
+            }
             _ => self.part(4 + k),
         }
     }
 }
 
 // Number 64 + k is function k with slices that are made.
-pub(crate) fn begin(input: &mut impl Read, function: Function, number: u64) -> Head {
+pub(crate) fn begin(input: &mut impl Read, function: Option<Function>, number: u64) -> Head {
     Head {
         function,
         made: number >= 64,
@@ -103,7 +105,7 @@ fn stored(input: &mut impl Read, count: usize, numbers: &mut [f64]) -> Slots {
 }
 
 fn slots(input: &mut impl Read, head: Head, numbers: &mut [f64]) -> Slots {
-    let bond_flows = matches!(head.function, Function::BondFlows);
+    let bond_flows = matches!(head.function, Some(Function::BondFlows));
     if head.made && !bond_flows {
         return made::lend(input, head.points, head.orbitals, numbers);
     }

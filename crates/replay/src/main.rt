@@ -16,6 +16,7 @@ mod words;
 mod xorshift;
 
 use calls::Function;
+use lent::{Head, Lent};
 use norm::norm;
 use show::Show;
 use std::io::{self, Read, Write};
@@ -24,23 +25,22 @@ use words::word;
 fn call(
     input: &mut impl Read,
     out: &mut impl Write,
+    head: Head,
     function: Function,
-    number: u64,
-    numbers: &mut [f64],
+    lent: &Lent,
 ) -> io::Result<()> {
-    let head = lent::begin(input, function, number);
-    let lent = lent::lend(input, head, numbers);
     match function {
-        Function::Solve(solve) => solve::call(input, out, head, solve, &lent),
-        Function::Observe(observe) => observe::call(input, out, head, observe, &lent),
+        Function::Solve(solve) => solve::call(input, out, head, solve, lent),
+        Function::Observe(observe) => observe::call(input, out, head, observe, lent),
         Function::Norm => norm(word(input), word(input)).show(out),
-        Function::Blocks(blocks) => blocks::call(input, out, head, blocks, &lent),
-        Function::Weights(weights) => weights::call(input, out, head, weights, &lent),
-        Function::BondFlows => bonds::call(input, out, head, &lent),
+        Function::Blocks(blocks) => blocks::call(input, out, head, blocks, lent),
+        Function::Weights(weights) => weights::call(input, out, head, weights, lent),
+        Function::BondFlows => bonds::call(input, out, head, lent),
     }
 }
 
-// One call, and whether there was one. A function that is none ends the run.
+// One call, and whether there was one. A function that is none ends the run, once what stands in its place is read. The index is written after the slices
+// are read, and of bond flows before.
 fn run_call(
     input: &mut impl Read,
     out: &mut impl Write,
@@ -50,13 +50,21 @@ fn run_call(
     let Some(number) = words::next(input) else {
         return Ok(false);
     };
-    write!(out, "{index}")?;
-    let function = Function::try_from(number % 64);
-    if let Ok(function) = function {
-        call(input, out, function, number, numbers)?;
+    let function = Function::try_from(number % 64).ok();
+    let head = lent::begin(input, function, number);
+    let flows = matches!(function, Some(Function::BondFlows));
+    if flows {
+        write!(out, "{index}")?;
+    }
+    let lent = lent::lend(input, head, numbers);
+    if !flows {
+        write!(out, "{index}")?;
+    }
+    if let Some(function) = function {
+        call(input, out, head, function, &lent)?;
     }
     out.write_all(b"\n")?;
-    Ok(function.is_ok())
+    Ok(function.is_some())
 }
 
 // A proved loop has to end, so the calls are counted up to a number that no run reaches.

@@ -1,5 +1,5 @@
 // Words of the input: 16 hexadecimal digits each, and one byte after them, a space or a line feed.
-ghost use Rattle.std.specs.Prelude.{◌≤◌, length};
+ghost use Rattle.std.specs.Prelude.{◌≤◌, ◌<◌, length};
 
 use complex::bits::from_bits;
 use std::io::Read;
@@ -28,7 +28,9 @@ impl FromWord for f64 {
 }
 
 // The value of a hexadecimal digit, and 0 for any other byte.
-fn digit(b: u8) -> u64 {
+fn digit(b: u8) -> u64
+    ensures { result < 16 }
+{
     match b {
         b'0'..=b'9' => u64::from(b - b'0'),
         b'a'..=b'f' => u64::from(b - b'a') + 10,
