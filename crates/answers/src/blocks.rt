@@ -29,11 +29,20 @@ pub fn write_block(
     ensures { after_block result shape out places part ≡ answers_block made shape out places part }
 {
     let fits = shape.len() == 2 && out.len() == 512;
-    let verdict = with_output(fits, made.and(Ok(())));
-    if fits {
-        let block = made.unwrap_or(DenseMatrix::NONE);
-        copy(&[block.rows, block.columns], shape);
-        copy(&block.values, out);
+    match &made {
+        Ok(block) => {
+            if fits {
+                copy(&[block.rows, block.columns], shape);
+                copy(&block.values, out);
+            }
+            write_answer(with_output(fits, Ok(())), places, part)
+        }
+        Err(refusal) => {
+            if fits {
+                shape.fill(0);
+                out.fill(0.0);
+            }
+            write_answer(with_output(fits, Err(*refusal)), places, part)
+        }
     }
-    write_answer(verdict, places, part)
 }
