@@ -1,10 +1,22 @@
 // The places of a run in a row, group by group.
 ghost use Rattle.std.specs.Prelude.{◌≡◌, ◌+◌, ◌*◌, ◌<◌, ◌≤◌};
-ghost use Rattle.lists.specs.Prelude.{ℕ, Bool, false, List, Float, length};
-ghost use Rattle.lanes.specs.Filled.{Answered};
-ghost use Rattle.groups.specs.Runs.{FitsRun, Writes, group_places};
+ghost use Rattle.lists.specs.Prelude.{ℕ, List, Float};
+ghost use Rattle.two_time.specs.Summed.{Summed};
+ghost use Rattle.groups.specs.Runs.{group_places, run};
 
+use two_time::layout::clear;
 use two_time::sums::Summed;
+
+// What writes the blocks of a row: what it answers at places of it, and what it leaves of the slice that it is lent for them.
+pub trait Row {
+    ghost answer: { Self → ℕ → ℕ → List Float → Summed };
+
+    ghost left: { Self → ℕ → ℕ → List Float → List Float };
+
+    // Writes the blocks at `places` places from column u on.
+    fn write(&self, u: usize, places: usize, out: &mut [f64]) -> Summed
+        ensures { (result ≡ answer self.now u places out.old) × (out.new ≡ left self.now u places out.old) };
+}
 
 // How many places the next group has where `rest` are left: at most 16 columns, and none where there is no orbital.
 #[tactic(auto, unfolding(crate::specs::Runs::group_places))]
@@ -17,19 +29,16 @@ pub fn group_places(rest: usize, orbitals: usize) -> usize
     rest.min(16 / orbitals)
 }
 
-// Writes the blocks at `count` places from column `from` on, where `group` writes those of a group, and answers whether all that is made for them is finite;
-// at the first group that is not the work ends. Where places and slice don't fit one another it answers no and writes nothing.
-pub fn by_groups<G: Fn(usize, usize, &mut [f64]) -> Summed>(
-    group: G,
+// Writes the blocks at `count` places of a row from column `from` on, and answers whether all that is made for them is finite; at the first group that is
+// not the work ends, and +0 stands throughout. Where places and slice don't fit one another it answers no and writes nothing.
+pub fn by_groups<R: Row>(
+    row: &R,
     orbitals: usize,
     from: usize,
     count: usize,
     out: &mut [f64],
 ) -> bool
-    requires callable { G.IsAlwaysCallable group }
-    ensures unfit { (FitsRun orbitals from count (length out.old) → ⊥) → (result ≡ false) × (out.new ≡ out.old) }
-    ensures fit { (finite : ℕ → Bool) (made : ℕ → List Float) → FitsRun orbitals from count (length out.old) → Writes orbitals from (from + count) finite made (λ u places x r y. G.post group u places x r y)
-        → Answered count (λ p. finite (from + p)) (λ p. made (from + p)) result out.new }
+    ensures { let made = run (R.answer row.now) (R.left row.now) orbitals from count out.old in (result ≡ made.answer) × (out.new ≡ made.out) }
 {
     if orbitals == 0 || orbitals > 16 || from > 256 || count > 256 - from {
         return false;
@@ -44,7 +53,8 @@ pub fn by_groups<G: Fn(usize, usize, &mut [f64]) -> Summed>(
         let places = group_places(count - p, orbitals);
         let start = p * width;
         let end = start + places * width;
-        if group(from + p, places, &mut out[start..end]).is_err() {
+        if row.write(from + p, places, &mut out[start..end]).is_err() {
+            clear(out);
             return false;
         }
         p += places;

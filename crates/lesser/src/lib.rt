@@ -12,14 +12,47 @@ ghost use Rattle.two_time.specs.Layout.{length_of};
 ghost use Rattle.two_time.specs.Calls.{size_checks};
 ghost use Rattle.two_time.specs.New.{cleared_new};
 ghost use Rattle.two_time.specs.Start.{new_lesser_numbers, new_lesser_finite, occupied_by, holds_block, new_lesser_from};
-ghost use Rattle.starts.specs.Calls.{first_of, from_finite, from_block};
+ghost use Rattle.starts.specs.Calls.{first_of, from_finite, from_block, group_from};
 ghost use Rattle.lesser.specs.Rows.{lesser_finite, lesser_block};
 
-use groups::runs::by_groups;
+use groups::runs::{Row, by_groups};
 use starts::{first_factor, group_from};
 use two_time::capacity::{Shape, clear_new, first_new};
 use two_time::checks::{check_sizes, has_length, holds_block};
 use two_time::sums::{SumError, Summed};
+
+// Row t of G^<, from the product that `filled` holds.
+#[derive(Drop)]
+struct LesserRow<'a> {
+    times: &'a [f64],
+    retarded: &'a [f64],
+    lesser_advanced: &'a [f64],
+    filled: &'a [f64],
+    capacity: usize,
+    orbitals: usize,
+    t: usize,
+}
+
+impl<'a> Row for LesserRow<'a> {
+    ghost answer = { λ r u places xs. (group_from r.capacity r.orbitals r.times.now r.retarded.now r.lesser_advanced.now r.filled.now r.t u places xs).answer };
+
+    ghost left = { λ r u places xs. (group_from r.capacity r.orbitals r.times.now r.retarded.now r.lesser_advanced.now r.filled.now r.t u places xs).out };
+
+    fn write(&self, u: usize, places: usize, out: &mut [f64]) -> Summed {
+        group_from(
+            self.times,
+            self.retarded,
+            self.lesser_advanced,
+            self.filled,
+            self.capacity,
+            self.orbitals,
+            self.t,
+            u,
+            places,
+            out,
+        )
+    }
+}
 
 // Writes G^< at `count` places of row t from column `from` on, where `filled` holds G^R(t,0)·g0, and answers whether all that is made for it after that
 // product is finite.
@@ -40,26 +73,16 @@ fn blocks(
     ensures { (result ≡ all_below count (λ p. from_finite capacity orbitals times.now retarded.now lesser_advanced.now filled.now t (from + p)))
         × (result ≡ true → out.new ≡ join count (λ p. from_block capacity orbitals times.now retarded.now lesser_advanced.now filled.now t (from + p))) }
 {
-    by_groups(
-        |u, places, part| {
-            group_from(
-                times,
-                retarded,
-                lesser_advanced,
-                filled,
-                capacity,
-                orbitals,
-                t,
-                u,
-                places,
-                part,
-            )
-        },
+    let row = LesserRow {
+        times,
+        retarded,
+        lesser_advanced,
+        filled,
+        capacity,
         orbitals,
-        from,
-        count,
-        out,
-    )
+        t,
+    };
+    by_groups(&row, orbitals, from, count, out)
 }
 
 // Writes G^R(t,0)·g0 to the front of a slice of 512 numbers, and answers whether it is finite.

@@ -14,14 +14,48 @@ ghost use Rattle.two_time.specs.New.{cleared_new};
 ghost use Rattle.two_time.specs.Sums.{new_numbers, new_finite};
 ghost use Rattle.two_time.specs.Outcome.{summed, new_sums};
 ghost use Rattle.groups.specs.PlaceSums.{sum_at, block_finite};
+ghost use Rattle.groups.specs.Groups.{group_sums};
 ghost use Rattle.sums.specs.Forward.{forward_row};
 
 use columns::group;
-use groups::runs::by_groups;
+use groups::runs::{Row, by_groups};
 use two_time::capacity::{Shape, clear_new, first_new};
 use two_time::checks::{check_sizes, has_length};
 use two_time::layout::clear;
 use two_time::sums::{SumError, Summed, Sums};
+
+// Row t of sums.
+#[derive(Drop)]
+struct SumsRow<'a> {
+    sums: Sums,
+    times: &'a [f64],
+    left: &'a [f64],
+    right: &'a [f64],
+    capacity: usize,
+    orbitals: usize,
+    t: usize,
+}
+
+impl<'a> Row for SumsRow<'a> {
+    ghost answer = { λ r u places xs. (group_sums r.sums r.capacity r.orbitals r.times.now r.left.now r.right.now r.t u places xs).answer };
+
+    ghost left = { λ r u places xs. (group_sums r.sums r.capacity r.orbitals r.times.now r.left.now r.right.now r.t u places xs).out };
+
+    fn write(&self, u: usize, places: usize, out: &mut [f64]) -> Summed {
+        group(
+            self.sums,
+            self.times,
+            self.left,
+            self.right,
+            self.capacity,
+            self.orbitals,
+            self.t,
+            u,
+            places,
+            out,
+        )
+    }
+}
 
 // Writes the sums at `count` places of row t from column `from` on, and answers whether all that is made for them is finite.
 fn row(
@@ -41,21 +75,20 @@ fn row(
     ensures { (result ≡ all_below count (λ p. block_finite sums capacity orbitals times.now left.now right.now t (from + p)))
         × (result ≡ true → out.new ≡ join count (λ p. lay_out orbitals orbitals (sum_at sums capacity orbitals times.now left.now right.now t (from + p)))) }
 {
-    by_groups(
-        |u, places, part| {
-            group(
-                sums, times, left, right, capacity, orbitals, t, u, places, part,
-            )
-        },
+    let row = SumsRow {
+        sums,
+        times,
+        left,
+        right,
+        capacity,
         orbitals,
-        from,
-        count,
-        out,
-    )
+        t,
+    };
+    by_groups(&row, orbitals, from, count, out)
 }
 
 // Writes the sums at the new places, rows first, and answers whether all are finite. Whatever it writes stands at new places.
-// Crate `lesser` has this loop over rows of its own. A function over a closure would serve both, as `by_groups` does, but would say all that a row asks of
+// Crate `lesser` has this loop over rows of its own. A function over a trait would serve both, as `by_groups` does, but would say all that a row asks of
 // its caller, and where it leaves what: more than the loop.
 fn fill(
     sums: Sums,
