@@ -13,15 +13,15 @@ use Rattle.matrix.specs.Calls.{pair_checks, same_shape}
 use Rattle.matrix.specs.Made.{answer_of}
 use Rattle.matrix.proofs.Shapes.{same-columns}
 
--- past the checks, what check 10 says of the block that is made
-module _ (v : Verdict) (tested : Bool) (rows columns : ℕ) (f : Entries) (finite : Bool) (p : v ≡ pass) (e : finite ≡ all_finite rows columns f) where
-  pub answer-finite : (block : DenseMatrix) → block ≡ block_of rows columns f → finite_work (not tested || finite) ≡ pass → ◌≡◌ {A = Result DenseMatrix Refusal} (Ok block) (answer_of v tested rows columns f)
+-- what check 10 says of the block that is made
+module _ (tested : Bool) (rows columns : ℕ) (f : Entries) (finite : Bool) (e : finite ≡ all_finite rows columns f) where
+  pub answer-finite : (block : DenseMatrix) → block ≡ block_of rows columns f → finite_work (not tested || finite) ≡ pass → ◌≡◌ {A = Result DenseMatrix Refusal} (Ok block) (answer_of pass tested rows columns f)
   unfolding answer_of checked
-  answer-finite block b h = rw (p, ← e, h, b)
+  answer-finite block b h = rw (← e, h, b)
 
-  pub answer-overflow : (r : Refusal) → finite_work (not tested || finite) ≡ Err r → ◌≡◌ {A = Result DenseMatrix Refusal} (Err r) (answer_of v tested rows columns f)
+  pub answer-overflow : (r : Refusal) → finite_work (not tested || finite) ≡ Err r → ◌≡◌ {A = Result DenseMatrix Refusal} (Err r) (answer_of pass tested rows columns f)
   unfolding answer_of checked
-  answer-overflow r h = rw (p, ← e, h)
+  answer-overflow r h = rw (← e, h)
 
 -- a block after two questions: made, or the second refused
 pub made-last : (v w : Verdict) {x y : DenseMatrix} → v ≡ pass → w ≡ pass → x ≡ y → Ok x ≡ checked (v then w) y

@@ -26,10 +26,8 @@ pub struct DenseMatrix {
     pub values: [f64; 512],
 }
 
-// The answer of a call that makes a block of rows·columns entries by an operation, once its checks are asked: 10 where the block is `tested` and not finite.
-#[tactic(auto, unfolding(crate::specs::Made::answer_of, crate::specs::Dense::checked))]
+// The block that an operation makes, of rows·columns entries: 10 where it is `tested` and not finite.
 fn answer(
-    asked: Verdict,
     op: Operation,
     tested: bool,
     rows: usize,
@@ -37,10 +35,9 @@ fn answer(
     x: &DenseMatrix,
     y: &DenseMatrix,
 ) -> Result<DenseMatrix, Refusal>
-    requires { asked ≡ pass → (rows ≤ 16) × (columns ≤ 16) × (x.now.columns ≤ 16) × (y.now.columns ≤ 16) }
-    ensures { result ≡ answer_of asked tested rows columns (made_of op x.now y.now) }
+    requires { (rows ≤ 16) × (columns ≤ 16) × (x.now.columns ≤ 16) × (y.now.columns ≤ 16) }
+    ensures { result ≡ answer_of pass tested rows columns (made_of op x.now y.now) }
 {
-    asked?;
     let mut values = [0.0; 512];
     let finite = fill::fill(op, &mut values, x, y, rows, columns);
     finite_work(!tested | finite)?;
@@ -52,17 +49,17 @@ fn answer(
 }
 
 // The block that an operation makes of a size alone: checks 1 and 2.
+#[tactic(auto, unfolding(crate::specs::Made::answer_of, crate::specs::Dense::checked))]
 fn constant(op: Operation, size: usize) -> Result<DenseMatrix, Refusal>
     ensures { result ≡ answer_of (shape_of true size size) false size size (made_of op no_block no_block) }
 {
+    checks::shape(true, size, size)?;
     let none = DenseMatrix::NONE;
-    let asked = checks::shape(true, size, size);
-    answer(asked, op, false, size, size, &none, &none)
+    answer(op, false, size, size, &none, &none)
 }
 
-// What an operation makes of two blocks whose shapes fit or not: checks 1, 2, 3, 7, then 10. Inlined, so that a product in a chain copies its block less often.
-#[inline(always)]
-#[tactic(auto, unfolding(crate::specs::Made::combined_of))]
+// What an operation makes of two blocks whose shapes fit or not: checks 1, 2, 3, 7, then 10.
+#[tactic(auto, unfolding(crate::specs::Made::combined_of, crate::specs::Made::answer_of, crate::specs::Dense::checked))]
 fn combined(
     op: Operation,
     fits: bool,
@@ -71,8 +68,8 @@ fn combined(
 ) -> Result<DenseMatrix, Refusal>
     ensures { result ≡ combined_of op fits x.now y.now }
 {
-    let asked = checks::check_pair(fits, x, y);
-    answer(asked, op, true, x.rows, y.columns, x, y)
+    checks::check_pair(fits, x, y)?;
+    answer(op, true, x.rows, y.columns, x, y)
 }
 
 // The same of two blocks of one shape.
@@ -150,12 +147,12 @@ impl DenseMatrix {
     }
 
     // The conjugate transpose.
-    #[tactic(auto, unfolding(crate::specs::Calls::adjoint_of, crate::specs::Calls::finite_block, crate::specs::Made::made_by))]
+    #[tactic(auto, unfolding(crate::specs::Calls::adjoint_of, crate::specs::Calls::finite_block, crate::specs::Made::answer_of, crate::specs::Made::made_by, crate::specs::Dense::checked))]
     pub fn adjoint(self) -> Result<DenseMatrix, Refusal>
         ensures { result ≡ adjoint_of self }
     {
+        checks::check_block(true, &self)?;
         answer(
-            checks::check_block(true, &self),
             Operation::Adjoint,
             false,
             self.columns,
@@ -166,12 +163,12 @@ impl DenseMatrix {
     }
 
     // Each entry times the factor.
-    #[tactic(auto, unfolding(crate::specs::Calls::scale_of, crate::specs::Calls::finite_block, crate::specs::Made::answer_of, crate::specs::Made::made_by))]
+    #[tactic(auto, unfolding(crate::specs::Calls::scale_of, crate::specs::Calls::finite_block, crate::specs::Made::answer_of, crate::specs::Made::made_by, crate::specs::Dense::checked))]
     pub fn scale(self, factor: Complex) -> Result<DenseMatrix, Refusal>
         ensures { result ≡ scale_of self factor }
     {
+        checks::check_block(true, &self)?;
         answer(
-            checks::check_block(true, &self),
             Operation::Scale(factor),
             true,
             self.rows,

@@ -4,4 +4,4 @@ use Rattle.matrix.proofs.Shapes.{pair-passed}
 use Rattle.matrix.proofs.combined.Goals as goal
 
 pub answer-requires : goal.answer-requires
-answer-requires c = λ p. let s = pair-passed _ _ _ (sym c.check_pair-asked.ensures ∙ p) in (s.0.rows-most, s.1.columns-most, s.0.columns-most, s.1.columns-most)
+answer-requires c = let s = pair-passed _ _ _ (sym c.check_pair.ensures ∙ c.in_ok-check_pair.was) in (s.0.rows-most, s.1.columns-most, s.0.columns-most, s.1.columns-most)

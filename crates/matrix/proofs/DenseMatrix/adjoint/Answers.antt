@@ -10,8 +10,8 @@ use Rattle.matrix.proofs.Results.{untested}
 use Rattle.matrix.proofs.DenseMatrix.adjoint.Goals as goal
 
 pub answer-requires : goal.answer-requires
-answer-requires c = λ p. let s = (block-passed _ _ (sym c.check_block.ensures ∙ p)).0 in (s.columns-most, s.rows-most, s.columns-most, s.columns-most)
+answer-requires c = let s = (block-passed _ _ (sym c.check_block.ensures ∙ c.in_ok-check_block.was)).0 in (s.columns-most, s.rows-most, s.columns-most, s.columns-most)
 
 pub returns : goal.returns
 unfolding adjoint_of made_by
-returns c = c.answer.ensures ∙ untested _ _ _ _ ∙ let x = c.args.self in ap (λ (v : Verdict). checked v (block_of x.columns x.rows (adjoint (entries_of x)))) c.check_block.ensures
+returns c = c.answer.ensures ∙ untested _ _ _ _ ∙ let x = c.args.self in ap (λ (v : Verdict). checked v (block_of x.columns x.rows (adjoint (entries_of x)))) (sym (sym c.check_block.ensures ∙ c.in_ok-check_block.was))
