@@ -23,10 +23,10 @@ pub extern "C" fn leechgrommet_norm(re: f64, im: f64) -> f64
 pub extern "C" fn leechgrommet_product_chain(a: &[f64], b: &[f64], size: usize, turns: usize) -> f64
     ensures { result ≡ chained a.now b.now size turns }
 {
-    let mut x = DenseMatrix::from_numbers(size, size, a).unwrap_or(DenseMatrix::NONE);
+    let mut made = DenseMatrix::from_numbers(size, size, a);
     let y = DenseMatrix::from_numbers(size, size, b).unwrap_or(DenseMatrix::NONE);
     for _ in 0..turns {
-        x = x.multiply(y).unwrap_or(DenseMatrix::NONE);
+        made = made.unwrap_or(DenseMatrix::NONE).multiply(y);
     }
-    x.values[0]
+    made.unwrap_or(DenseMatrix::NONE).values[0]
 }
