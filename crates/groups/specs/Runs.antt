@@ -1,5 +1,6 @@
--- A run of places, which a row writes group by group.
+-- A run of places, which a row, or a function that is passed, writes group by group.
 use Rattle.std.specs.Prelude.{is_ok, ◌≡◌, ◌&&◌, ◌+◌, ◌-◌, ◌*◌, ◌/◌, ◌≤◌, ◌<◌}
+use Rattle.std.specs.Borrow.{MutBor}
 use Rattle.lists.specs.Prelude.{refl, sym, subst, ap, ◌∙◌, ℕ, zero, suc, Bool, true, false, cond, eqb, leb, ltb, min, ne_eqb, arith, List, length, Float, replicate}
 use Rattle.lists.specs.Prelude.{ltb-true, ltb-false, leb-true, eqb-true, lt-ltb, le-ltb, le-leb, eq-eqb, mul-le-mul_right, add-mul, add_assoc, not-le_of_lt, length-take, length-drop, mid_of, put_mid}
 use Rattle.lists.specs.Indexed.{all_below, join}
@@ -55,17 +56,25 @@ module _ (answer : ℕ → ℕ → List Float → Summed) (left : ℕ → ℕ �
       cond (ltb p count) (cond (is_ok (answer (from + p) m part)) (runs groups (p + m) (part_put n p m xs (left (from + p) m part))) (record { answer = false; out = zeroed xs }))
       (record { answer = true; out = xs })
 
-  -- `by_groups`: there are no more groups than places
+  -- `row_by_groups`: there are no more groups than places
   unfoldable pub run : List Float → RunOutcome
   run xs = cond (fits_run n from count (length xs)) (runs count 0 xs) (record { answer = false; out = xs })
 
 -- the row says whether all that is made for a group is finite, and if so leaves the group's blocks, each of n by n entries: at every group from column
 -- `from` to before `end`
-pub record Writes (n from end : ℕ) (finite : ℕ → Bool) (made : ℕ → List Float) (answer : ℕ → ℕ → List Float → Summed) (left : ℕ → ℕ → List Float → List Float) : Type 0 where
+pub record RowWrites (n from end : ℕ) (finite : ℕ → Bool) (made : ℕ → List Float) (answer : ℕ → ℕ → List Float → Summed) (left : ℕ → ℕ → List Float → List Float) : Type 0 where
   pub wide : (u : ℕ) → length (made u) ≡ 2 * (n * n)
   pub said : (u places : ℕ) (xs : List Float)
       → from ≤ u → u + places ≤ end → 0 < places → places ≤ 16 → places * n ≤ 16 → length xs ≡ places * (2 * (n * n))
       → (is_ok (answer u places xs) ≡ all_below places (λ p. finite (u + p))) × (is_ok (answer u places xs) ≡ true → left u places xs ≡ join places (λ p. made (u + p)))
+
+-- the same of a function that is passed, of which `post u places x r y` says that a call at the places from u on, which is lent x, may answer r and leave y:
+-- then r says whether all that is made for them is finite, and if so y holds their blocks
+pub record Writes (n from end : ℕ) (finite : ℕ → Bool) (made : ℕ → List Float) (post : ℕ → ℕ → MutBor (List Float) → Summed → MutBor (List Float) → Type 0) : Type 0 where
+  pub wide : (u : ℕ) → length (made u) ≡ 2 * (n * n)
+  pub said : (u places : ℕ) (x y : MutBor (List Float)) (r : Summed) → post u places x r y
+      → from ≤ u → u + places ≤ end → 0 < places → places ≤ 16 → places * n ≤ 16 → length x.now ≡ places * (2 * (n * n))
+      → (is_ok r ≡ all_below places (λ p. finite (u + p))) × (is_ok r ≡ true → y.now ≡ join places (λ p. made (u + p)))
 
 -- from what an answer says either way
 pub said_of : {P : Type 0} (r : Summed) (finite : Bool) → (is_ok r ≡ true → (finite ≡ true) × P) → (is_ok r ≡ false → finite ≡ false) → (is_ok r ≡ finite) × (is_ok r ≡ true → P)
@@ -137,7 +146,7 @@ module _ (answer : ℕ → ℕ → List Float → Summed) (left : ℕ → ℕ �
     unfolding runs
     runs_refused fails = rw (lt-ltb p count h, ← e, fails) refl
 
-  -- the groups before place p are written, and what is left of the run is that from there on
+  -- the groups before place p are passed, and what is left of the run is that from there on
   pub record Reached (old : List Float) (p : ℕ) (xs : List Float) : Type 0 where
     pub most : p ≤ count
     pub long : length xs ≡ length old
@@ -173,7 +182,7 @@ abbrev pub Ran : ℕ → (ℕ → Bool) → (ℕ → List Float) → List Float 
 Ran count finite made old r new = (r ≡ all_below count finite) × (new ≡ cond r (join count made) (zeroed old))
 
 module _ (answer : ℕ → ℕ → List Float → Summed) (left : ℕ → ℕ → List Float → List Float) (n from count : ℕ) (finite : ℕ → Bool) (made : ℕ → List Float)
-    (w : Writes n from (from + count) finite made answer left) (old : List Float) (f : FitsRun n from count (length old)) where
+    (w : RowWrites n from (from + count) finite made answer left) (old : List Float) (f : FitsRun n from count (length old)) where
   abbrev has : RunOutcome → Type 0
   has r = Ran count (λ p. finite (from + p)) (λ p. made (from + p)) old r.answer r.out
 
@@ -239,7 +248,7 @@ module _ (answer : ℕ → ℕ → List Float → Summed) (left : ℕ → ℕ �
 -- so a row that writes blocks has them there where the answer is yes
 pub blocks_of : {answer : ℕ → ℕ → List Float → Summed} {left : ℕ → ℕ → List Float → List Float} {n from count : ℕ} (old : List Float) {new : List Float} {r : Bool}
     → (r ≡ (run answer left n from count old).answer) × (new ≡ (run answer left n from count old).out)
-    → (finite : ℕ → Bool) (made : ℕ → List Float) → FitsRun n from count (length old) → Writes n from (from + count) finite made answer left
+    → (finite : ℕ → Bool) (made : ℕ → List Float) → FitsRun n from count (length old) → RowWrites n from (from + count) finite made answer left
     → (r ≡ all_below count (λ p. finite (from + p))) × (r ≡ true → new ≡ join count (λ p. made (from + p)))
 blocks_of {answer} {left} {n} {from} {count} old {new} {r} h finite made f w =
     let s = ran answer left n from count finite made w old f in

@@ -1,8 +1,9 @@
 // The places of a run in a row, group by group.
 ghost use Rattle.std.specs.Prelude.{◌≡◌, ◌+◌, ◌*◌, ◌<◌, ◌≤◌};
-ghost use Rattle.lists.specs.Prelude.{ℕ, List, Float};
+ghost use Rattle.lists.specs.Prelude.{ℕ, Bool, false, List, Float, length};
 ghost use Rattle.two_time.specs.Summed.{Summed};
-ghost use Rattle.groups.specs.Runs.{group_places, run};
+ghost use Rattle.lanes.specs.Filled.{Answered};
+ghost use Rattle.groups.specs.Runs.{FitsRun, Writes, group_places, run};
 
 use two_time::layout::clear;
 use two_time::sums::Summed;
@@ -31,7 +32,7 @@ pub fn group_places(rest: usize, orbitals: usize) -> usize
 
 // Writes the blocks at `count` places of a row from column `from` on, and answers whether all that is made for them is finite; at the first group that is
 // not the work ends, and +0 stands throughout. Where places and slice don't fit one another it answers no and writes nothing.
-pub fn by_groups<R: Row>(
+pub fn row_by_groups<R: Row>(
     row: &R,
     orbitals: usize,
     from: usize,
@@ -60,4 +61,100 @@ pub fn by_groups<R: Row>(
         p += places;
     }
     true
+}
+
+// The same with a closure: `group` writes the blocks of a group. After a group that is not finite the slice is left as it is. What a closure answers and
+// leaves is a relation and no function, so `row_by_groups` can't serve here. Outside its tests no crate here calls it.
+pub fn by_groups<G: Fn(usize, usize, &mut [f64]) -> Summed>(
+    group: G,
+    orbitals: usize,
+    from: usize,
+    count: usize,
+    out: &mut [f64],
+) -> bool
+    requires callable { G.IsAlwaysCallable group }
+    ensures unfit { (FitsRun orbitals from count (length out.old) → ⊥) → (result ≡ false) × (out.new ≡ out.old) }
+    ensures fit { (finite : ℕ → Bool) (made : ℕ → List Float) → FitsRun orbitals from count (length out.old) → Writes orbitals from (from + count) finite made (λ u places x r y. G.post group u places x r y)
+        → Answered count (λ p. finite (from + p)) (λ p. made (from + p)) result out.new }
+{
+    if orbitals == 0 || orbitals > 16 || from > 256 || count > 256 - from {
+        return false;
+    }
+    let width = 2 * (orbitals * orbitals);
+    if out.len() != count * width {
+        return false;
+    }
+    // By hand, as in `row_by_groups`.
+    let mut p = 0;
+    while p < count {
+        let places = group_places(count - p, orbitals);
+        let start = p * width;
+        let end = start + places * width;
+        if group(from + p, places, &mut out[start..end]).is_err() {
+            return false;
+        }
+        p += places;
+    }
+    true
+}
+
+#[cfg(test)]
+mod tests {
+    use super::*;
+    use two_time::sums::SumError;
+
+    // Three orbitals: groups of five places, of 18 numbers each. The closure writes 2 to the group at column 2 and 7 to others, and refuses that at `bad`.
+    fn by_column(bad: usize, orbitals: usize, from: usize, count: usize, out: &mut [f64]) -> bool {
+        by_groups(
+            |u, _, part| {
+                part.fill(if u == 2 { 2.0 } else { 7.0 });
+                if u == bad {
+                    return Err(SumError::Overflow);
+                }
+                Ok(())
+            },
+            orbitals,
+            from,
+            count,
+            out,
+        )
+    }
+
+    #[test]
+    fn closure_writes_its_groups(rt: HostRuntime) {
+        for (bad, said, second) in [(256, true, 7.0), (7, false, 7.0), (2, false, 0.5)] {
+            let mut out = [0.5; 126];
+            assert_eq!(rt;
+                by_column(bad, 3, 2, 7, &mut out),
+                said,
+                "bad group at {bad}"
+            );
+            for (k, x) in out.iter().enumerate() {
+                assert_eq!(rt;
+                    *x,
+                    if k < 90 { 2.0 } else { second },
+                    "number {k}, bad group at {bad}"
+                );
+            }
+        }
+    }
+
+    #[test]
+    fn unfit_run_is_left_alone(rt: HostRuntime) {
+        for (orbitals, from, count) in [
+            (0, 2, 7),
+            (17, 2, 7),
+            (3, 257, 7),
+            (3, 250, 7),
+            (3, 2, 6),
+            (3, 2, 8),
+        ] {
+            let mut out = [0.5; 126];
+            assert!(rt;
+                !by_column(256, orbitals, from, count, &mut out),
+                "{orbitals} {from} {count}"
+            );
+            assert!(rt; out.iter().all(|x| *x == 0.5), "{orbitals} {from} {count}");
+        }
+    }
 }

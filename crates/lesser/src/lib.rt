@@ -15,7 +15,7 @@ ghost use Rattle.two_time.specs.Start.{new_lesser_numbers, new_lesser_finite, oc
 ghost use Rattle.starts.specs.Calls.{first_of, from_finite, from_block, group_from};
 ghost use Rattle.lesser.specs.Rows.{lesser_finite, lesser_block};
 
-use groups::runs::{Row, by_groups};
+use groups::runs::{Row, row_by_groups};
 use starts::{first_factor, group_from};
 use two_time::capacity::{Shape, clear_new, first_new};
 use two_time::checks::{check_sizes, has_length, holds_block};
@@ -82,7 +82,7 @@ fn blocks(
         orbitals,
         t,
     };
-    by_groups(&row, orbitals, from, count, out)
+    row_by_groups(&row, orbitals, from, count, out)
 }
 
 // Writes G^R(t,0)·g0 to the front of a slice of 512 numbers, and answers whether it is finite.

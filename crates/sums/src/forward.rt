@@ -25,7 +25,7 @@ pub(crate) fn blocks(
         × (result ≡ true → retarded.new ≡ put_mid (t * (points * (2 * (orbitals * orbitals)))) ((t + 1) * (2 * (orbitals * orbitals))) retarded.old (join (t + 1) (forward_block points orbitals times.now free.now kernel.now retarded.old t)))
         × ((ys : List Float) → put_mid (t * (points * (2 * (orbitals * orbitals)))) ((t + 1) * (2 * (orbitals * orbitals))) retarded.new ys ≡ put_mid (t * (points * (2 * (orbitals * orbitals)))) ((t + 1) * (2 * (orbitals * orbitals))) retarded.old ys) }
 {
-    // The groups read what the groups before them wrote, so no `Row` can hold the slice, as `by_groups` has it.
+    // The groups read what the groups before them wrote, so no `Row` can hold the slice, as `row_by_groups` has it.
     let mut u = 0;
     while u < t + 1 {
         let places = group_places(t + 1 - u, orbitals);

@@ -18,7 +18,7 @@ ghost use Rattle.groups.specs.Groups.{group_sums};
 ghost use Rattle.sums.specs.Forward.{forward_row};
 
 use columns::group;
-use groups::runs::{Row, by_groups};
+use groups::runs::{Row, row_by_groups};
 use two_time::capacity::{Shape, clear_new, first_new};
 use two_time::checks::{check_sizes, has_length};
 use two_time::layout::clear;
@@ -84,11 +84,11 @@ fn row(
         orbitals,
         t,
     };
-    by_groups(&row, orbitals, from, count, out)
+    row_by_groups(&row, orbitals, from, count, out)
 }
 
 // Writes the sums at the new places, rows first, and answers whether all are finite. Whatever it writes stands at new places.
-// Crate `lesser` has this loop over rows of its own. A function over a trait would serve both, as `by_groups` does, but would say all that a row asks of
+// Crate `lesser` has this loop over rows of its own. A function over a trait would serve both, as `row_by_groups` does, but would say all that a row asks of
 // its caller, and where it leaves what: more than the loop.
 fn fill(
     sums: Sums,

@@ -17,7 +17,7 @@ unfolding group_from
 returns c =
     let x = c.args in let n = x.orbitals in let h = c.requires.t_lt_capacity in
     let z = sizes-passed _ _ _ _ h.2 in
-    blocks_of x.out.now c.by_groups.ensures (from_finite x.capacity n x.times.now x.retarded.now x.lesser_advanced.now x.filled.now x.t) (from_block x.capacity n x.times.now x.retarded.now x.lesser_advanced.now x.filled.now x.t)
+    blocks_of x.out.now c.row_by_groups.ensures (from_finite x.capacity n x.times.now x.retarded.now x.lesser_advanced.now x.filled.now x.t) (from_block x.capacity n x.times.now x.retarded.now x.lesser_advanced.now x.filled.now x.t)
     (record { some = z.orbitals-least; few = z.orbitals-most; inside = omega (arith, h.1, z.points-most); whole = c.requires.out_len })
     record {
       wide = λ u. length-block n _;

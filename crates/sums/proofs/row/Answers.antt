@@ -11,7 +11,7 @@ pub returns : goal.returns
 returns c =
     let x = c.args in let n = x.orbitals in let h = c.requires.t_lt_capacity in
     let z = sizes-passed _ _ _ _ h.2 in
-    blocks_of x.out.now c.by_groups.ensures (block_finite x.sums x.capacity n x.times.now x.left.now x.right.now x.t) (λ u. lay_out n n (sum_at x.sums x.capacity n x.times.now x.left.now x.right.now x.t u))
+    blocks_of x.out.now c.row_by_groups.ensures (block_finite x.sums x.capacity n x.times.now x.left.now x.right.now x.t) (λ u. lay_out n n (sum_at x.sums x.capacity n x.times.now x.left.now x.right.now x.t u))
     (record { some = z.orbitals-least; few = z.orbitals-most; inside = omega (arith, h.1, z.points-most); whole = c.requires.out_len })
     record {
       wide = λ u. length-block n _;
